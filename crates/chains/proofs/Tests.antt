@@ -1,0 +1,88 @@
+-- The tests of links and pages: what each means once it holds, and what makes it fail.
+-- Main statements: named-within (where a link that names an overflow page points), sound-page-links, sound-page-counts, sound-page-levels (of a sound page).
+use mathlib.Core.Path.{_≡_, refl, sym, _∙_}
+use mathlib.Core.Bool.{Bool, true, false, _&&_, _||_}
+use mathlib.Core.List.{List}
+use Prim.Native.Nat.{ℕ, _+_, _-_, _≤_, _<_}
+use native.Mathlib.Omega.{arith}
+use lib.Dec.{ltb, leb, eqb}
+use borrow.Author.Tests.{ltb-true, leb-true, le-leb, lt-leb, lt-ltb, le-ltb, eq-eqb, ne-eqb}
+use Rattle.model.specs.declared.Root.{Root}
+use Rattle.model.specs.Pages.{levelOf, countOf, linkOf, namesOverflow, linkSound, pageSound, mostLevel}
+
+pub and-true : (a b : Bool) → (a && b) ≡ true → (a ≡ true) × (b ≡ true)
+and-true true b e = (refl, e)
+and-true false b e = absurd (let z : _≡_ {A = ℕ} 0 1 = cc in omega arith)
+
+-- ---- Links
+
+module _ (r : Root) (l : ℕ) where
+  pub low-unnamed : l ≤ r .chains → namesOverflow r l ≡ false
+  unfolding namesOverflow
+  low-unnamed h = rw (le-ltb (r .chains) l h) refl
+
+  pub high-unnamed : r .chains + r .overflow < l → namesOverflow r l ≡ false
+  unfolding namesOverflow
+  high-unnamed h = rw (lt-ltb (r .chains) l (omega arith), lt-leb l (r .chains + r .overflow) h) refl
+
+  pub between-named : r .chains < l → l ≤ r .chains + r .overflow → namesOverflow r l ≡ true
+  unfolding namesOverflow
+  between-named h k = rw (lt-ltb (r .chains) l h, le-leb l (r .chains + r .overflow) k) refl
+
+  pub named-within : namesOverflow r l ≡ true → (r .chains < l) × (l ≤ r .chains + r .overflow)
+  unfolding namesOverflow
+  named-within e =
+      let h = and-true (ltb (r .chains) l) (leb l (r .chains + r .overflow)) e in
+      (ltb-true _ _ (h .0), leb-true _ _ (h .1))
+
+  pub zero-sound : l ≡ 0 → linkSound r l ≡ true
+  unfolding linkSound
+  zero-sound e = rw (eq-eqb l 0 e) refl
+
+  -- Of a link other than 0, whether it names an overflow page decides.
+  pub naming-decides : (l ≡ 0 → ⊥) → linkSound r l ≡ namesOverflow r l
+  unfolding linkSound
+  naming-decides h = rw (ne-eqb l 0 h) refl
+
+  pub named-sound : namesOverflow r l ≡ true → linkSound r l ≡ true
+  unfolding linkSound
+  named-sound e = go (eqb l 0)
+    where
+      go : (b : Bool) → (b || namesOverflow r l) ≡ true
+      go true = refl
+      go false = e
+
+  pub sound-named : (l ≡ 0 → ⊥) → linkSound r l ≡ true → namesOverflow r l ≡ true
+  sound-named h e = sym (naming-decides h) ∙ e
+
+-- ---- Pages
+
+module _ (r : Root) (w : List ℕ) where
+  pub overfull-unsound : r .keys < countOf w → pageSound r w ≡ false
+  unfolding pageSound
+  overfull-unsound h = rw (lt-leb (countOf w) (r .keys) h) refl
+
+  pub high-unsound : countOf w ≤ r .keys → mostLevel < levelOf w → pageSound r w ≡ false
+  unfolding pageSound
+  high-unsound h k = rw (le-leb (countOf w) (r .keys) h, lt-leb (levelOf w) mostLevel k) refl
+
+  -- Where count and level pass, the link decides.
+  pub link-decides : countOf w ≤ r .keys → levelOf w ≤ mostLevel → pageSound r w ≡ linkSound r (linkOf w)
+  unfolding pageSound
+  link-decides h k = rw (le-leb (countOf w) (r .keys) h, le-leb (levelOf w) mostLevel k) refl
+
+  pub sound-page-links : pageSound r w ≡ true → linkSound r (linkOf w) ≡ true
+  unfolding pageSound
+  sound-page-links e = and-true (leb (countOf w) (r .keys) && leb (levelOf w) mostLevel) (linkSound r (linkOf w)) e .1
+
+  sound-page-tests : pageSound r w ≡ true → (leb (countOf w) (r .keys) ≡ true) × (leb (levelOf w) mostLevel ≡ true)
+  unfolding pageSound
+  sound-page-tests e =
+      let both = leb (countOf w) (r .keys) && leb (levelOf w) mostLevel in
+      and-true (leb (countOf w) (r .keys)) (leb (levelOf w) mostLevel) (and-true both (linkSound r (linkOf w)) e .0)
+
+  pub sound-page-counts : pageSound r w ≡ true → countOf w ≤ r .keys
+  sound-page-counts e = leb-true _ _ (sound-page-tests e .0)
+
+  pub sound-page-levels : pageSound r w ≡ true → levelOf w ≤ mostLevel
+  sound-page-levels e = leb-true _ _ (sound-page-tests e .1)

@@ -1,0 +1,98 @@
+// Pages followed by their links, with the tests of damage (document 01, "Refused calls").
+// Main statements: names_overflow, link_sound and page_sound are the model's tests, for every word; count_pages is listFrom, counted.
+
+ghost use mathlib.Core.Path.{_≡_};
+ghost use mathlib.Core.Bool.{true};
+ghost use Prim.Native.Nat.{_+_, _*_, _≤_};
+ghost use lib.ListN.{length};
+ghost use Rattle.model.specs.Sizes.{pageWords};
+ghost use Rattle.model.specs.Pages as Pages;
+ghost use Rattle.model.specs.Chains.{listFrom};
+ghost use Rattle.chains.specs.Walks.{counted};
+use model::PageAddress;
+use model::Root;
+
+// A list that was walked: how many pages it has, or that it is damaged.
+pub enum Walked {
+    Damaged,
+    Pages(u32),
+}
+
+// "Word 0 is the local level".
+pub fn level_of(w: [u32; 16]) -> u32
+    ensures { λ r. ⌜ r ≡ Pages.levelOf w ⌝ }
+{
+    w[0]
+}
+
+// "word 1 the key count".
+pub fn count_of(w: [u32; 16]) -> u32
+    ensures { λ r. ⌜ r ≡ Pages.countOf w ⌝ }
+{
+    w[1]
+}
+
+// "word 2 the link (page number plus one, 0 for none)".
+pub fn link_of(w: [u32; 16]) -> u32
+    ensures { λ r. ⌜ r ≡ Pages.linkOf w ⌝ }
+{
+    w[2]
+}
+
+// Whether a link word names an overflow page: these follow the primary pages.
+pub fn names_overflow(root: Root, l: u32) -> bool
+    ensures { λ r. ⌜ r ≡ Pages.namesOverflow root l ⌝ }
+{
+    if l <= root.chains {
+        return false;
+    }
+    if root.overflow < l - root.chains {
+        return false;
+    }
+    true
+}
+
+// Whether a link word names no page or an overflow page.
+pub fn link_sound(root: Root, l: u32) -> bool
+    ensures { λ r. ⌜ r ≡ Pages.linkSound root l ⌝ }
+{
+    if l == 0 {
+        return true;
+    }
+    names_overflow(root, l)
+}
+
+// "on a page the step follows, count above b, local level above 9 ... or a link to no overflow page" is damage.
+pub fn page_sound(root: Root, w: [u32; 16]) -> bool
+    ensures { λ r. ⌜ r ≡ Pages.pageSound root w ⌝ }
+{
+    if root.keys < count_of(w) {
+        return false;
+    }
+    if 9 < level_of(w) {
+        return false;
+    }
+    link_sound(root, link_of(w))
+}
+
+// How many pages the link leads to: each is tested, and "a chain of more than V overflow pages" is damage.
+pub fn count_pages(root: Root, pages: &[u32], first: u32) -> Walked
+    requires { ⌜ (Pages.linkSound root first ≡ true) × (pageWords * (root .chains + root .overflow) ≤ length (now pages)) ⌝ }
+    ensures { λ r. ⌜ r ≡ counted (listFrom root (now (pages .entry)) first) ⌝ }
+{
+    let mut l = first;
+    let mut n = 0;
+    while l != 0 {
+        if n == root.overflow {
+            return Walked::Damaged;
+        }
+        let w = page_io::load(pages, PageAddress(l - 1));
+        if page_sound(root, w) {
+            l = link_of(w);
+            n += 1;
+        } else {
+            return Walked::Damaged;
+        }
+    }
+    Walked::Pages(n)
+}

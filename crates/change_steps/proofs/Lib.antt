@@ -1,0 +1,4 @@
+-- Laws that the proofs of this crate share.
+pub mod Owed
+pub mod Leaves
+pub mod OldPages

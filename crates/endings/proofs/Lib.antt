@@ -1,0 +1,2 @@
+-- Laws that the proofs above this crate share.
+pub mod Scratching

@@ -1,0 +1,2 @@
+-- What the functions of this crate ask of the page memory.
+pub mod Links

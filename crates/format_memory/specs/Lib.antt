@@ -1,0 +1,2 @@
+-- What the functions of this crate ask of the sizes and the lent lengths.
+pub mod Lent

@@ -1,0 +1,39 @@
+-- The first cause of refusal of each call, by the lent lengths as numbers (document 01, "Refused calls").
+-- Main definitions: formatCause, beginCause, stepCause; placeCause (the rows that begin and step share).
+-- proofs/Accepted.antt shows that each is the model's first cause of the call's rows, for every memory of these lengths.
+use mathlib.Core.Bool.{Bool, not, _&&_}
+use mathlib.Core.List.{List, [], _∷_, _++_}
+use Prim.Native.Nat.{ℕ}
+use lib.Dec.{eqb}
+use Rattle.model.specs.declared.Root.{Root}
+use Rattle.model.specs.declared.Party.{Party}
+use Rattle.model.specs.Sizes.{lockWords, allPageWords}
+use Rattle.model.specs.Refusals.{Row, row, firstCause, sizeRow, partyRow, busyRow, idleRow, damageRow}
+
+-- "a lent length other than Q records, P+1 lock words or 16 × (P+V+Q) page words": the lengths in this order.
+unfoldable pub lengthsAre : Root → ℕ → ℕ → ℕ → Bool
+lengthsAre r parties locks pages = eqb parties (r .parties) && eqb locks (lockWords r) && eqb pages (allPageWords r)
+
+-- The rows that every call has: sizes, then lengths.
+abbrev pub fileRows : Root → ℕ → ℕ → ℕ → List Row
+fileRows r parties locks pages = sizeRow r ∷ (row (not (lengthsAre r parties locks pages)) 1 ∷ [])
+
+-- The rows that begin and step share, for party q.
+abbrev pub placeRows : Root → ℕ → ℕ → ℕ → ℕ → List Row
+placeRows r parties locks pages q = fileRows r parties locks pages ++ (partyRow r q ∷ [])
+
+-- Format: the sizes given, and the lengths against them.
+unfoldable pub formatCause : Root → ℕ → ℕ → ℕ → ℕ
+formatCause r parties locks pages = firstCause (fileRows r parties locks pages)
+
+-- Begin and step, before a party's record is looked at.
+unfoldable pub placeCause : Root → ℕ → ℕ → ℕ → ℕ → ℕ
+placeCause r parties locks pages q = firstCause (placeRows r parties locks pages q)
+
+-- Begin for party q, whose record is p.
+unfoldable pub beginCause : Root → Party → ℕ → ℕ → ℕ → ℕ → ℕ
+beginCause r p parties locks pages q = firstCause (placeRows r parties locks pages q ++ (busyRow p ∷ []))
+
+-- Step for party q, whose record is p.
+unfoldable pub stepCause : Root → Party → ℕ → ℕ → ℕ → ℕ → ℕ
+stepCause r p parties locks pages q = firstCause (placeRows r parties locks pages q ++ (idleRow p ∷ (damageRow r p ∷ [])))

@@ -1,0 +1,2 @@
+-- The causes of refusal by the lent lengths.
+pub mod Causes

@@ -1,0 +1,62 @@
+-- Lists of keys passed from the front, key by key, and the buffer that the keys kept go into.
+-- Main statements: next-of (the key passed next); stored-next (one key more in the buffer), all-stored (the end);
+-- ascending-pair, last-ascends; removed-same, removed-other.
+use mathlib.Core.Path.{_≡_, refl, sym, ap, _∙_}
+use mathlib.Core.Bool.{true, false}
+use mathlib.Core.List.{List, [], _∷_, _++_}
+use Prim.Native.Nat.{ℕ, _+_, _-_, _≤_, _<_}
+use native.Mathlib.Numerals.{add-one}
+use native.Mathlib.Omega.{arith}
+use lib.ListN.{length, getD, set, take, drop, length-drop, drop-of-length-le}
+use lib.Seq.{drop-cons, append-snoc, take-suc-set}
+use borrow.Author.Tests.{lt-ltb, le-ltb, eq-eqb, ne-eqb}
+use Rattle.model.specs.Entries.{ascending, belowFirst, removedFrom}
+
+pub next-of : (es : List ℕ) (i : ℕ) → i < length es → drop i es ≡ getD es i 0 ∷ drop (i + 1) es
+next-of es i h = rw add-one (drop-cons es i 0 h)
+
+-- A key more in the buffer is a key less in the rest.
+pub stored-next : (out : List ℕ) (n e : ℕ) (rest : List ℕ) → n < length out → take n out ++ (e ∷ rest) ≡ take (n + 1) (set out n e) ++ rest
+stored-next out n e rest h = rw (add-one, take-suc-set out n e h) (sym (append-snoc (take n out) e rest))
+
+-- ---- Whether the keys ascend
+
+short-ascends : (xs : List ℕ) → length xs ≤ 1 → ascending xs ≡ true
+unfolding ascending belowFirst
+short-ascends [] h = refl
+short-ascends (x ∷ []) h = refl
+short-ascends (x ∷ (y ∷ ys)) h = absurd (omega arith)
+
+module _ (es : List ℕ) (i : ℕ) (some : 1 ≤ i) where
+  before-next : i < length es → drop (i - 1) es ≡ getD es (i - 1) 0 ∷ (getD es i 0 ∷ drop (i + 1) es)
+  before-next h =
+      let q : i - 1 + 1 ≡ i = omega arith in
+      next-of es (i - 1) (omega arith) ∙ ap (λ (l : List ℕ). getD es (i - 1) 0 ∷ l) (ap (λ (j : ℕ). drop j es) q ∙ next-of es i h)
+
+  -- Two neighbours that ascend decide nothing.
+  pub ascending-passed : i < length es → getD es (i - 1) 0 < getD es i 0 → ascending (drop (i - 1) es) ≡ ascending (drop i es)
+  unfolding ascending belowFirst
+  ascending-passed h k = ap ascending (before-next h) ∙ rw (lt-ltb (getD es (i - 1) 0) (getD es i 0) k) (ap ascending (sym (next-of es i h)))
+
+  pub not-ascending : i < length es → getD es i 0 ≤ getD es (i - 1) 0 → ascending (drop (i - 1) es) ≡ false
+  unfolding ascending belowFirst
+  not-ascending h k = ap ascending (before-next h) ∙ rw (le-ltb (getD es (i - 1) 0) (getD es i 0) k) refl
+
+  -- The last key alone, or none.
+  pub last-ascends : length es ≤ i → ascending (drop (i - 1) es) ≡ true
+  last-ascends h = short-ascends (drop (i - 1) es) (rw length-drop (omega arith))
+
+-- ---- The keys other than k
+
+module _ (k : ℕ) (es : List ℕ) (i : ℕ) (more : i < length es) where
+  pub removed-same : getD es i 0 ≡ k → removedFrom k (drop i es) ≡ removedFrom k (drop (i + 1) es)
+  unfolding removedFrom
+  removed-same e = ap (removedFrom k) (next-of es i more) ∙ rw (eq-eqb (getD es i 0) k e) refl
+
+  pub removed-other : (getD es i 0 ≡ k → ⊥) → removedFrom k (drop i es) ≡ getD es i 0 ∷ removedFrom k (drop (i + 1) es)
+  unfolding removedFrom
+  removed-other n = ap (removedFrom k) (next-of es i more) ∙ rw (ne-eqb (getD es i 0) k n) refl
+
+pub none-removed : (k : ℕ) (es : List ℕ) (i : ℕ) → length es ≤ i → removedFrom k (drop i es) ≡ []
+unfolding removedFrom
+none-removed k es i h = ap (removedFrom k) (drop-of-length-le es h)

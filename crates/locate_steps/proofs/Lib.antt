@@ -1,0 +1,4 @@
+-- Laws that the proofs of this crate share.
+pub mod ChainThere
+pub mod Chasing
+pub mod PageTests

@@ -1,0 +1,2 @@
+-- What the answers of this crate's loops mean.
+pub mod Chased

@@ -1,0 +1,2 @@
+-- What a request makes of the lent lock words.
+pub mod Words

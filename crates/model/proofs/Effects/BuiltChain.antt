@@ -1,0 +1,203 @@
+-- A live chain looked through whole, and one chain built beside the file in pages taken from the free list, its primary page in scratch (steps 10 and 26).
+-- Main statements: chain-found; taken-one (the free list gives the pages); building-then, kept-by, none-new (what the party then has), built-inv (the invariant after such a step).
+use mathlib.Core.Path.{_≡_, refl, sym, ap, _∙_, subst}
+use mathlib.Core.Logic.{_≢_}
+use mathlib.Core.Bool.{true, false, false≢true}
+use mathlib.Core.List.{List, []}
+use Prim.Native.Nat.{ℕ, _+_, _-_, _≤_, _<_}
+use native.Mathlib.Nat.{add-zero}
+use native.Mathlib.Omega.{arith}
+use lib.ListN.{length, set, take, drop}
+use lib.Dec.{eqb}
+use Rattle.model.specs.declared.Root.{Root}
+use Rattle.model.specs.declared.Party.{Party}
+use Rattle.model.specs.Sizes.{pageWords}
+use Rattle.model.specs.Records.{withFreeList}
+use Rattle.model.specs.Entries.{Entry}
+use Rattle.model.specs.Pages.{pageOf, withPage, primaryPage, scratchPage, linkToFirst, zeroPage}
+use Rattle.model.specs.Chains.{chainOf, sound}
+use Rattle.model.specs.Filling.{pagesFor, primaryOf, overflowWritten}
+use Rattle.model.specs.FreeList.{isAmong, pagesTaken}
+use Rattle.model.specs.Memory.{Memory, partyAt}
+use Rattle.model.specs.Book.{Book}
+use Rattle.model.proofs.Laws.Lists.{Told, holds, fails, tell, Cmp, same, diff, cmp, All}
+use Rattle.model.proofs.Invariant.Ghost.{Owner, free, inChain, builtBy, newBy, size, localLevel, count, Ghost, Owned}
+use Rattle.model.proofs.Invariant.Owners.{same-from, kinds-apart, no-repeats, overflow-bounds}
+use Rattle.model.proofs.Laws.Distinct.{distinct-count}
+use Rattle.model.proofs.Laws.Pages.{Has, length-withPage, page-same, page-other}
+use Rattle.model.proofs.Laws.Structure.{Overflow, overflow-frame}
+use Rattle.model.proofs.Laws.Filling.{IsOverflow, length-primaryOf, overflow-written, overflowWritten-other, length-overflowWritten}
+use Rattle.model.proofs.Laws.Reading.{held-overflow, held-length, has-overflow, absent-outside, chain-read}
+use Rattle.model.proofs.Invariant.Claims.{claims}
+use Rattle.model.proofs.Invariant.LockMoves.{locks-root, locks-stay}
+use Rattle.model.proofs.Invariant.Extents.{local-most}
+use Rattle.model.proofs.Invariant.Statement.{restructures, liveFor, lowFor, uses, Scene, NoPages, Building, PartyOk, Inv, sceneOf}
+use Rattle.model.proofs.Effects.Kept.{row-other, extents-move, assemble}
+use Rattle.model.proofs.Effects.Taking.{takenGhost, taken-is, built-many, owned-then, built-then, new-then, held-kept, built-overflow, taking-parts}
+
+-- ---- A live chain looked through
+
+pub chain-found : (m : Memory) (b : Book) (i : Inv m b) (c : ℕ) → c < size (m .root .originals) (i .ghost .live)
+    → chainOf (m .root) (m .pages) c ≡ sound (record {
+      level = localLevel (m .root .originals) (i .ghost .live) c;
+      link = linkToFirst (i .ghost .held (inChain c));
+      pages = i .ghost .held (inChain c);
+      entries = i .ghost .records c;
+    })
+chain-found m b i c live =
+    chain-read (m .root) (m .pages) c (localLevel (m .root .originals) (i .ghost .live) c) (i .ghost .records c) (i .ghost .held (inChain c)) (i .pages-ok .chain c live) (local-most i c)
+    (held-overflow (m .root) (i .pages-ok .owned) (inChain c)) (held-length (m .root) (i .pages-ok .owned) (inChain c)) (i .pages-ok .ascends c live)
+
+-- ---- One chain built: the records es, at this local level
+
+module _ (m : Memory) (b : Book) (i : Inv m b) (q : ℕ) (in-row : q < m .root .parties) (no-pages : NoPages (sceneOf m (i .ghost) b) q)
+    (level : ℕ) (es : List Entry) (enough : pagesFor (m .root .keys) es ≤ m .root .free) where
+  abbrev r : Root
+  r = m .root
+
+  abbrev need : ℕ
+  need = pagesFor (r .keys) es
+
+  abbrev frees : List ℕ
+  frees = i .ghost .held free
+
+  -- The laws of pages taken speak of a second run of pages, none here.
+  pub enough-both : need + 0 ≤ r .free
+  enough-both = omega arith
+
+  pub no-built : i .ghost .held (builtBy q) ≡ []
+  no-built = no-pages .nothing-built .no-built
+
+  pub no-new : i .ghost .held (newBy q) ≡ []
+  no-new = no-pages .nothing-built .no-new
+
+  -- The pages taken, the root then, and who owns what then.
+  abbrev xs : List ℕ
+  xs = take need frees
+
+  rootTaking : ℕ → Root
+  rootTaking n = withFreeList (linkToFirst (drop n frees)) (r .free - n) r
+
+  abbrev pub builtRoot : Root
+  builtRoot = withFreeList (linkToFirst (drop need frees)) (r .free - need) r
+
+  abbrev pub builtGhost : Ghost
+  builtGhost = takenGhost m b i q in-row need 0 enough-both no-built no-new
+
+  pub taken-one : pagesTaken r (m .pages) need ≡ sound (record { pages = take need (i .ghost .held free); head = linkToFirst (drop need (i .ghost .held free)) })
+  taken-one =
+      subst (λ (n : ℕ). pagesTaken r (m .pages) n ≡ sound (record { pages = take n frees; head = linkToFirst (drop n frees) })) (add-zero need)
+      (taken-is m b i q in-row need 0 enough-both no-built no-new)
+
+  owned : Owned (r .chains) (r .overflow) (builtGhost .own) (builtGhost .held)
+  owned = owned-then m b i q in-row need 0 enough-both no-built no-new
+
+  pub held-built : builtGhost .held (builtBy q) ≡ take need (i .ghost .held free)
+  held-built = built-then m b i q in-row need 0 enough-both no-built no-new
+
+  pub many-built : length (builtGhost .held (builtBy q)) ≡ need
+  many-built = ap (λ (l : List ℕ). length l) held-built ∙ built-many m b i q in-row need 0 enough-both no-built no-new
+
+  pub none-new : builtGhost .held (newBy q) ≡ []
+  none-new = new-then m b i q in-row need 0 enough-both no-built no-new
+
+  -- Every owner but the free list and what the party builds keeps its list.
+  pub kept-by : (o : Owner) → eqb (o .kind) 1 ≡ false → eqb (o .kind) 5 ≡ false → eqb (o .kind) 6 ≡ false → builtGhost .held o ≡ i .ghost .held o
+  kept-by o f u n = held-kept m b i q in-row need 0 enough-both no-built no-new o (kinds-apart o free f) (kinds-apart o (builtBy q) u) (kinds-apart o (newBy q) n)
+
+  xs-overflow : All (IsOverflow r) xs
+  xs-overflow = built-overflow m b i q in-row need 0 enough-both no-built no-new
+
+  -- ---- The pages written
+
+  abbrev filled : List ℕ
+  filled = overflowWritten (r .keys) (m .pages) xs es
+
+  abbrev primary : List ℕ
+  primary = primaryOf (r .keys) level es xs
+
+  abbrev pub builtMemory : List ℕ
+  builtMemory = withPage filled (scratchPage r q) primary
+
+  xs-has : All (Has (m .pages)) xs
+  xs-has = has-overflow r (m .pages) xs (i .pages-many) xs-overflow
+
+  filled-long : length filled ≡ length (m .pages)
+  filled-long = length-overflowWritten (r .keys) (i .limits .keys-fit) (m .pages) xs es xs-has
+
+  primary-long : length primary ≡ pageWords
+  primary-long = length-primaryOf (r .keys) level es xs (i .limits .keys-fit)
+
+  scratch-has : Has filled (scratchPage r q)
+  scratch-has = record { fits = omega (arith, filled-long, i .pages-many) }
+
+  memory-long : length builtMemory ≡ length (m .pages)
+  memory-long = length-withPage filled (scratchPage r q) primary scratch-has primary-long ∙ filled-long
+
+  scratch-off : (x : ℕ) → x ≢ scratchPage r q → pageOf builtMemory x ≡ pageOf filled x
+  scratch-off x n = page-other filled (scratchPage r q) primary scratch-has primary-long x n
+
+  off : (x : ℕ) → x ≢ scratchPage r q → isAmong x xs ≡ false → pageOf builtMemory x ≡ pageOf (m .pages) x
+  off x n h = scratch-off x n ∙ overflowWritten-other (r .keys) (i .limits .keys-fit) (m .pages) xs es xs-has x (absent-outside x xs h)
+
+  -- A page taken is an overflow page.
+  bounds : (x : ℕ) → isAmong x xs ≡ true → (r .chains ≤ x) × (x < r .chains + r .overflow)
+  bounds x h = overflow-bounds owned (builtBy q) x (rw held-built h)
+
+  primary-off : (d : ℕ) → d < r .chains → isAmong d xs ≡ false
+  primary-off d fits = go (tell (isAmong d xs))
+    where
+      go : Told (isAmong d xs) → isAmong d xs ≡ false
+      go (fails h) = h
+      go (holds h) = absurd (let z = bounds d h in omega arith)
+
+  overflow-built : Overflow (r .keys) builtMemory xs (drop (r .keys) es)
+  overflow-built =
+      overflow-frame (r .keys) filled builtMemory xs (drop (r .keys) es) (same-from filled builtMemory xs (λ x h. scratch-off x (let z = bounds x h in λ e. omega arith)))
+      (overflow-written (r .keys) (i .limits .keys-fit) (m .pages) xs es (i .limits .some-key) xs-has
+      (distinct-count xs (λ x. subst (λ (l : List ℕ). count x l ≤ 1) held-built (no-repeats owned (builtBy q) x))) (built-many m b i q in-row need 0 enough-both no-built no-new))
+
+  -- ---- A step that built this and goes on with the record p and the book c
+
+  module _ (p : Party) (c : Book) where
+    abbrev pub builtScene : Scene
+    builtScene = record { root = builtRoot; parties = set (m .parties) q p; pages = builtMemory; ghost = builtGhost; entries = c .entries }
+
+    pub building-then : Building builtScene q level es
+    building-then = record {
+      scratch-is = page-same filled (scratchPage r q) primary scratch-has primary-long ∙ ap (primaryOf (r .keys) level es) (sym held-built);
+      built = subst (λ (l : List ℕ). Overflow (r .keys) builtMemory l (drop (r .keys) es)) (sym held-built) overflow-built;
+    }
+
+    -- Where the record claims the same locks and leaves the extents, and the book notes nothing but for this party.
+    module _ (same-claims : claims r p ≡ claims r (partyAt (m .parties) q))
+        (stays : restructures p ≡ restructures (partyAt (m .parties) q)) (same-live : restructures p ≡ true → liveFor r p ≡ liveFor r (partyAt (m .parties) q))
+        (same-low : restructures p ≡ true → lowFor r p ≡ lowFor r (partyAt (m .parties) q)) (not-used : (d : ℕ) → uses (partyAt (m .parties) q) d ≡ false)
+        (entries= : (j : ℕ) → j ≢ q → c .entries j ≡ b .entries j) (contents= : c .contents ≡ b .contents) where
+      row-long : q < length (m .parties)
+      row-long = omega (arith, i .parties-many)
+
+      dead-then : (d : ℕ) → size (r .originals) (i .ghost .live) ≤ d → d < r .chains → ((j : ℕ) → uses (partyAt (set (m .parties) q p) j) d ≡ false) → pageOf builtMemory (primaryPage d) ≡ zeroPage
+      dead-then d far fits u = off d (omega arith) (primary-off d fits) ∙ i .pages-ok .dead d far fits (λ j. unused j (cmp j q))
+        where
+          unused : (j : ℕ) → Cmp j q → uses (partyAt (m .parties) j) d ≡ false
+          unused j (same e) = rw e (not-used d)
+          unused j (diff n) = rw (row-other (m .parties) q j p n) at (u j)
+
+      -- The invariant afterwards, first with the root as the laws of pages taken write it.
+      inv-taking : PartyOk (record { root = rootTaking (need + 0); parties = set (m .parties) q p; pages = builtMemory; ghost = builtGhost; entries = c .entries }) q p
+          → Inv (record { root = rootTaking (need + 0); parties = set (m .parties) q p; locks = m .locks; pages = builtMemory }) c
+      unfolding rootTaking isAmong
+      inv-taking self =
+          assemble m b i q in-row (rootTaking (need + 0)) (m .locks) builtMemory p c builtGhost
+          (taking-parts m b i q in-row need 0 enough-both no-built no-new builtMemory p c [] memory-long (no-pages .nothing-old .no-old) (λ x n _ h _. off x n h)
+          (λ x h. absurd (false≢true h)) (λ x h. absurd (false≢true h)) entries= contents= dead-then (m .locks)
+          (extents-move r (rootTaking (need + 0)) (record { limits = record { originals= = refl; keys= = refl; chains= = refl; overflow= = refl; parties= = refl }; level= = refl; next= = refl })
+          (m .parties) (i .ghost) builtGhost refl refl q p row-long stays same-live same-low (i .extents-ok))
+          (locks-root r (rootTaking (need + 0)) (set (m .parties) q p) (locks-stay r (m .parties) q p row-long same-claims (i .locks-ok))) self)
+
+      pub built-inv : PartyOk builtScene q p → Inv (record { root = builtRoot; parties = set (m .parties) q p; locks = m .locks; pages = builtMemory }) c
+      unfolding rootTaking
+      built-inv =
+          subst (λ (n : ℕ). PartyOk (record { root = rootTaking n; parties = set (m .parties) q p; pages = builtMemory; ghost = builtGhost; entries = c .entries }) q p
+          → Inv (record { root = rootTaking n; parties = set (m .parties) q p; locks = m .locks; pages = builtMemory }) c) (add-zero need) inv-taking

@@ -1,0 +1,82 @@
+-- Several locks given up in one step: each is found held, and the words then say that the party holds none of them.
+-- Main statements: Apart (locks of different words), held-all, given-up-locks, given-up-rest (nothing but lock words changes), release-all (a party that gives up all it holds).
+use mathlib.Core.Path.{_≡_, refl, sym, ap, _∙_}
+use mathlib.Core.Logic.{_≢_}
+use mathlib.Core.Bool.{Bool, true, false, cond, not, _&&_, _||_, and-true, and-false, and-not-self, or-false}
+use mathlib.Core.List.{List, [], _∷_}
+use Prim.Native.Nat.{ℕ, _<_}
+use lib.ListN.{length, getD, set}
+use lib.Dec.{eqb}
+use Rattle.model.specs.declared.Root.{Root}
+use Rattle.model.specs.declared.Party.{Party}
+use Rattle.model.specs.declared.Mode.{Mode}
+use Rattle.model.specs.LockWords.{Claim}
+use Rattle.model.specs.Outcome.{View, withLocks, isHeld, heldAll, withoutHold, givenUp}
+use Rattle.model.specs.Memory.{partyAt}
+use Rattle.model.specs.Holds.{sameMode}
+use Rattle.model.proofs.Laws.Lists.{Cmp, same, diff, cmp, All, all-map, all-zip, eqb-same, eqb-diff}
+use Rattle.model.proofs.Invariant.Claims.{claims, isClaimed, claimed, LocksOk}
+use Rattle.model.proofs.Invariant.LockMoves.{held-true, locks-released, locks-same, locks-move}
+use Rattle.model.proofs.Effects.Requests.{claim-more}
+
+-- No two locks of the list are of one word.
+abbrev pub Apart : List Claim → Type 0
+Apart [] = Unit {0}
+Apart (c ∷ cs) = All (λ d. d .word ≢ c .word) cs × Apart cs
+
+-- Nothing but lock words changes.
+pub given-up-rest : (cs : List Claim) (v : View) → givenUp cs v ≡ withLocks (givenUp cs v .locks) v
+unfolding givenUp withoutHold
+given-up-rest [] v = refl
+given-up-rest (c ∷ cs) v = given-up-rest cs (withoutHold c v)
+
+-- A party that holds all of them is found to.
+pub held-all : {n : ℕ} {h : ℕ → ℕ → Mode → Bool} (v : View) → LocksOk n (v .locks) h → (cs : List Claim) → All (λ c. c .word < n) cs
+    → All (λ c. h (c .word) (v .number) (c .mode) ≡ true) cs → heldAll v cs ≡ true
+unfolding heldAll isHeld
+held-all v ok [] f a = refl
+held-all v ok (c ∷ cs) f a = rw (held-true (ok .each (c .word) (f .0)) (v .number) (c .mode) (a .0), held-all v ok cs (f .1) (a .1)) refl
+
+-- What is held without the locks cs of party q.
+unfoldable pub without : (ℕ → ℕ → Mode → Bool) → ℕ → List Claim → ℕ → ℕ → Mode → Bool
+without h q cs i k o = h i k o && not (eqb k q && isClaimed cs i o)
+
+-- Taking one lock away, then the others.
+without-more : (h : ℕ → ℕ → Mode → Bool) (q : ℕ) (c : Claim) (cs : List Claim) (i k : ℕ) (o : Mode)
+    → without h q (c ∷ cs) i k o ≡ without (λ i′ q′ m′. h i′ q′ m′ && not (eqb i′ (c .word) && eqb q′ q && sameMode m′ (c .mode))) q cs i k o
+unfolding without
+without-more h q c cs i k o = rw (claim-more c cs i o) (shuffle (h i k o) (eqb k q) (isClaimed cs i o) (eqb i (c .word)) (sameMode o (c .mode)))
+  where
+    shuffle : (x a y e s : Bool) → (x && not (a && (y || (e && s)))) ≡ ((x && not (e && a && s)) && not (a && y))
+    shuffle false a y e s = refl
+    shuffle true false y e s = rw (and-false e) refl
+    shuffle true true y true true = or-true-not y
+      where
+        or-true-not : (z : Bool) → not (z || true) ≡ false
+        or-true-not true = refl
+        or-true-not false = refl
+    shuffle true true y true false = rw (or-false y) refl
+    shuffle true true y false s = rw (or-false y) refl
+
+pub given-up-locks : {n : ℕ} {h : ℕ → ℕ → Mode → Bool} (cs : List Claim) (v : View) → LocksOk n (v .locks) h → v .number < 16 → Apart cs → All (λ c. c .word < n) cs
+    → All (λ c. h (c .word) (v .number) (c .mode) ≡ true) cs → LocksOk n (givenUp cs v .locks) (without h (v .number) cs)
+unfolding givenUp withoutHold without isClaimed
+given-up-locks {h = h} [] v ok l d f a = locks-same (λ i k o. rw (and-false (eqb k (v .number))) (and-true _)) ok
+given-up-locks {h = h} (c ∷ cs) v ok l d f a =
+    locks-same (without-more h (v .number) c cs)
+    (given-up-locks cs (withoutHold c v) (locks-released ok (c .word) (f .0) (v .number) (c .mode) (a .0) l) l (d .1) (f .1)
+    (all-zip cs (λ e n y. rw (eqb-diff (e .word) (c .word) n) (and-true _ ∙ y)) (d .0) (a .1)))
+
+-- A party that gives up all it holds, and whose new record claims nothing.
+pub release-all : {n : ℕ} (r : Root) (ps : List Party) (v : View) → LocksOk n (v .locks) (claimed r ps) → v .number < length ps → v .number < 16 → (p : Party)
+    → claims r p ≡ [] → Apart (claims r (partyAt ps (v .number))) → All (λ c. c .word < n) (claims r (partyAt ps (v .number)))
+    → All (λ c. claimed r ps (c .word) (v .number) (c .mode) ≡ true) (claims r (partyAt ps (v .number)))
+    → LocksOk n (givenUp (claims r (partyAt ps (v .number))) v .locks) (claimed r (set ps (v .number) p))
+unfolding without isClaimed
+release-all r ps v ok in-row small p none d f a =
+    locks-move r ps (v .number) p in-row (given-up-locks (claims r (partyAt ps (v .number))) v ok small d f a) (λ i k o. go i k o (cmp k (v .number)))
+  where
+    go : (i k : ℕ) (o : Mode) → Cmp k (v .number) → (claimed r ps i k o && not (eqb k (v .number) && isClaimed (claims r (partyAt ps (v .number))) i o))
+        ≡ cond (eqb k (v .number)) (isClaimed (claims r p) i o) (claimed r ps i k o)
+    go i k o (same e) = rw (e, eqb-same (v .number) (v .number) refl, none) (and-not-self (isClaimed (claims r (partyAt ps (v .number))) i o))
+    go i k o (diff n) = rw (eqb-diff k (v .number) n) (and-true (claimed r ps i k o))

@@ -1,0 +1,81 @@
+-- An ascending list of records is determined by its keys.
+-- Main statements: beyond-first; same-ascending.
+use mathlib.Core.Path.{_≡_, refl, sym, ap, _∙_}
+use mathlib.Core.Logic.{_≢_, _⊎_, inl, inr}
+use mathlib.Core.Bool.{true, false}
+use mathlib.Core.List.{List, [], _∷_}
+use Prim.Native.Nat.{ℕ, _<_}
+use native.Mathlib.Omega.{arith}
+use lib.Dec.{eqb}
+use Rattle.model.specs.Entries.{Entry, keyOf, hasKey, belowFirst, ascending}
+use Rattle.model.proofs.Laws.Lists.{Cmp, same, diff, cmp, and-both, left-or, or-either, eqb-true, eqb-same, eqb-diff, ltb-true, true≢false, false≢true}
+use Rattle.model.proofs.Laws.Joins.{below-absent}
+
+-- ---- One list
+
+-- Every key of an ascending list is above a number that is below its first.
+pub beyond-first : (j k : ℕ) (es : List Entry) → belowFirst j es ≡ true → ascending es ≡ true → hasKey k es ≡ true → j < k
+unfolding belowFirst ascending hasKey
+beyond-first j k [] b a h = absurd (false≢true h)
+beyond-first j k (e ∷ es) b a h = go (or-either (eqb (keyOf e) k) (hasKey k es) h) (beyond-first (keyOf e) k es)
+  where
+    below : j < keyOf e
+    below = ltb-true j (keyOf e) b
+
+    go : (eqb (keyOf e) k ≡ true) ⊎ (hasKey k es ≡ true) → (belowFirst (keyOf e) es ≡ true → ascending es ≡ true → hasKey k es ≡ true → keyOf e < k) → j < k
+    go (inl s) ih = omega (arith, below, eqb-true (keyOf e) k s)
+    go (inr t) ih = let f = and-both (belowFirst (keyOf e) es) (ascending es) a in omega (arith, below, ih (f .0) (f .1) t)
+
+has-first : (e : Entry) (es : List Entry) → hasKey (keyOf e) (e ∷ es) ≡ true
+unfolding hasKey
+has-first e es = left-or (hasKey (keyOf e) es) (eqb-same (keyOf e) (keyOf e) refl)
+
+-- The first key stands once.
+first-once : (e : Entry) (es : List Entry) → ascending (e ∷ es) ≡ true → hasKey (keyOf e) es ≡ false
+unfolding ascending
+first-once e es a = let f = and-both (belowFirst (keyOf e) es) (ascending es) a in below-absent (keyOf e) es (f .1) (f .0)
+
+-- A key of an ascending list is the first or above it.
+first-least : (e : Entry) (es : List Entry) → ascending (e ∷ es) ≡ true → (k : ℕ) → hasKey k (e ∷ es) ≡ true → k ≢ keyOf e → keyOf e < k
+unfolding ascending hasKey
+first-least e es a k h n =
+    let f = and-both (belowFirst (keyOf e) es) (ascending es) a in
+    let rest : hasKey k es ≡ true = rw (eqb-diff (keyOf e) k (λ s. n (sym s))) at h in
+    beyond-first (keyOf e) k es (f .0) (f .1) rest
+
+-- The rest ascends.
+rest-ascends : (e : Entry) (es : List Entry) → ascending (e ∷ es) ≡ true → ascending es ≡ true
+unfolding ascending
+rest-ascends e es a = and-both (belowFirst (keyOf e) es) (ascending es) a .1
+
+has-none : (k : ℕ) → hasKey k [] ≡ false
+unfolding hasKey
+has-none k = refl
+
+-- Another key than the first is in the list where it is in the rest.
+has-rest : (e : Entry) (es : List Entry) (k : ℕ) → keyOf e ≢ k → hasKey k (e ∷ es) ≡ hasKey k es
+unfolding hasKey
+has-rest e es k n = rw (eqb-diff (keyOf e) k n) refl
+
+-- ---- Two lists with the same keys
+
+pub same-ascending : (xs ys : List Entry) → ascending xs ≡ true → ascending ys ≡ true → ((k : ℕ) → hasKey k xs ≡ hasKey k ys) → xs ≡ ys
+same-ascending [] [] a b f = refl
+same-ascending [] (y ∷ ys) a b f = absurd (false≢true (sym (has-none (keyOf y)) ∙ f (keyOf y) ∙ has-first y ys))
+same-ascending (x ∷ xs) [] a b f = absurd (true≢false (sym (has-first x xs) ∙ f (keyOf x) ∙ has-none (keyOf x)))
+same-ascending (x ∷ xs) (y ∷ ys) a b f = go (cmp (keyOf x) (keyOf y)) (same-ascending xs ys (rest-ascends x xs a) (rest-ascends y ys b))
+  where
+    rests : keyOf x ≡ keyOf y → (k : ℕ) → Cmp (keyOf x) k → hasKey k xs ≡ hasKey k ys
+    rests s k (same e) =
+        ap (λ (j : ℕ). hasKey j xs) (sym e) ∙ first-once x xs a ∙ sym (first-once y ys b) ∙ ap (λ (j : ℕ). hasKey j ys) (sym s ∙ e)
+    rests s k (diff n) = sym (has-rest x xs k n) ∙ f k ∙ has-rest y ys k (λ e. n (s ∙ e))
+
+    go : Cmp (keyOf x) (keyOf y) → (((k : ℕ) → hasKey k xs ≡ hasKey k ys) → xs ≡ ys) → x ∷ xs ≡ y ∷ ys
+    go (same s) ih = cc (s, ih (λ k. rests s k (cmp (keyOf x) k)))
+    go (diff n) ih =
+        absurd
+        (omega (
+          arith,
+          first-least x xs a (keyOf y) (f (keyOf y) ∙ has-first y ys) (λ s. n (sym s)),
+          first-least y ys b (keyOf x) (sym (f (keyOf x)) ∙ has-first x xs) n,
+        ))

@@ -1,0 +1,179 @@
+-- What an insert or a delete makes of a chain's records: one key more or one key less, and the keys still ascend.
+-- Main statements: has-inserted, has-removed (the keys afterwards); ascends-inserted, ascends-removed; ChangeMade and change-made (a change, beside what the set book makes of its key).
+use mathlib.Core.Path.{_≡_, refl, sym, ap, _∙_}
+use mathlib.Core.Bool.{Bool, true, false, cond, not, _&&_, _||_, false≢true}
+use mathlib.Core.List.{List, [], _∷_}
+use mathlib.Core.Option.{Option, none, some}
+use Prim.Native.Nat.{ℕ, _<_}
+use native.Mathlib.Omega.{arith}
+use lib.Dec.{ltb, eqb}
+use Rattle.model.specs.declared.Operation.{Operation}
+use Rattle.model.specs.declared.Operation.the-variants as Operation
+use Rattle.model.specs.Answers.{operationNumber, answerNumber, answerOf}
+use Rattle.model.specs.Entries.{Entry, keyOf, entryOf, hasKey, belowFirst, ascending, insertedInto, removedFrom}
+use Rattle.model.specs.Book.{Value, isIn, noteAtEleven, contentAtEleven}
+use Rattle.model.specs.Steps.Change.{Change, kept, changed, changeOf}
+use Rattle.model.specs.Steps.Dispatch.{hasStep}
+use Rattle.model.proofs.Laws.Lists.{cond-ind, Told, holds, fails, tell, Cmp, same, diff, cmp, Ord, lt, ge, ord, and-both, both-and, or-neither, eqb-true, eqb-same, eqb-diff, eqb-false, ltb-true, lt-ltb}
+
+-- ---- The keys afterwards
+
+pub has-inserted : (x : Entry) (k : ℕ) (es : List Entry) → hasKey k (insertedInto x es) ≡ (eqb (keyOf x) k || hasKey k es)
+unfolding hasKey insertedInto
+has-inserted x k [] = refl
+has-inserted x k (e ∷ es) = go (ltb (keyOf x) (keyOf e)) (has-inserted x k es)
+  where
+    swap : (a b c : Bool) → (a || (b || c)) ≡ (b || (a || c))
+    swap true true c = refl
+    swap true false c = refl
+    swap false b c = refl
+
+    go : (t : Bool) → hasKey k (insertedInto x es) ≡ (eqb (keyOf x) k || hasKey k es)
+        → hasKey k (cond t (x ∷ (e ∷ es)) (e ∷ insertedInto x es)) ≡ (eqb (keyOf x) k || (eqb (keyOf e) k || hasKey k es))
+    go true ih = refl
+    go false ih = ap (λ (t : Bool). eqb (keyOf e) k || t) ih ∙ swap (eqb (keyOf e) k) (eqb (keyOf x) k) (hasKey k es)
+
+pub has-removed : (x k : ℕ) (es : List Entry) → hasKey k (removedFrom x es) ≡ (not (eqb x k) && hasKey k es)
+unfolding hasKey removedFrom
+has-removed x k [] = go (not (eqb x k))
+  where
+    go : (t : Bool) → false ≡ (t && false)
+    go true = refl
+    go false = refl
+has-removed x k (e ∷ es) = go (cmp (keyOf e) x) (has-removed x k es)
+  where
+    gone : (t s : Bool) → (not t && s) ≡ (not t && (t || s))
+    gone true s = refl
+    gone false s = refl
+
+    stays : (t u s : Bool) → (t ≡ true → u ≡ true → ⊥) → (u || (not t && s)) ≡ (not t && (u || s))
+    stays true true s f = absurd (f refl refl)
+    stays true false s f = refl
+    stays false u s f = refl
+
+    go : Cmp (keyOf e) x → hasKey k (removedFrom x es) ≡ (not (eqb x k) && hasKey k es)
+        → hasKey k (cond (eqb (keyOf e) x) (removedFrom x es) (e ∷ removedFrom x es)) ≡ (not (eqb x k) && (eqb (keyOf e) k || hasKey k es))
+    go (same i) ih = rw (eqb-same (keyOf e) x i, ap (λ (n : ℕ). eqb n k) i) (ih ∙ gone (eqb x k) (hasKey k es))
+    go (diff n) ih =
+        rw (eqb-diff (keyOf e) x n)
+        (ap (λ (t : Bool). eqb (keyOf e) k || t) ih
+        ∙ stays (eqb x k) (eqb (keyOf e) k) (hasKey k es) (λ a b. n (eqb-true (keyOf e) k b ∙ sym (eqb-true x k a))))
+
+-- ---- The keys still ascend
+
+-- A number below the first key stays below, where a record with a larger key is put in, or records are taken out.
+below-inserted : (x : Entry) (k : ℕ) (es : List Entry) → k < keyOf x → belowFirst k es ≡ true → belowFirst k (insertedInto x es) ≡ true
+unfolding belowFirst insertedInto
+below-inserted x k [] h b = lt-ltb k (keyOf x) h
+below-inserted x k (e ∷ es) h b = cond-ind (λ (l : List Entry). belowFirst k l ≡ true) (ltb (keyOf x) (keyOf e)) (x ∷ (e ∷ es)) (e ∷ insertedInto x es) (λ _. lt-ltb k (keyOf x) h) (λ _. b)
+
+below-removed : (x k : ℕ) (es : List Entry) → ascending es ≡ true → belowFirst k es ≡ true → belowFirst k (removedFrom x es) ≡ true
+unfolding belowFirst ascending removedFrom
+below-removed x k [] a b = refl
+below-removed x k (e ∷ es) a b =
+    let f = and-both (belowFirst (keyOf e) es) (ascending es) a in
+    cond-ind (λ (l : List Entry). belowFirst k l ≡ true) (eqb (keyOf e) x) (removedFrom x es) (e ∷ removedFrom x es)
+    (λ _. below-removed x k es (f .1) (lower k (keyOf e) es (ltb-true k (keyOf e) b) (f .0))) (λ _. b)
+  where
+    lower : (k j : ℕ) (es : List Entry) → k < j → belowFirst j es ≡ true → belowFirst k es ≡ true
+    lower k j [] h b = refl
+    lower k j (e ∷ es) h b = let l = ltb-true j (keyOf e) b in lt-ltb k (keyOf e) (omega arith)
+
+pub ascends-inserted : (x : Entry) (es : List Entry) → ascending es ≡ true → hasKey (keyOf x) es ≡ false → ascending (insertedInto x es) ≡ true
+unfolding ascending belowFirst insertedInto hasKey
+ascends-inserted x [] a n = refl
+ascends-inserted x (e ∷ es) a n = go (ord (keyOf x) (keyOf e)) (ascends-inserted x es (f .1) (o .1))
+  where
+    f : (belowFirst (keyOf e) es ≡ true) × (ascending es ≡ true)
+    f = and-both (belowFirst (keyOf e) es) (ascending es) a
+
+    o : (eqb (keyOf e) (keyOf x) ≡ false) × (hasKey (keyOf x) es ≡ false)
+    o = or-neither (eqb (keyOf e) (keyOf x)) (hasKey (keyOf x) es) n
+
+    go : Ord (keyOf x) (keyOf e) → ascending (insertedInto x es) ≡ true → ascending (cond (ltb (keyOf x) (keyOf e)) (x ∷ (e ∷ es)) (e ∷ insertedInto x es)) ≡ true
+    go (lt h t) ih = rw t (both-and t a)
+    go (ge h t) ih = let d = eqb-false (keyOf e) (keyOf x) (o .0) in rw t (both-and (below-inserted x (keyOf e) es (omega arith) (f .0)) ih)
+
+pub ascends-removed : (x : ℕ) (es : List Entry) → ascending es ≡ true → ascending (removedFrom x es) ≡ true
+unfolding ascending removedFrom
+ascends-removed x [] a = refl
+ascends-removed x (e ∷ es) a =
+    let f = and-both (belowFirst (keyOf e) es) (ascending es) a in
+    let ih = ascends-removed x es (f .1) in
+    cond-ind (λ (l : List Entry). ascending l ≡ true) (eqb (keyOf e) x) (removedFrom x es) (e ∷ removedFrom x es)
+    (λ _. ih) (λ _. both-and (below-removed x (keyOf e) es (f .1) (f .0)) ih)
+
+-- ---- A change, and the set book beside it
+
+-- A change of key k from the records es to the records after, with this answer: operation o's own answer, which the book notes; the key is there afterwards where the book's
+-- contents say so, and every other key where it was.
+pub record ChangeMade (o : Operation) (k : ℕ) (es : List Entry) (answer : ℕ) (after : List Entry) : Type 0 where
+  pub made : answer ≡ cond (eqb (operationNumber o) 2) 1 3
+  pub noted : noteAtEleven o (hasKey k es) ≡ answerOf answer
+  pub ascends : ascending es ≡ true → ascending after ≡ true
+  pub keys : (x : Option Value) (j : ℕ) → hasKey j after ≡ cond (eqb j k) (isIn (contentAtEleven o x)) (hasKey j es)
+
+-- What a change says of its answer and records.
+answerIn : Change → ℕ
+answerIn (kept a) = 0
+answerIn (changed a es) = a
+
+recordsIn : Change → List Entry
+recordsIn (kept a) = []
+recordsIn (changed a es) = es
+
+isChanged : Change → Bool
+isChanged (kept a) = false
+isChanged (changed a es) = true
+
+module _ (k : ℕ) (es : List Entry) (answer : ℕ) (after : List Entry) where
+  -- An insert changes a chain without its key, a delete one with it.
+  insert-made : changeOf 2 k es ≡ changed answer after → ChangeMade Operation.Insert k es answer after
+  unfolding changeOf answerNumber answerOf operationNumber noteAtEleven contentAtEleven isChanged answerIn recordsIn
+  insert-made e = go (tell (hasKey k es))
+    where
+      there : (x : Option Value) (j : ℕ) → Cmp j k → (eqb k j || hasKey j es) ≡ cond (eqb j k) (isIn (contentAtEleven Operation.Insert x)) (hasKey j es)
+      there none j (same i) = rw (eqb-same j k i, eqb-same k j (sym i))
+      there (some v) j (same i) = rw (eqb-same j k i, eqb-same k j (sym i))
+      there x j (diff n) = rw (eqb-diff j k n, eqb-diff k j (λ s. n (sym s)))
+
+      go : Told (hasKey k es) → ChangeMade Operation.Insert k es answer after
+      go (holds h) = absurd (false≢true (ap isChanged (rw h at e)))
+      go (fails h) =
+          let c : changed 1 (insertedInto (entryOf k) es) ≡ changed answer after = rw h at e in
+          let a : answer ≡ 1 = sym (ap answerIn c) in
+          let l : after ≡ insertedInto (entryOf k) es = sym (ap recordsIn c) in
+          record {
+            made = a;
+            noted = rw (h, a) refl;
+            ascends = λ up. rw l (ascends-inserted (entryOf k) es up h);
+            keys = λ x j. rw l (has-inserted (entryOf k) j es ∙ there x j (cmp j k));
+          }
+
+  delete-made : changeOf 3 k es ≡ changed answer after → ChangeMade Operation.Delete k es answer after
+  unfolding changeOf answerNumber answerOf operationNumber noteAtEleven contentAtEleven isChanged answerIn recordsIn
+  delete-made e = go (tell (hasKey k es))
+    where
+      there : (j : ℕ) → Cmp j k → (not (eqb k j) && hasKey j es) ≡ cond (eqb j k) false (hasKey j es)
+      there j (same i) = rw (eqb-same j k i, eqb-same k j (sym i))
+      there j (diff n) = rw (eqb-diff j k n, eqb-diff k j (λ s. n (sym s)))
+
+      go : Told (hasKey k es) → ChangeMade Operation.Delete k es answer after
+      go (fails h) = absurd (false≢true (ap isChanged (rw h at e)))
+      go (holds h) =
+          let c : changed 3 (removedFrom k es) ≡ changed answer after = rw h at e in
+          let a : answer ≡ 3 = sym (ap answerIn c) in
+          let l : after ≡ removedFrom k es = sym (ap recordsIn c) in
+          record {
+            made = a;
+            noted = rw (h, a) refl;
+            ascends = λ up. rw l (ascends-removed k es up);
+            keys = λ x j. rw l (has-removed k j es ∙ there j (cmp j k));
+          }
+
+  -- An operation that has step 11 is an insert or a delete.
+  pub change-made : (o : Operation) (n : ℕ) → operationNumber o ≡ n → hasStep n 11 ≡ true → changeOf n k es ≡ changed answer after → ChangeMade o k es answer after
+  unfolding operationNumber hasStep
+  change-made Operation.Find n i h e = absurd (false≢true (rw (← i) at h))
+  change-made Operation.Insert n i h e = insert-made (rw (← i) at e)
+  change-made Operation.Delete n i h e = delete-made (rw (← i) at e)

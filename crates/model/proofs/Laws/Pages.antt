@@ -1,0 +1,201 @@
+-- Laws of pages: what page memory and a page's fields are after a page was written.
+-- A page of the memory: Has.
+-- Main statements: page-same, page-other, length-withPage; length-pageOf; withPage-pageOf, withPage-withPage;
+-- level-, count-, link-, entries- and length- of filledPage, freePage, zeroPage and withLocalLevel.
+use mathlib.Core.Path.{_≡_, refl, sym, ap, _∙_}
+use mathlib.Core.Logic.{_≢_}
+use mathlib.Core.Bool.{Bool, true, false}
+use mathlib.Core.List.{List, [], _∷_, _++_, append-assoc}
+use Prim.Native.Nat.{ℕ, _+_, _-_, _*_, _≤_, _<_}
+use native.Mathlib.Omega.{arith}
+use lib.ListN.{length, take, drop, replicate, length-append, length-drop, length-replicate, take-append-drop}
+use lib.Seq.{length-take-le, take-at, drop-at, drop-append-le, take-append-le, drop-append-add, drop-drop, take-append-seam}
+use lib.Dec.{ltb}
+use borrow.Author.Tests.{ltb-true, ltb-false}
+use Rattle.model.specs.Sizes.{pageWords, mostKeys}
+use Rattle.model.specs.Entries.{Entry}
+use Rattle.model.specs.Pages.{pageOf, withPage, levelOf, countOf, linkOf, entriesOf, filledPage, freePage, zeroPage, withLocalLevel}
+
+-- Page p is a page of the memory ps.
+pub record Has (ps : List ℕ) (p : ℕ) : Type 0 where
+  pub fits : p * pageWords + pageWords ≤ length ps
+
+-- ---- Reading a page
+
+pub length-pageOf : {ps : List ℕ} {p : ℕ} → Has ps p → length (pageOf ps p) ≡ pageWords
+unfolding pageOf
+length-pageOf {ps} {p} h = length-take-le pageWords (drop (p * pageWords) ps) (rw length-drop (omega (arith, h .fits)))
+
+-- ---- Writing a page: memory ps, page p, the words w
+
+module _ (ps : List ℕ) (p : ℕ) (w : List ℕ) (has : Has ps p) (whole : length w ≡ pageWords) where
+  -- The memory before the page, and after it.
+  before : length (take (p * pageWords) ps) ≡ p * pageWords
+  before = length-take-le (p * pageWords) ps (omega (arith, has .fits))
+
+  through : length (take (p * pageWords) ps ++ w) ≡ p * pageWords + pageWords
+  through = length-append (take (p * pageWords) ps) w ∙ omega (arith, before)
+
+  pub length-withPage : length (withPage ps p w) ≡ length ps
+  unfolding withPage
+  length-withPage = simp (length-append, length-drop) (omega (arith, before, has .fits))
+
+  pub page-same : pageOf (withPage ps p w) p ≡ w
+  unfolding pageOf withPage
+  page-same =
+      let rest = drop (p * pageWords + pageWords) ps in
+      ap (take pageWords) (drop-at (take (p * pageWords) ps) (w ++ rest) (p * pageWords) before) ∙ take-at w rest pageWords whole
+
+  page-below : (r : ℕ) → r < p → pageOf (withPage ps p w) r ≡ pageOf ps r
+  unfolding pageOf withPage
+  page-below r h =
+      let x = take (p * pageWords) ps in
+      let front : (y : List ℕ) → take pageWords (drop (r * pageWords) (x ++ y)) ≡ take pageWords (drop (r * pageWords) x) =
+      λ y. ap (take pageWords) (drop-append-le (r * pageWords) x y (omega (arith, before)))
+      ∙ take-append-le pageWords (drop (r * pageWords) x) y (rw length-drop (omega (arith, before))) in
+      front (w ++ drop (p * pageWords + pageWords) ps) ∙ sym (front (drop (p * pageWords) ps))
+      ∙ ap (λ (z : List ℕ). take pageWords (drop (r * pageWords) z)) (take-append-drop (p * pageWords) ps)
+
+  page-above : (r : ℕ) → p < r → pageOf (withPage ps p w) r ≡ pageOf ps r
+  unfolding pageOf withPage
+  page-above r h =
+      let x = take (p * pageWords) ps ++ w in
+      let y = drop (p * pageWords + pageWords) ps in
+      let n = r * pageWords - (p * pageWords + pageWords) in
+      let e : r * pageWords ≡ length x + n = omega (arith, through) in
+      let e′ : p * pageWords + pageWords + n ≡ r * pageWords = omega arith in
+      ap (λ (z : List ℕ). take pageWords (drop (r * pageWords) z)) (sym (append-assoc (take (p * pageWords) ps) w y))
+      ∙ ap (λ (m : ℕ). take pageWords (drop m (x ++ y))) e
+      ∙ ap (take pageWords) (drop-append-add x y n ∙ drop-drop n (p * pageWords + pageWords) ps)
+      ∙ ap (λ (m : ℕ). take pageWords (drop m ps)) e′
+
+  pub page-other : (r : ℕ) → r ≢ p → pageOf (withPage ps p w) r ≡ pageOf ps r
+  page-other r n = go (ltb r p) refl
+    where
+      go : (t : Bool) → ltb r p ≡ t → pageOf (withPage ps p w) r ≡ pageOf ps r
+      go true e = page-below r (ltb-true r p e)
+      go false e = let h = ltb-false r p e in page-above r (omega arith)
+
+  pub has-withPage : {r : ℕ} → Has ps r → Has (withPage ps p w) r
+  has-withPage h = record { fits = rw length-withPage (h .fits) }
+
+  -- A page written twice: the later words stand.
+  pub withPage-withPage : (u : List ℕ) → withPage (withPage ps p w) p u ≡ withPage ps p u
+  unfolding withPage
+  withPage-withPage u =
+      let x = take (p * pageWords) ps in
+      let y = drop (p * pageWords + pageWords) ps in
+      let front : take (p * pageWords) (x ++ (w ++ y)) ≡ x = take-at x (w ++ y) (p * pageWords) before in
+      let back : drop (p * pageWords + pageWords) (x ++ (w ++ y)) ≡ y =
+      ap (drop (p * pageWords + pageWords)) (sym (append-assoc x w y)) ∙ drop-at (x ++ w) y (p * pageWords + pageWords) through in
+      rw (front, back)
+
+-- A page written with its own words.
+pub withPage-pageOf : (ps : List ℕ) (p : ℕ) → withPage ps p (pageOf ps p) ≡ ps
+unfolding withPage pageOf
+withPage-pageOf ps p =
+    let rest = drop (p * pageWords) ps in
+    ap (λ (z : List ℕ). take (p * pageWords) ps ++ (take pageWords rest ++ z)) (sym (drop-drop pageWords (p * pageWords) ps))
+    ∙ ap (λ (z : List ℕ). take (p * pageWords) ps ++ z) (take-append-drop pageWords rest)
+    ∙ take-append-drop (p * pageWords) ps
+
+-- ---- A filled page
+
+pub level-filledPage : (level : ℕ) (es : List Entry) (link : ℕ) → levelOf (filledPage level es link) ≡ level
+unfolding levelOf filledPage
+level-filledPage level es link = refl
+
+pub count-filledPage : (level : ℕ) (es : List Entry) (link : ℕ) → countOf (filledPage level es link) ≡ length es
+unfolding countOf filledPage
+count-filledPage level es link = refl
+
+pub link-filledPage : (level : ℕ) (es : List Entry) (link : ℕ) → linkOf (filledPage level es link) ≡ link
+unfolding linkOf filledPage
+link-filledPage level es link = refl
+
+pub entries-filledPage : (level : ℕ) (es : List Entry) (link : ℕ) → entriesOf (filledPage level es link) ≡ es
+unfolding entriesOf countOf filledPage
+entries-filledPage level es link = take-append-seam es (replicate (mostKeys + 1 - length es) 0)
+
+pub length-filledPage : (level : ℕ) (es : List Entry) (link : ℕ) → length es ≤ mostKeys → length (filledPage level es link) ≡ pageWords
+unfolding filledPage
+length-filledPage level es link h = simp (length-append, length-replicate) (omega arith)
+
+-- ---- A free page and a zero page
+
+pub level-freePage : (link : ℕ) → levelOf (freePage link) ≡ 0
+unfolding freePage
+level-freePage link = level-filledPage 0 [] link
+
+pub count-freePage : (link : ℕ) → countOf (freePage link) ≡ 0
+unfolding freePage
+count-freePage link = count-filledPage 0 [] link
+
+pub link-freePage : (link : ℕ) → linkOf (freePage link) ≡ link
+unfolding freePage
+link-freePage link = link-filledPage 0 [] link
+
+pub entries-freePage : (link : ℕ) → entriesOf (freePage link) ≡ []
+unfolding freePage
+entries-freePage link = entries-filledPage 0 [] link
+
+pub length-freePage : (link : ℕ) → length (freePage link) ≡ pageWords
+unfolding freePage
+length-freePage link = length-filledPage 0 [] link (omega arith)
+
+-- A zero page is a free page without a link, so the laws of free pages are its laws.
+pub zeroPage-free : zeroPage ≡ freePage 0
+unfolding zeroPage freePage
+zeroPage-free = refl
+
+pub level-zeroPage : levelOf zeroPage ≡ 0
+level-zeroPage = rw zeroPage-free (level-freePage 0)
+
+pub count-zeroPage : countOf zeroPage ≡ 0
+count-zeroPage = rw zeroPage-free (count-freePage 0)
+
+pub link-zeroPage : linkOf zeroPage ≡ 0
+link-zeroPage = rw zeroPage-free (link-freePage 0)
+
+pub entries-zeroPage : entriesOf zeroPage ≡ []
+entries-zeroPage = rw zeroPage-free (entries-freePage 0)
+
+pub length-zeroPage : length zeroPage ≡ pageWords
+length-zeroPage = rw zeroPage-free (length-freePage 0)
+
+-- ---- A page with another local level
+
+pub level-withLocalLevel : (level : ℕ) (w : List ℕ) → levelOf (withLocalLevel level w) ≡ level
+unfolding levelOf withLocalLevel
+level-withLocalLevel level w = refl
+
+pub count-withLocalLevel : (level : ℕ) (w : List ℕ) → countOf (withLocalLevel level w) ≡ countOf w
+unfolding countOf withLocalLevel
+count-withLocalLevel level [] = refl
+count-withLocalLevel level (x ∷ w) = refl
+
+pub link-withLocalLevel : (level : ℕ) (w : List ℕ) → linkOf (withLocalLevel level w) ≡ linkOf w
+unfolding linkOf withLocalLevel
+link-withLocalLevel level [] = refl
+link-withLocalLevel level (x ∷ w) = refl
+
+pub entries-withLocalLevel : (level : ℕ) (w : List ℕ) → entriesOf (withLocalLevel level w) ≡ entriesOf w
+unfolding entriesOf countOf withLocalLevel
+entries-withLocalLevel level [] = refl
+entries-withLocalLevel level (x ∷ w) = refl
+
+pub length-withLocalLevel : (level : ℕ) (w : List ℕ) → length w ≡ pageWords → length (withLocalLevel level w) ≡ pageWords
+unfolding withLocalLevel
+length-withLocalLevel level [] e = absurd (omega (arith, e))
+length-withLocalLevel level (x ∷ w) e = e
+
+pub withLocalLevel-filledPage : (level old : ℕ) (es : List Entry) (link : ℕ) → withLocalLevel level (filledPage old es link) ≡ filledPage level es link
+unfolding withLocalLevel filledPage
+withLocalLevel-filledPage level old es link = refl
+
+-- ---- The records of a page
+
+-- As many as the count says, where the count is no damage.
+pub length-entriesOf : (w : List ℕ) → length w ≡ pageWords → countOf w ≤ mostKeys → length (entriesOf w) ≡ countOf w
+unfolding entriesOf
+length-entriesOf w e h = length-take-le (countOf w) (drop 3 w) (rw length-drop (omega (arith, e)))

@@ -1,0 +1,20 @@
+-- From the thirty steps to calls and whole lists of calls: answers, links, progress, grants, effects; refusals in their order; the worked cases.
+pub mod Cases
+pub mod RefusalOrder
+pub mod Gate
+pub mod Calls
+pub mod AllSteps
+pub mod Reached
+pub mod Scratches
+pub mod Traces
+pub mod LinkRule
+pub mod Answering
+pub mod LockOrder
+pub mod NoDeadlock
+pub mod Ledger
+pub mod LockTrades
+pub mod Grants
+pub mod Alters
+pub mod BookFed
+pub mod Places
+pub mod Singly

@@ -1,0 +1,299 @@
+-- From steps to calls and lists of calls: if every step keeps the invariant, so does every call, and the set book agrees with every answer of a list.
+-- Main statements: StepsKept (what the lemmas of the thirty steps say together); record-sound (no common test of damage fails); call-kept; run-answers, run-inv (over whole lists).
+use mathlib.Core.Path.{_≡_, refl, sym, ap, _∙_, subst}
+use mathlib.Core.Logic.{_≢_}
+use mathlib.Core.Bool.{Bool, true, false, cond, not, _&&_, _||_, false≢true}
+use mathlib.Core.List.{List, [], _∷_}
+use mathlib.Core.Option.{Option, some}
+use Prim.Native.Nat.{ℕ, zero, suc, _+_, _≤_, _<_}
+use native.Mathlib.Omega.{arith}
+use lib.ListN.{length, getD, set, List·getD-eq-default}
+use lib.Dec.{eqb, leb, ltb}
+use Rattle.model.specs.declared.Root.{Root}
+use Rattle.model.specs.declared.Party.{Party}
+use Rattle.model.specs.declared.Operation.{Operation}
+use Rattle.model.specs.declared.Operation.the-variants as Operation
+use Rattle.model.specs.declared.StepAnswer.{StepAnswer}
+use Rattle.model.specs.declared.StepAnswer.the-variants as StepAnswer
+use Rattle.model.specs.declared.BeginAnswer.{BeginAnswer}
+use Rattle.model.specs.declared.BeginAnswer.the-variants as BeginAnswer
+use Rattle.model.specs.Sizes.{withinLimits, lockWords, allPageWords, within}
+use Rattle.model.specs.Records.{idle, begun}
+use Rattle.model.specs.Answers.{operationNumber, refusalNumber}
+use Rattle.model.specs.Addresses.{span, chainCount}
+use Rattle.model.specs.Outcome.{damage}
+use Rattle.model.specs.Memory.{Memory, partyAt, viewOf}
+use Rattle.model.specs.Refusals.{firstCause, isIdle, lengthsFit, rootSound, partySound, recordSound, stepRows, beginRows}
+use Rattle.model.specs.Calls.{Called, called, stepped, stepCall, withBegun, beginCall}
+use Rattle.model.specs.Runs.{Call, beginFor, stepFor, Reply, toBegin, toStep, callerOf, replyTo, afterCall, Event, eventOf, events, finalMemory}
+use Rattle.model.specs.Book.{Book, Entered, changedAt, enter, withEntry, bookAfter, afterReply, afterBegin, agrees, agreesWith, bookAgrees}
+use Rattle.model.specs.Steps.Dispatch.{hasStep, stepOf}
+use Rattle.model.proofs.Laws.Lists.{Told, holds, fails, tell, Cmp, same, diff, cmp, Ord, lt, ge, ord, both-and, eqb-same, eqb-diff, eqb-true, eqb-false, le-leb, lt-ltb, leb-true}
+use Rattle.model.proofs.Invariant.Ghost.{nobody, oldOf, free, rootExtent, size}
+use Rattle.model.proofs.Invariant.Owners.{owns-nothing, kinds-apart}
+use Rattle.model.proofs.Invariant.Claims.{claims}
+use Rattle.model.proofs.Invariant.LockMoves.{locks-stay}
+use Rattle.model.proofs.Effects.OwnRecord.{same-sizes, own-parts}
+use Rattle.model.proofs.Invariant.Facts.{no-pages-held}
+use Rattle.model.proofs.Invariant.Extents.{level-fits}
+use Rattle.model.proofs.Laws.Reading.{held-length}
+use Rattle.model.proofs.Theorems.RefusalOrder.{begin-order, step-order}
+use Rattle.model.proofs.Invariant.Statement.{Limits, restructures, uses, NoPages, Busy, PartyOk, resting, working, Inv, sceneOf}
+use Rattle.model.proofs.Effects.Kept.{Kept, extents-move, assemble}
+
+-- Every step of a party under way is not refused, agrees with the book and keeps the invariant.
+abbrev pub StepsKept : Type 0
+StepsKept = (m : Memory) (b : Book) → Inv m b → (q : ℕ) → q < m .root .parties → hasStep (partyAt (m .parties) q .operation) (partyAt (m .parties) q .step) ≡ true
+    → Kept m b q (stepOf (partyAt (m .parties) q .step) (viewOf m q))
+
+-- ---- No row of the refusal table is met but by the party's number, or by an idle or busy party
+
+pub within-limits : (r : Root) → Limits r → withinLimits r ≡ true
+unfolding withinLimits
+within-limits r l =
+    rw (
+      le-leb 1 (r .originals) (l .some-original),
+      le-leb (r .originals) (r .chains) (l .originals-fit),
+      le-leb 1 (r .chains) (omega (arith, l .some-original, l .originals-fit)),
+      le-leb (r .chains) 256 (l .chains-fit),
+      le-leb (r .overflow) 752 (l .overflow-fits),
+      le-leb 1 (r .parties) (l .some-party),
+      le-leb (r .parties) 16 (l .parties-fit),
+      le-leb 1 (r .keys) (l .some-key),
+      le-leb (r .keys) 12 (l .keys-fit),
+    ) refl
+
+-- The operation in a record that the book has entered.
+operation-small : (o : Operation) (n : ℕ) → operationNumber o ≡ n → n ≤ 3
+unfolding operationNumber
+operation-small Operation.Find n e = omega arith
+operation-small Operation.Insert n e = omega arith
+operation-small Operation.Delete n e = omega arith
+
+pub operation-some : (o : Operation) (n : ℕ) → operationNumber o ≡ n → n ≢ 0
+unfolding operationNumber
+operation-some Operation.Find n e = omega arith
+operation-some Operation.Insert n e = omega arith
+operation-some Operation.Delete n e = omega arith
+
+pub record-sound : (r : Root) (p : Party) → rootSound r ≡ true → partySound r p ≡ true → recordSound r p ≡ true
+unfolding recordSound
+record-sound r p a c = both-and a c
+
+module _ (m : Memory) (b : Book) (i : Inv m b) where
+  pub lengths-fit : lengthsFit (m .root) m ≡ true
+  unfolding lengthsFit
+  lengths-fit =
+      rw (
+        eqb-same (length (m .parties)) (m .root .parties) (i .parties-many),
+        eqb-same (length (m .locks)) (lockWords (m .root)) (i .locks-ok .as-many),
+        eqb-same (length (m .pages)) (allPageWords (m .root)) (i .pages-many),
+      ) refl
+
+  pub root-sound : rootSound (m .root) ≡ true
+  unfolding rootSound size chainCount
+  root-sound =
+      let r = m .root in
+      let fits = i .extents-ok .root-fits in
+      let level = level-fits (r .originals) (rootExtent r) (i .limits .some-original) (omega (arith, i .limits .chains-fit)) in
+      rw (
+        le-leb (r .level) 8 level,
+        lt-ltb (r .next) (span (r .originals) (r .level)) (i .extents-ok .root-next),
+        le-leb (span (r .originals) (r .level) + r .next) (r .chains) fits,
+        le-leb (r .free) (r .overflow) (omega (arith, i .pages-ok .free-count, held-length (m .root) (i .pages-ok .owned) free)),
+      ) refl
+
+  module _ (q : ℕ) (in-row : q < m .root .parties) (p : Party) (e : Entered) (k : Busy (sceneOf m (i .ghost) b) q p e) where
+    answer-set : (ltb (p .step) 12 || not (eqb (p .answer) 0)) ≡ true
+    answer-set = go (ord (p .step) 12)
+      where
+        go : Ord (p .step) 12 → (ltb (p .step) 12 || not (eqb (p .answer) 0)) ≡ true
+        go (lt h t) = rw t refl
+        go (ge h t) = rw (t, eqb-diff (p .answer) 0 (k .answer-set h)) refl
+
+    pub party-sound : partySound (m .root) p ≡ true
+    unfolding partySound
+    party-sound =
+        rw (
+          le-leb (p .operation) 3 (operation-small (e .operation) (p .operation) (k .same-operation)),
+          k .step-fits,
+          le-leb (p .lev) 9 (k .lev-fits),
+          le-leb (p .owed) 3 (k .owed-fits),
+          le-leb (p .answer) 5 (k .answer-fits),
+          answer-set,
+          lt-ltb (p .chain) (m .root .chains) (k .chain-fits),
+          lt-ltb (p .other) (m .root .chains) (k .other-fits),
+        ) refl
+
+-- ---- An operation begun
+
+-- Every operation has step 1.
+has-first : (o : Operation) → hasStep (operationNumber o) 1 ≡ true
+unfolding operationNumber hasStep
+has-first Operation.Find = refl
+has-first Operation.Insert = refl
+has-first Operation.Delete = refl
+
+module _ (m : Memory) (b : Book) (i : Inv m b) (q : ℕ) (o : Operation) (k : ℕ) (in-row : q < m .root .parties) (was-idle : partyAt (m .parties) q ≡ idle)
+    (none : NoPages (sceneOf m (i .ghost) b) q) where
+  abbrev p-then : Party
+  p-then = begun (operationNumber o) k
+
+  row-long : q < length (m .parties)
+  row-long = omega (arith, i .parties-many)
+
+  idle-uses : (d : ℕ) → uses (partyAt (m .parties) q) d ≡ false
+  unfolding uses
+  idle-uses d = rw was-idle refl
+
+  idle-rests : restructures p-then ≡ restructures (partyAt (m .parties) q)
+  unfolding restructures
+  idle-rests = rw was-idle refl
+
+  begun-rests : restructures p-then ≡ false
+  unfolding restructures
+  begun-rests = refl
+
+  begun-claims : claims (m .root) p-then ≡ claims (m .root) (partyAt (m .parties) q)
+  unfolding claims
+  begun-claims = rw was-idle refl
+
+  abbrev entered : Entered
+  entered = record { operation = o; key = k; note = Option.none }
+
+  pub begun-inv : Inv (withBegun m q o k) (enter b q o k)
+  unfolding withBegun enter changedAt
+  begun-inv =
+      let fits = i .limits in
+      assemble m b i q in-row (m .root) (m .locks) (m .pages) p-then (enter b q o k) (i .ghost)
+      (own-parts m b i q in-row p-then (enter b q o k) (λ j n. rw (eqb-diff j q n) refl) refl
+      (λ x e. absurd (owns-nothing (i .pages-ok .owned) (oldOf q) x (kinds-apart (oldOf q) nobody refl) (none .nothing-old .no-old) e)) (λ d _. idle-uses d) (m .locks)
+      (extents-move (m .root) (m .root) (same-sizes (m .root)) (m .parties) (i .ghost) (i .ghost) refl refl q p-then row-long idle-rests
+      (λ e. absurd (false≢true (sym begun-rests ∙ e))) (λ e. absurd (false≢true (sym begun-rests ∙ e))) (i .extents-ok))
+      (locks-stay (m .root) (m .parties) q p-then row-long begun-claims (i .locks-ok))
+      (working entered
+      (record {
+        entry = rw (eqb-same q q refl) refl;
+        same-operation = refl;
+        same-key = refl;
+        step-fits = has-first o;
+        lev-fits = omega arith;
+        owed-fits = omega arith;
+        answer-fits = omega arith;
+        answer-set = λ h. absurd (omega arith);
+        chain-fits = omega (arith, fits .some-original, fits .originals-fit);
+        other-fits = omega (arith, fits .some-original, fits .originals-fit);
+      })
+      (record { nothing-owed = refl; no-pages = no-pages-held _ _ q refl none })))
+
+-- ---- A call
+
+-- Whether a reply is not the refusal of a damaged number.
+unfoldable pub undamaged : Reply → Bool
+undamaged (toBegin a) = true
+undamaged (toStep StepAnswer.Waiting) = true
+undamaged (toStep StepAnswer.Moved) = true
+undamaged (toStep (StepAnswer.Done a s)) = true
+undamaged (toStep (StepAnswer.Refused n)) = not (eqb n damage)
+
+allowed-undamaged : (a : StepAnswer) → refusalNumber a ≡ 0 → undamaged (toStep a) ≡ true
+unfolding refusalNumber undamaged
+allowed-undamaged StepAnswer.Waiting e = refl
+allowed-undamaged StepAnswer.Moved e = refl
+allowed-undamaged (StepAnswer.Done a s) e = refl
+allowed-undamaged (StepAnswer.Refused n) e = rw e refl
+
+-- What is owed of a call.
+pub record CallOk (m : Memory) (b : Book) (c : Call) : Type 0 where
+  pub right : agrees b c (partyAt (m .parties) (callerOf c) .step) (replyTo m c) ≡ true
+  pub sound : undamaged (replyTo m c) ≡ true
+  pub inv : Inv (afterCall m c) (bookAfter b c (partyAt (m .parties) (callerOf c) .step) (replyTo m c))
+
+module _ (kept : StepsKept) (m : Memory) (b : Book) (i : Inv m b) where
+  -- A step refused for its party's number, or because the party is idle.
+  refused-ok : (q n : ℕ) → eqb n 6 ≡ false → stepCall m q ≡ called (StepAnswer.Refused n) m → CallOk m b (stepFor q)
+  unfolding replyTo afterCall bookAfter afterReply agrees agreesWith undamaged
+  refused-ok q n h e = record {
+    right = ap (λ (c : Called StepAnswer). agreesWith b q (partyAt (m .parties) q .step) (c .answer)) e;
+    sound = ap (λ (c : Called StepAnswer). undamaged (toStep (c .answer))) e ∙ ap not h;
+    inv = subst (λ (c : Called StepAnswer). Inv (c .memory) (afterReply b q (partyAt (m .parties) q .step) (c .answer))) (sym e) i;
+  }
+
+  -- A step performed.
+  performed-ok : (q : ℕ) → q < m .root .parties → hasStep (partyAt (m .parties) q .operation) (partyAt (m .parties) q .step) ≡ true → stepCall m q ≡ stepped m q → CallOk m b (stepFor q)
+  unfolding replyTo afterCall bookAfter agrees stepped undamaged
+  performed-ok q l h e =
+      let k = kept m b i q l h in
+      record {
+        right = ap (λ (c : Called StepAnswer). agreesWith b q (partyAt (m .parties) q .step) (c .answer)) e ∙ k .right;
+        sound = ap (λ (c : Called StepAnswer). undamaged (toStep (c .answer))) e ∙ allowed-undamaged _ (k .allowed);
+        inv = subst (λ (c : Called StepAnswer). Inv (c .memory) (afterReply b q (partyAt (m .parties) q .step) (c .answer))) (sym e) (k .inv);
+      }
+
+  step-ok : (q : ℕ) → Ord q (m .root .parties) → CallOk m b (stepFor q)
+  step-ok q (ge h t) = refused-ok q 3 refl (step-order m q .party (within-limits (m .root) (i .limits)) (lengths-fit m b i) h)
+  step-ok q (lt h t) = go (i .parties-ok q h)
+    where
+      go : PartyOk (sceneOf m (i .ghost) b) q (partyAt (m .parties) q) → CallOk m b (stepFor q)
+      go (resting e _ _ _) =
+          refused-ok q 5 refl (step-order m q .idle (within-limits (m .root) (i .limits)) (lengths-fit m b i) h (rw e refl))
+      go (working e k f) =
+          performed-ok q h (k .step-fits)
+          (step-order m q .none (within-limits (m .root) (i .limits)) (lengths-fit m b i) h (operation-some (e .operation) (partyAt (m .parties) q .operation) (k .same-operation))
+          (record-sound (m .root) (partyAt (m .parties) q) (root-sound m b i) (party-sound m b i q h (partyAt (m .parties) q) e k)))
+
+  -- ---- Begin
+
+  -- A begin refused for its party's number, or because the party is busy.
+  begin-refused-ok : (q : ℕ) (o : Operation) (k n : ℕ) → beginCall m q o k ≡ called (BeginAnswer.Refused n) m → CallOk m b (beginFor q o k)
+  unfolding replyTo afterCall bookAfter afterBegin agrees undamaged
+  begin-refused-ok q o k n e = record {
+    right = refl;
+    sound = refl;
+    inv = subst (λ (c : Called BeginAnswer). Inv (c .memory) (afterBegin b q o k (c .answer))) (sym e) i;
+  }
+
+  -- The operation is entered in the record and in the book.
+  begun-ok : (q : ℕ) (o : Operation) (k : ℕ) → q < m .root .parties → partyAt (m .parties) q ≡ idle → NoPages (sceneOf m (i .ghost) b) q
+      → beginCall m q o k ≡ called BeginAnswer.Begun (withBegun m q o k) → CallOk m b (beginFor q o k)
+  unfolding replyTo afterCall bookAfter afterBegin agrees undamaged withBegun
+  begun-ok q o k l e none h = record {
+    right = refl;
+    sound = refl;
+    inv = subst (λ (c : Called BeginAnswer). Inv (c .memory) (afterBegin b q o k (c .answer))) (sym h) (begun-inv m b i q o k l e none);
+  }
+
+  begin-ok : (q : ℕ) (o : Operation) (k : ℕ) → Ord q (m .root .parties) → CallOk m b (beginFor q o k)
+  begin-ok q o k (ge h t) = begin-refused-ok q o k 3 (begin-order m q o k .party (within-limits (m .root) (i .limits)) (lengths-fit m b i) h)
+  begin-ok q o k (lt h t) = go (i .parties-ok q h)
+    where
+      go : PartyOk (sceneOf m (i .ghost) b) q (partyAt (m .parties) q) → CallOk m b (beginFor q o k)
+      go (working e c f) =
+          begin-refused-ok q o k 4
+          (begin-order m q o k .busy (within-limits (m .root) (i .limits)) (lengths-fit m b i) h (operation-some (e .operation) (partyAt (m .parties) q .operation) (c .same-operation)))
+      go (resting e _ none _) = begun-ok q o k h e none (begin-order m q o k .none (within-limits (m .root) (i .limits)) (lengths-fit m b i) h (rw e refl))
+
+  pub call-kept : (c : Call) → CallOk m b c
+  call-kept (beginFor q o k) = begin-ok q o k (ord q (m .root .parties))
+  call-kept (stepFor q) = step-ok q (ord q (m .root .parties))
+
+-- ---- A list of calls
+
+-- The book after a list of events.
+unfoldable pub bookAtEnd : Book → List Event → Book
+bookAtEnd b [] = b
+bookAtEnd b (e ∷ es) = bookAtEnd (bookAfter b (e .call) (e .number) (e .reply)) es
+
+pub run-answers : StepsKept → (m : Memory) (b : Book) → Inv m b → (cs : List Call) → bookAgrees b (events m cs) ≡ true
+unfolding bookAgrees events eventOf
+run-answers kept m b i [] = refl
+run-answers kept m b i (c ∷ cs) =
+    let k = call-kept kept m b i c in
+    both-and (k .right) (run-answers kept (afterCall m c) (bookAfter b c (partyAt (m .parties) (callerOf c) .step) (replyTo m c)) (k .inv) cs)
+
+pub run-inv : StepsKept → (m : Memory) (b : Book) → Inv m b → (cs : List Call) → Inv (finalMemory m cs) (bookAtEnd b (events m cs))
+unfolding finalMemory bookAtEnd events eventOf
+run-inv kept m b i [] = i
+run-inv kept m b i (c ∷ cs) =
+    let k = call-kept kept m b i c in
+    run-inv kept (afterCall m c) (bookAfter b c (partyAt (m .parties) (callerOf c) .step) (replyTo m c)) (k .inv) cs

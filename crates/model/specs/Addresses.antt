@@ -1,0 +1,53 @@
+-- Addresses of linear hashing, the number of chains, and how a split and a merge move level and next (document 01, "Addresses and locks" and the steps).
+-- Main definitions: hash (h_i), addressOf, chainCount (n); splitNext, splitLevel; mergeTarget, mergePartner, mergeLevel; splitBarred, mergeBarred.
+use mathlib.Core.Bool.{Bool, true, false, cond}
+use Prim.Native.Nat.{ℕ, _+_, _-_, _*_, _%_, _^_}
+use lib.Dec.{ltb, eqb}
+
+-- The number whose remainder is a key's address: the key itself.
+unfoldable pub hashed : ℕ → ℕ
+hashed k = k
+
+-- N × 2^i: how many chains h_i tells apart.
+unfoldable pub span : ℕ → ℕ → ℕ
+span n i = n * 2 ^ i
+
+-- "h_i(k) is k mod (2^i × N)", N being the first argument.
+unfoldable pub hash : ℕ → ℕ → ℕ → ℕ
+hash n i k = hashed k % span n i
+
+-- "the address is h_level(k), or h_(level+1)(k) if the former is below next": the level whose hash is the address, and the address.
+unfoldable pub addressLevel : ℕ → ℕ → ℕ → ℕ → ℕ
+addressLevel n level next k = cond (ltb (hash n level k) next) (level + 1) level
+
+unfoldable pub addressOf : ℕ → ℕ → ℕ → ℕ → ℕ
+addressOf n level next k = hash n (addressLevel n level next k) k
+
+-- "n is N × 2^level + next, the number of chains outside a restructuring."
+unfoldable pub chainCount : ℕ → ℕ → ℕ → ℕ
+chainCount n level next = span n level + next
+
+-- Steps 20 and 21: next after a split, and level once next is that.
+unfoldable pub splitNext : ℕ → ℕ → ℕ → ℕ
+splitNext n level next = (next + 1) % span n level
+
+unfoldable pub splitLevel : ℕ → ℕ → ℕ
+splitLevel level next = cond (eqb next 0) (level + 1) level
+
+-- "The partner is chain n − 1; the target is next − 1, or N × 2^(level−1) − 1 if next is 0" (step 24).
+unfoldable pub mergePartner : ℕ → ℕ → ℕ → ℕ
+mergePartner n level next = chainCount n level next - 1
+
+unfoldable pub mergeTarget : ℕ → ℕ → ℕ → ℕ
+mergeTarget n level next = cond (eqb next 0) (span n (level - 1) - 1) (next - 1)
+
+-- "if next was 0, lower level" (step 27).
+unfoldable pub mergeLevel : ℕ → ℕ → ℕ
+mergeLevel level next = cond (eqb next 0) (level - 1) level
+
+-- Where a split or a merge is barred: "if n = P" (step 16), "if n = N" (step 24). The first argument is n.
+unfoldable pub splitBarred : ℕ → ℕ → Bool
+splitBarred count chains = eqb count chains
+
+unfoldable pub mergeBarred : ℕ → ℕ → Bool
+mergeBarred count originals = eqb count originals

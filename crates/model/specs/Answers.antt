@@ -1,0 +1,67 @@
+-- Document 01's numbers and words for the cases of the answer enums, of operations and of restructurings.
+-- Main definitions: operationNumber, answerNumber and answerOf (a party's answer so far), refusalNumber, restructuringOf (from what is owed).
+use mathlib.Core.Bool.{Bool, true, false, cond}
+use Prim.Native.Nat.{ℕ}
+use lib.Dec.{eqb}
+use Rattle.model.specs.declared.Operation.{Operation}
+use Rattle.model.specs.declared.Operation.the-variants as Operation
+use Rattle.model.specs.declared.OperationAnswer.{OperationAnswer}
+use Rattle.model.specs.declared.OperationAnswer.the-variants as OperationAnswer
+use Rattle.model.specs.declared.Restructuring.{Restructuring}
+use Rattle.model.specs.declared.Restructuring.the-variants as Restructuring
+use Rattle.model.specs.declared.StepAnswer.{StepAnswer}
+use Rattle.model.specs.declared.StepAnswer.the-variants as StepAnswer
+use Rattle.model.specs.declared.BeginAnswer.{BeginAnswer}
+use Rattle.model.specs.declared.BeginAnswer.the-variants as BeginAnswer
+use Rattle.model.specs.declared.FormatAnswer.{FormatAnswer}
+use Rattle.model.specs.declared.FormatAnswer.the-variants as FormatAnswer
+
+-- "operation (0 idle, 1 find, 2 insert, 3 delete)".
+unfoldable pub operationNumber : Operation → ℕ
+operationNumber Operation.Find = 1
+operationNumber Operation.Insert = 2
+operationNumber Operation.Delete = 3
+
+-- "answer so far (0 none, 1 inserted, 2 present, 3 deleted, 4 absent, 5 no page)". Found stands in no record; it is numbered after them.
+unfoldable pub answerNumber : OperationAnswer → ℕ
+answerNumber OperationAnswer.Inserted = 1
+answerNumber OperationAnswer.Present = 2
+answerNumber OperationAnswer.Deleted = 3
+answerNumber OperationAnswer.Absent = 4
+answerNumber OperationAnswer.NoPage = 5
+answerNumber OperationAnswer.Found = 6
+
+-- The answer that a record's number names, for 1 to 5.
+unfoldable pub answerOf : ℕ → OperationAnswer
+answerOf n =
+    cond (eqb n 1) OperationAnswer.Inserted
+    (cond (eqb n 2) OperationAnswer.Present
+    (cond (eqb n 3) OperationAnswer.Deleted
+    (cond (eqb n 4) OperationAnswer.Absent OperationAnswer.NoPage)))
+
+-- The restructurings in the order in which document 01 lists them.
+unfoldable pub restructuringNumber : Restructuring → ℕ
+restructuringNumber Restructuring.None = 0
+restructuringNumber Restructuring.Split = 1
+restructuringNumber Restructuring.SplitSkipped = 2
+restructuringNumber Restructuring.Merged = 3
+restructuringNumber Restructuring.MergeSkipped = 4
+
+-- "Done at 12, 14 or 22 reports split where owed is 3, else none."
+unfoldable pub restructuringOf : ℕ → Restructuring
+restructuringOf owed = cond (eqb owed 3) Restructuring.Split Restructuring.None
+
+-- The number that a refused call returns; 0 where the call was not refused.
+unfoldable pub refusalNumber : StepAnswer → ℕ
+refusalNumber StepAnswer.Waiting = 0
+refusalNumber StepAnswer.Moved = 0
+refusalNumber (StepAnswer.Done a r) = 0
+refusalNumber (StepAnswer.Refused n) = n
+
+unfoldable pub beginRefusal : BeginAnswer → ℕ
+beginRefusal BeginAnswer.Begun = 0
+beginRefusal (BeginAnswer.Refused n) = n
+
+unfoldable pub formatRefusal : FormatAnswer → ℕ
+formatRefusal FormatAnswer.Formatted = 0
+formatRefusal (FormatAnswer.Refused n) = n

@@ -1,0 +1,29 @@
+-- Pages filled with a chain's records (document 01: "the first b in its primary page, the next b in its first overflow page, and so on").
+-- Main definitions: overflowNeeded; primaryOf (a chain's primary page); overflowWritten (its overflow pages).
+use mathlib.Core.Bool.{Bool, true, false, cond}
+use mathlib.Core.List.{List, [], _∷_}
+use Prim.Native.Nat.{ℕ, _+_, _-_, _/_}
+use lib.ListN.{length, take, drop}
+use Rattle.model.specs.Entries.{Entry}
+use Rattle.model.specs.Pages.{filledPage, withPage, linkToFirst}
+
+-- "m keys need ceil(m/b) − 1 overflow pages, none for m = 0": b keys a page, m keys.
+unfoldable pub overflowNeeded : ℕ → ℕ → ℕ
+overflowNeeded b m = (m + (b - 1)) / b - 1
+
+-- The overflow pages that a list of records needs.
+unfoldable pub pagesFor : ℕ → List Entry → ℕ
+pagesFor b es = overflowNeeded b (length es)
+
+-- The primary page of a chain with these records and the overflow pages xs.
+unfoldable pub primaryOf : ℕ → ℕ → List Entry → List ℕ → List ℕ
+primaryOf b level es xs = filledPage level (take b es) (linkToFirst xs)
+
+-- The page memory with the pages xs filled with the records es, b a page, each linked to the next.
+unfoldable pub filled : ℕ → List ℕ → List ℕ → List Entry → List ℕ
+filled b ps [] es = ps
+filled b ps (x ∷ xs) es = filled b (withPage ps x (filledPage 0 (take b es) (linkToFirst xs))) xs (drop b es)
+
+-- The page memory with the overflow pages of a chain written: the records after the first b.
+unfoldable pub overflowWritten : ℕ → List ℕ → List ℕ → List Entry → List ℕ
+overflowWritten b ps xs es = filled b ps xs (drop b es)

@@ -1,0 +1,148 @@
+-- Locks held, derived from the calls made and not from the lock words (demand 2): each grant adds a lock, each give-up takes it away.
+-- Main definitions: tableOne (Table I, its nine entries), Hold, permitted; givesUp (what each step gives up), holdsAfter; grantsRight (over a whole list).
+use mathlib.Core.Bool.{Bool, true, false, cond, not, _&&_, _||_}
+use mathlib.Core.List.{List, [], _∷_, _++_}
+use mathlib.Core.Option.{Option, none, some}
+use Prim.Native.Nat.{ℕ}
+use lib.Dec.{eqb}
+use Rattle.model.specs.declared.Party.{Party}
+use Rattle.model.specs.declared.Mode.{Mode}
+use Rattle.model.specs.declared.Mode.the-variants.{Read, Selective, Exclusive}
+use Rattle.model.specs.declared.StepAnswer.{StepAnswer}
+use Rattle.model.specs.declared.StepAnswer.the-variants as StepAnswer
+use Rattle.model.specs.LockWords.{Claim}
+use Rattle.model.specs.Memory.{Memory, partyAt}
+use Rattle.model.specs.Calls.{stepCall}
+use Rattle.model.specs.Runs.{Call, beginFor, stepFor, afterCall}
+use Rattle.model.specs.Links.{isMoved}
+use Rattle.model.specs.Steps.Locate.{rootRead, chainLock, otherLock}
+use Rattle.model.specs.Steps.Change.{chainSelective, chainExclusive}
+use Rattle.model.specs.Steps.Split.{rootSelective}
+use Rattle.model.specs.Steps.Merge.{rootExclusive, mergeLocks}
+use Rattle.model.specs.Steps.Dispatch.{wants}
+
+-- Table I: a request (first) beside a lock held (second): true to grant, false to wait.
+unfoldable pub tableOne : Mode → Mode → Bool
+tableOne Read Read = true
+tableOne Read Selective = true
+tableOne Read Exclusive = false
+tableOne Selective Read = true
+tableOne Selective Selective = false
+tableOne Selective Exclusive = false
+tableOne Exclusive Read = false
+tableOne Exclusive Selective = false
+tableOne Exclusive Exclusive = false
+
+-- A lock held: by which party, and which lock.
+pub record Hold : Type 0 where
+  pub party : ℕ
+  pub claim : Claim
+
+abbrev pub hold : ℕ → Claim → Hold
+hold q c = record { party = q; claim = c }
+
+-- Whether Table I permits a lock against the locks held on its word, the party's own among them.
+unfoldable pub permitted : List Hold → Claim → Bool
+permitted [] c = true
+permitted (h ∷ hs) c = (not (eqb (h .claim .word) (c .word)) || tableOne (c .mode) (h .claim .mode)) && permitted hs c
+
+-- ---- What a call grants and gives up
+
+unfoldable pub sameMode : Mode → Mode → Bool
+sameMode Read Read = true
+sameMode Read Selective = false
+sameMode Read Exclusive = false
+sameMode Selective Read = false
+sameMode Selective Selective = true
+sameMode Selective Exclusive = false
+sameMode Exclusive Read = false
+sameMode Exclusive Selective = false
+sameMode Exclusive Exclusive = true
+
+unfoldable pub isHold : ℕ → Claim → Hold → Bool
+isHold q c h = eqb (h .party) q && eqb (h .claim .word) (c .word) && sameMode (h .claim .mode) (c .mode)
+
+-- The holds without party q's hold of this lock, or of all these.
+unfoldable pub withoutOne : List Hold → ℕ → Claim → List Hold
+withoutOne [] q c = []
+withoutOne (h ∷ hs) q c = cond (isHold q c h) hs (h ∷ withoutOne hs q c)
+
+unfoldable pub withoutAll : List Hold → ℕ → List Claim → List Hold
+withoutAll hs q [] = hs
+withoutAll hs q (c ∷ cs) = withoutAll (withoutOne hs q c) q cs
+
+-- The locks that step k of a party gives up where it moves, and where it is done.
+unfoldable pub givesUpMoving : ℕ → Party → List Claim
+givesUpMoving k p =
+    cond (eqb k 5) (rootRead ∷ [])
+    (cond (eqb k 8) (otherLock p ∷ [])
+    (cond (eqb k 12) (chainSelective p ∷ [])
+    (cond (eqb k 14) (chainExclusive p ∷ [])
+    (cond (eqb k 19) (chainSelective p ∷ [])
+    (cond (eqb k 22) (rootSelective ∷ [])
+    (cond (eqb k 27) (rootExclusive ∷ []) []))))))
+
+unfoldable pub givesUpDone : ℕ → Party → List Claim
+givesUpDone k p =
+    cond (eqb k 9) (chainLock p ∷ [])
+    (cond (eqb k 16) (rootSelective ∷ [])
+    (cond (eqb k 17) (rootSelective ∷ (chainSelective p ∷ []))
+    (cond (eqb k 24) (rootExclusive ∷ [])
+    (cond (eqb k 26) (mergeLocks rootExclusive p)
+    (cond (eqb k 30) (mergeLocks rootSelective p) (givesUpMoving k p))))))
+
+unfoldable pub givesUp : ℕ → Party → StepAnswer → List Claim
+givesUp k p StepAnswer.Waiting = []
+givesUp k p StepAnswer.Moved = givesUpMoving k p
+givesUp k p (StepAnswer.Done a s) = givesUpDone k p
+givesUp k p (StepAnswer.Refused n) = []
+
+-- The lock that a step is granted: what it requested, where it moves; and at 27 root selectively, turned from exclusive.
+unfoldable pub requested : ℕ → Option Claim → Option Claim
+requested k none = cond (eqb k 27) (some rootSelective) none
+requested k (some c) = some c
+
+unfoldable pub withHeld : List Hold → ℕ → Option Claim → List Hold
+withHeld hs q none = hs
+withHeld hs q (some c) = hold q c ∷ hs
+
+-- The holds after a step of party q.
+unfoldable pub holdsAfterStep : List Hold → Memory → ℕ → List Hold
+holdsAfterStep hs m q =
+    let p = partyAt (m .parties) q in
+    let a = stepCall m q .answer in
+    let left = withoutAll hs q (givesUp (p .step) p a) in
+    cond (isMoved a) (withHeld left q (requested (p .step) (wants (m .root) p))) left
+
+unfoldable pub holdsAfter : List Hold → Memory → Call → List Hold
+holdsAfter hs m (beginFor q o k) = hs
+holdsAfter hs m (stepFor q) = holdsAfterStep hs m q
+
+-- ---- Grants
+
+-- Whether an answer to a request is right: moved where the lock is permitted, waiting where it is not. A refused call requests nothing.
+unfoldable pub grantRight : Bool → StepAnswer → Bool
+grantRight may StepAnswer.Waiting = not may
+grantRight may StepAnswer.Moved = may
+grantRight may (StepAnswer.Done a s) = false
+grantRight may (StepAnswer.Refused n) = true
+
+-- A step that requests nothing never waits.
+unfoldable pub neverWaits : StepAnswer → Bool
+neverWaits StepAnswer.Waiting = false
+neverWaits StepAnswer.Moved = true
+neverWaits (StepAnswer.Done a s) = true
+neverWaits (StepAnswer.Refused n) = true
+
+unfoldable pub answerRight : List Hold → Option Claim → StepAnswer → Bool
+answerRight hs none a = neverWaits a
+answerRight hs (some c) a = grantRight (permitted hs c) a
+
+unfoldable pub callRight : List Hold → Memory → Call → Bool
+callRight hs m (beginFor q o k) = true
+callRight hs m (stepFor q) = answerRight hs (wants (m .root) (partyAt (m .parties) q)) (stepCall m q .answer)
+
+-- Over a list of calls: a requesting step is granted exactly where Table I permits it against the locks held, else it waits.
+unfoldable pub grantsRight : List Hold → Memory → List Call → Bool
+grantsRight hs m [] = true
+grantsRight hs m (c ∷ cs) = callRight hs m c && grantsRight (holdsAfter hs m c) (afterCall m c) cs

@@ -1,0 +1,26 @@
+-- Document 01 as definitions, a file for each of its subjects, in its order.
+pub mod Sizes
+pub mod Records
+pub mod Answers
+pub mod LockWords
+pub mod Addresses
+pub mod Entries
+pub mod Pages
+pub mod Chains
+pub mod Filling
+pub mod FreeList
+pub mod Outcome
+pub mod Steps
+pub mod Memory
+pub mod Refusals
+pub mod Calls
+pub mod Runs
+pub mod Book
+pub mod Ready
+pub mod Cases
+pub mod Links
+pub mod Progress
+pub mod Effects
+pub mod Holds
+pub mod Sequential
+pub mod Demands

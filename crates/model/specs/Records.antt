@@ -1,0 +1,158 @@
+-- The root record and a party's record, changed one field at a time (document 01, "The lent memory").
+-- Here alone a record is written out in full: everything else goes through these updates, so that a new field is added in one place.
+-- Main definitions: idle (the zero record), atStep and the other updates.
+use Prim.Native.Nat.{ℕ}
+use Rattle.model.specs.declared.Root.{Root}
+use Rattle.model.specs.declared.Party.{Party}
+
+-- The root with another level.
+abbrev pub withLevel : ℕ → Root → Root
+withLevel x r = record {
+  originals = r .originals;
+  keys = r .keys;
+  chains = r .chains;
+  overflow = r .overflow;
+  parties = r .parties;
+  level = x;
+  next = r .next;
+  head = r .head;
+  free = r .free;
+}
+
+-- The root with another next.
+abbrev pub withNext : ℕ → Root → Root
+withNext x r = record {
+  originals = r .originals;
+  keys = r .keys;
+  chains = r .chains;
+  overflow = r .overflow;
+  parties = r .parties;
+  level = r .level;
+  next = x;
+  head = r .head;
+  free = r .free;
+}
+
+-- The root with another free list: its head, as a link word, and its length.
+abbrev pub withFreeList : ℕ → ℕ → Root → Root
+withFreeList h n r = record {
+  originals = r .originals;
+  keys = r .keys;
+  chains = r .chains;
+  overflow = r .overflow;
+  parties = r .parties;
+  level = r .level;
+  next = r .next;
+  head = h;
+  free = n;
+}
+
+-- A root record of the sizes given, N b P V Q, all else zero.
+abbrev pub rootOfSizes : ℕ → ℕ → ℕ → ℕ → ℕ → Root
+rootOfSizes n b p v q = record { originals = n; keys = b; chains = p; overflow = v; parties = q; level = 0; next = 0; head = 0; free = 0 }
+
+-- The zero record: a party that is idle.
+abbrev pub idle : Party
+idle = record { operation = 0; key = 0; step = 0; lev = 0; chain = 0; other = 0; old = 0; owed = 0; answer = 0 }
+
+-- "A begin sets operation, key and step 1 and zeroes the rest."
+abbrev pub begun : ℕ → ℕ → Party
+begun o k = record { operation = o; key = k; step = 1; lev = 0; chain = 0; other = 0; old = 0; owed = 0; answer = 0 }
+
+-- The party at another step number.
+abbrev pub atStep : ℕ → Party → Party
+atStep x p = record {
+  operation = p .operation;
+  key = p .key;
+  step = x;
+  lev = p .lev;
+  chain = p .chain;
+  other = p .other;
+  old = p .old;
+  owed = p .owed;
+  answer = p .answer;
+}
+
+-- The party with another lev.
+abbrev pub withLev : ℕ → Party → Party
+withLev x p = record {
+  operation = p .operation;
+  key = p .key;
+  step = p .step;
+  lev = x;
+  chain = p .chain;
+  other = p .other;
+  old = p .old;
+  owed = p .owed;
+  answer = p .answer;
+}
+
+-- The party with another chain.
+abbrev pub withChain : ℕ → Party → Party
+withChain x p = record {
+  operation = p .operation;
+  key = p .key;
+  step = p .step;
+  lev = p .lev;
+  chain = x;
+  other = p .other;
+  old = p .old;
+  owed = p .owed;
+  answer = p .answer;
+}
+
+-- The party with another other chain.
+abbrev pub withOther : ℕ → Party → Party
+withOther x p = record {
+  operation = p .operation;
+  key = p .key;
+  step = p .step;
+  lev = p .lev;
+  chain = p .chain;
+  other = x;
+  old = p .old;
+  owed = p .owed;
+  answer = p .answer;
+}
+
+-- The party with another old overflow link.
+abbrev pub withOld : ℕ → Party → Party
+withOld x p = record {
+  operation = p .operation;
+  key = p .key;
+  step = p .step;
+  lev = p .lev;
+  chain = p .chain;
+  other = p .other;
+  old = x;
+  owed = p .owed;
+  answer = p .answer;
+}
+
+-- The party with another restructuring owed.
+abbrev pub withOwed : ℕ → Party → Party
+withOwed x p = record {
+  operation = p .operation;
+  key = p .key;
+  step = p .step;
+  lev = p .lev;
+  chain = p .chain;
+  other = p .other;
+  old = p .old;
+  owed = x;
+  answer = p .answer;
+}
+
+-- The party with another answer so far.
+abbrev pub withAnswer : ℕ → Party → Party
+withAnswer x p = record {
+  operation = p .operation;
+  key = p .key;
+  step = p .step;
+  lev = p .lev;
+  chain = p .chain;
+  other = p .other;
+  old = p .old;
+  owed = p .owed;
+  answer = x;
+}

@@ -1,0 +1,86 @@
+-- The refusal table and the damage tests that every step makes (document 01, "Refused calls").
+-- Main definitions: Row, firstCause (tests run in the table's order); lengthsFit; recordSound (the tests of damage on root and record); the rows of each call.
+use mathlib.Core.Bool.{Bool, true, false, cond, not, _&&_, _||_}
+use mathlib.Core.List.{List, [], _∷_}
+use Prim.Native.Nat.{ℕ}
+use lib.ListN.{length}
+use lib.Dec.{ltb, leb, eqb}
+use Rattle.model.specs.declared.Root.{Root}
+use Rattle.model.specs.declared.Party.{Party}
+use Rattle.model.specs.Sizes.{withinLimits, lockWords, allPageWords}
+use Rattle.model.specs.Addresses.{span, chainCount}
+use Rattle.model.specs.Outcome.{damage}
+use Rattle.model.specs.Memory.{Memory, partyAt}
+use Rattle.model.specs.Steps.Dispatch.{hasStep}
+
+-- One row of the table: whether its cause is met, and the number returned.
+pub record Row : Type 0 where
+  pub met : Bool
+  pub number : ℕ
+
+abbrev pub row : Bool → ℕ → Row
+row b n = record { met = b; number = n }
+
+-- "Tests run in the table's order": the number of the first cause met, 0 for none.
+unfoldable pub firstCause : List Row → ℕ
+firstCause [] = 0
+firstCause (x ∷ xs) = cond (x .met) (x .number) (firstCause xs)
+
+-- "a lent length other than Q records, P+1 lock words or 16 × (P+V+Q) page words".
+unfoldable pub lengthsFit : Root → Memory → Bool
+lengthsFit r m = eqb (length (m .parties)) (r .parties) && eqb (length (m .locks)) (lockWords r) && eqb (length (m .pages)) (allPageWords r)
+
+-- The rows, each with the causes in document 01's words.
+abbrev pub sizeRow : Root → Row
+sizeRow r = row (not (withinLimits r)) 2
+
+abbrev pub lengthRow : Root → Memory → Row
+lengthRow r m = row (not (lengthsFit r m)) 1
+
+abbrev pub partyRow : Root → ℕ → Row
+partyRow r q = row (leb (r .parties) q) 3
+
+abbrev pub isIdle : Party → Bool
+isIdle p = eqb (p .operation) 0
+
+abbrev pub busyRow : Party → Row
+busyRow p = row (not (isIdle p)) 4
+
+abbrev pub idleRow : Party → Row
+idleRow p = row (isIdle p) 5
+
+-- ---- Damage, on the root and the party's record
+
+-- "level above 8, next not below N × 2^level, n above P, or free count above V".
+unfoldable pub rootSound : Root → Bool
+rootSound r =
+    leb (r .level) 8 && ltb (r .next) (span (r .originals) (r .level)) && leb (chainCount (r .originals) (r .level) (r .next)) (r .chains)
+    && leb (r .free) (r .overflow)
+
+-- "operation above 3; a step the operation lacks; lev above 9; owed above 3; an answer above 5, or 0 from step 12 on; a chain or other chain at or above P".
+unfoldable pub partySound : Root → Party → Bool
+partySound r p =
+    leb (p .operation) 3 && hasStep (p .operation) (p .step) && leb (p .lev) 9 && leb (p .owed) 3
+    && leb (p .answer) 5 && (ltb (p .step) 12 || not (eqb (p .answer) 0)) && ltb (p .chain) (r .chains) && ltb (p .other) (r .chains)
+
+unfoldable pub recordSound : Root → Party → Bool
+recordSound r p = rootSound r && partySound r p
+
+abbrev pub damageRow : Root → Party → Row
+damageRow r p = row (not (recordSound r p)) damage
+
+-- ---- The rows of each call
+
+-- Format: the sizes given, and the lengths against them.
+unfoldable pub formatRows : Root → Memory → List Row
+formatRows r m = sizeRow r ∷ (lengthRow r m ∷ [])
+
+-- Begin, for party q.
+unfoldable pub beginRows : Memory → ℕ → List Row
+beginRows m q = sizeRow (m .root) ∷ (lengthRow (m .root) m ∷ (partyRow (m .root) q ∷ (busyRow (partyAt (m .parties) q) ∷ [])))
+
+-- Step, for party q; the tests of damage that go by the step number are the step's own.
+unfoldable pub stepRows : Memory → ℕ → List Row
+stepRows m q =
+    sizeRow (m .root)
+    ∷ (lengthRow (m .root) m ∷ (partyRow (m .root) q ∷ (idleRow (partyAt (m .parties) q) ∷ (damageRow (m .root) (partyAt (m .parties) q) ∷ []))))

@@ -1,0 +1,18 @@
+-- `split_steps::step_18` meets its contract.
+use Rattle.model.specs.Steps.Split.{step18}
+use borrow.Author.Needs.{needs}
+use Rattle.split_steps.proofs.step_18.Statement.{statement}
+use Rattle.split_steps.proofs.step_18.Tie as tie
+
+primary-written-requires : tie.Need-primary-written-requires
+primary-written-requires c κs = search needs
+
+same-length : tie.Need-same-length
+same-length c = search needs
+
+returns : tie.Need-returns
+unfolding step18
+returns c = c .before .before .primary-written .ensures (c .before .before .before .before .before .before .args .locks .now)
+
+pub step-18-spec : {M : Type 1} → statement M
+step-18-spec = tie.close (tie.spec primary-written-requires same-length returns)

@@ -1,0 +1,322 @@
+# Replays stored transcripts and single calls through the definitions, inside the proof checker.
+# Each becomes claims, equations between closed terms. All claims make one crate of a scratch repository, and the checker proves each by computing both sides.
+# Main parts: read_transcript and read_call (from files to claims), Scratch.refused_among (one run of the checker), first_failures (each refused claim pinned to a line).
+import json
+import re
+import shutil
+import subprocess
+from dataclasses import dataclass
+
+from forms import OPERATIONS, UNREAD, lines_of, read_form, read_reply
+
+# Words of page memory times calls: a transcript above it is left to the compiled program. The checker stops at 50,000,000 steps a claim, which about 5,000,000 of
+# these use up; the bound also keeps a transcript to seconds.
+BOUND = 500_000
+
+# Tests of a run that must be true of every stretch of begins and steps after a format: `m` is the memory that the format left, `calls` the stretch.
+# A test is passed over where the definitions do not have its names.
+CHECKS = [
+    "Book.bookAgrees Book.emptyBook (Runs.events m calls)",
+    "Links.linksFresh Links.clockStart m calls",
+    "Progress.alwaysProgresses m calls",
+    "Holds.grantsRight [] m calls",
+]
+
+# The fields of a root record and of a party's record, in the order of the words in a file of single calls.
+ROOT_FIELDS = "originals keys chains overflow parties level next head free".split()
+PARTY_FIELDS = "operation key step lev chain other old owed answer".split()
+
+HEADER = """\
+use mathlib.Core.Path.{_≡_, refl}
+use mathlib.Core.List.{List, [], _∷_}
+use mathlib.Core.Bool.{Bool, true, false}
+use Prim.Native.Nat.{ℕ, _+_, _*_}
+use lib.ListN.{replicate}
+"""
+MODULES = ["Sizes", "Records", "Memory", "Calls", "Runs"]
+TYPES = ["Root", "Party", "FormatAnswer", "BeginAnswer", "StepAnswer"]
+ENUMS = ["Operation", "OperationAnswer", "Restructuring", "FormatAnswer", "BeginAnswer", "StepAnswer"]
+
+HARNESS = """
+data Form : Type 0 where
+  format : ℕ → ℕ → ℕ → ℕ → ℕ → Form
+  call : Runs.Call → Form
+
+data Reply : Type 0 where
+  toFormat : FormatAnswer → Reply
+  toBegin : BeginAnswer → Reply
+  toStep : StepAnswer → Reply
+
+abbrev memory : Root → List Party → List ℕ → List ℕ → Memory.Memory
+memory r ps ls ws = record { root = r; parties = ps; locks = ls; pages = ws }
+
+-- "memory starts zero".
+abbrev blank : Memory.Memory
+blank = memory (Records.rootOfSizes 0 0 0 0 0) [] [] []
+
+-- Memory of the lengths that the sizes ask for. Sizes outside their limits are refused whatever is lent: the memory stays as it was.
+abbrev lent : Memory.Memory → ℕ → ℕ → ℕ → ℕ → ℕ → Memory.Memory
+lent m n b p v q = elim (Sizes.withinLimits (Records.rootOfSizes n b p v q)) [
+    true ↦ memory (m .root) (replicate q Records.idle) (replicate (p + 1) 0) (replicate (16 * (p + v + q)) 0)
+  | false ↦ m ]
+
+-- After a refused format the earlier file stays.
+abbrev kept : Memory.Memory → Calls.Called FormatAnswer → Memory.Memory
+kept m c = elim (c .answer) [ FormatAnswer.Formatted ↦ c .memory | FormatAnswer.Refused n ↦ m ]
+
+abbrev afterFormat : ℕ → ℕ → ℕ → ℕ → ℕ → Memory.Memory
+afterFormat n b p v q = kept blank (Calls.formatCall (lent blank n b p v q) n b p v q)
+
+abbrev replies : Memory.Memory → List Form → List Reply
+replies m [] = []
+replies m (format n b p v q ∷ fs) = (let c = Calls.formatCall (lent m n b p v q) n b p v q in toFormat (c .answer) ∷ replies (kept m c) fs)
+replies m (call (Runs.beginFor q o k) ∷ fs) = (let c = Calls.beginCall m q o k in toBegin (c .answer) ∷ replies (c .memory) fs)
+replies m (call (Runs.stepFor q) ∷ fs) = (let c = Calls.stepCall m q in toStep (c .answer) ∷ replies (c .memory) fs)
+"""
+
+
+# ---- Terms
+
+
+def listed(terms):
+    return "(" + " ∷ ".join([*terms, "[]"]) + ")"
+
+
+def spaced(numbers):
+    return " ".join(str(number) for number in numbers)
+
+
+def run_call(form):
+    if form.kind == "begin":
+        return f"Runs.beginFor {form.numbers[0]} {OPERATIONS[form.operation]} {form.numbers[1]}"
+    return f"Runs.stepFor {form.numbers[0]}"
+
+
+def form_term(form):
+    return f"format {spaced(form.numbers)}" if form.kind == "format" else f"call ({run_call(form)})"
+
+
+# The call that a form makes on the memory named.
+def call_on(form, memory):
+    if form.kind == "begin":
+        return f"Calls.beginCall {memory} {form.numbers[0]} {OPERATIONS[form.operation]} {form.numbers[1]}"
+    return f"Calls.{form.kind}Call {memory} {spaced(form.numbers)}"
+
+
+def memory_term(memory):
+    root = f"(rootOf {spaced(words(memory['root'], len(ROOT_FIELDS)))})"
+    parties = listed(f"partyOf {spaced(words(party, len(PARTY_FIELDS)))}" for party in memory["parties"])
+    return f"memory {root} {parties} {listed(map(str, words(memory['locks'])))} {listed(map(str, words(memory['pages'])))}"
+
+
+# The value where it is a list of 32-bit words, of the length given if one is.
+def words(value, length=None):
+    if not all(type(word) is int and 0 <= word < 2**32 for word in value) or length not in (None, len(value)):
+        raise ValueError("not a row of 32-bit words")
+    return value
+
+
+# ---- Claims
+
+
+# The text of a definition, and of a claim about defined terms.
+def defined(name, type_of, term):
+    return f"\nabbrev {name} : {type_of}\n{name} = {term}\n"
+
+
+def claimed(name, left, right):
+    return f"\n{name} : {left} ≡ {right}\nunfolding opened\n{name} = refl {{a = {right}}}\n"
+
+
+# A claim has a file, items that each begin with a line of it, what is wrong where it fails, and the text that claims it of the first so many items.
+
+
+# That the definitions reply to a transcript's forms as printed: items are the line of each form, the form and the answer.
+@dataclass
+class Replies:
+    file: str
+    items: list
+    wrong: str = "the definitions reply otherwise"
+
+    def text(self, name, count):
+        items = self.items[:count]
+        forms = listed(form_term(form) for _, form, _ in items)
+        answers = listed(f"to{form.kind.capitalize()} ({answer})" for _, form, answer in items)
+        given = defined(f"forms-{name}", "List Form", forms) + defined(f"right-{name}", "List Reply", answers)
+        return given + claimed(name, f"replies blank forms-{name}", f"right-{name}")
+
+
+# That a check is true of a stretch of calls after a format: items are the line of each call and the call.
+@dataclass
+class Stretch:
+    file: str
+    items: list
+    wrong: str
+    check: str
+    format: object
+
+    def text(self, name, count):
+        calls = listed(run_call(form) for _, form in self.items[:count])
+        given = defined(f"calls-{name}", "List Runs.Call", calls)
+        return given + claimed(name, f"{self.check} (afterFormat {spaced(self.format.numbers)}) calls-{name}", "true")
+
+
+# That a call on given words leaves the reply and the words given: one item, its line. `after` is None where nothing changes.
+@dataclass
+class SingleCall:
+    file: str
+    items: list
+    form: object
+    answer: str
+    before: str
+    after: str
+    wrong: str = "the definitions reply or leave the memory otherwise"
+
+    def text(self, name, count):
+        before = f"before-{name}"
+        after = f"({self.after})" if self.after else before
+        right = defined(f"right-{name}", f"Calls.Called {self.form.kind.capitalize()}Answer", f"Calls.called ({self.answer}) {after}")
+        return defined(before, "Memory.Memory", self.before) + right + claimed(name, call_on(self.form, before), f"right-{name}")
+
+
+# ---- Reading the files
+
+
+# The items of a transcript up to its first line that no definition is needed to find wrong, and that line's number or 0.
+def read_transcript(script, printed):
+    asked, said = lines_of(script), lines_of(printed)
+    items = []
+    for line, text in enumerate(asked, 1):
+        form = read_form(text)
+        reply = said[line - 1] if line <= len(said) else b""
+        answer = read_reply(form, reply) if form else None
+        if (form and not answer) or (not form and reply != UNREAD):
+            return items, line
+        if form:
+            items.append((line, form, answer))
+    if len(said) > len(asked):
+        return items, len(asked) + 1
+    return items, len(said) if said and not printed.endswith(b"\n") else 0
+
+
+# Words of page memory times calls.
+def work(items):
+    return max((form.page_words() for _, form, _ in items), default=0) * len(items)
+
+
+# The stretches of a transcript: each format that was answered ok, and the calls up to the next such, if there are any.
+def stretches(items):
+    found = []
+    for line, form, answer in items:
+        if answer == "FormatAnswer.Formatted":
+            found.append((form, []))
+        elif form.kind != "format" and found:
+            found[-1][1].append((line, form))
+    return [(form, calls) for form, calls in found if calls]
+
+
+# The claims that a transcript makes: its replies, and every check of its stretches.
+def transcript_claims(file, items, checks):
+    claims = [Replies(file, items)]
+    for name, expression in checks.items():
+        wrong = f"{expression.split()[0]} is false"
+        claims += [Stretch(file, calls, wrong, name, form) for form, calls in stretches(items)]
+    return claims
+
+
+# What read_call raises for a line that is no call.
+NO_CALL = (ValueError, KeyError, TypeError, AttributeError)
+
+
+# The claim of one line of a file of single calls.
+def read_call(file, line, text):
+    told = json.loads(text)
+    form = read_form(told["call"].encode())
+    answer = read_reply(form, told["reply"].encode()) if form else None
+    if not answer:
+        raise ValueError("no call or no reply")
+    after = None if told["after"] is None else memory_term(told["after"])
+    return SingleCall(file, [(line,)], form, answer, memory_term(told["before"]), after)
+
+
+# ---- The checker
+
+
+class CheckerTrouble(Exception):
+    pass
+
+
+# The names that the definitions export, as Module.name, and those of them that a proof may unfold.
+def exported_names(specs):
+    names, unfoldable = set(), []
+    for file in sorted(specs.rglob("*.antt")):
+        module = ".".join(file.relative_to(specs).with_suffix("").parts)
+        for mark, name in re.findall(r"^ *(unfoldable )?(?:abbrev )?pub (\S+)(?: \{[^}]*\})? :", file.read_text(encoding="utf-8"), re.M):
+            names.add(f"{module}.{name}")
+            if mark:
+                unfoldable.append(f"Rattle.model.specs.{module}.{name}")
+    return names, unfoldable
+
+
+# The names of the definitions that a check uses, as Module.name.
+def names_in(check):
+    return re.findall(r"[A-Z]\w*\.[^\s()]+", check)
+
+
+# A scratch repository in the folder given: the definitions without their proofs, and the crate `replay` of claims.
+class Scratch:
+    def __init__(self, folder, model):
+        self.folder = folder
+        self.replay = folder / "crates/replay"
+        for part in ("src", "specs"):
+            shutil.copytree(model / part, folder / "crates/model" / part)
+            (self.replay / part).mkdir(parents=True)
+        (folder / "crates.txt").write_text("model:\nreplay: model\n")
+        (self.replay / "src/lib.rt").write_text("// Claims about the definitions. There is no code.\n")
+        (self.replay / "specs/Lib.antt").write_text("pub mod Claims\n")
+        names, self.unfoldable = exported_names(model / "specs")
+        known = [check for check in CHECKS if names.issuperset(names_in(check))]
+        self.checks = {f"check-{i}": check for i, check in enumerate(known)}
+
+    # What stands above the claims. `opened` unfolds every definition where it is named.
+    def preamble(self):
+        modules = MODULES + [name.split(".")[0] for check in self.checks.values() for name in names_in(check)]
+        uses = [f"use Rattle.model.specs.{module}" for module in dict.fromkeys(modules)]
+        uses += [f"use Rattle.model.specs.declared.{name}.{{{name}}}" for name in TYPES]
+        uses += [f"use Rattle.model.specs.declared.{name}.the-variants as {name}" for name in ENUMS]
+        parts = [HEADER, "\n".join(uses), "\n", HARNESS, record_maker("rootOf", "Root", ROOT_FIELDS), record_maker("partyOf", "Party", PARTY_FIELDS)]
+        parts += [f"\nabbrev {name} : Memory.Memory → List Runs.Call → Bool\n{name} m calls = {check}\n" for name, check in self.checks.items()]
+        parts += ["\nopened : ℕ\nunfolding " + " ".join(self.unfoldable) + "\nopened = 0\n"]
+        return "".join(parts)
+
+    # Has the checker judge the claims, each of its first so many items: the indices of those it refuses, and of those at which it met a limit of its own.
+    def refused_among(self, claims, counts):
+        texts = [claim.text(f"claim-{i}", count) for i, (claim, count) in enumerate(zip(claims, counts))]
+        (self.replay / "specs/Claims.antt").write_text(self.preamble() + "".join(texts), encoding="utf-8")
+        run = subprocess.run(["rt", "check", "replay"], cwd=self.folder, capture_output=True, encoding="utf-8", errors="replace")
+        errors = re.findall(r"^.*: error: `claim-(\d+)`: (.*)", run.stdout, re.M)
+        if run.returncode != 0 and (not errors or len(errors) != run.stdout.count(": error: ")):
+            raise CheckerTrouble(run.stdout + run.stderr)
+        no_verdict = "rattle: no verdict" in run.stdout
+        limit = {int(i) for i, said in errors if no_verdict or "step limit" in said}
+        return {int(i) for i, _ in errors} - limit, limit
+
+
+def record_maker(name, type_of, fields):
+    arguments = [f"x{i}" for i in range(len(fields))]
+    body = "; ".join(f"{field} = {argument}" for field, argument in zip(fields, arguments))
+    return f"\nabbrev {name} : {'ℕ → ' * len(fields)}{type_of}\n{name} {' '.join(arguments)} = record {{ {body} }}\n"
+
+
+# For each refused claim the line of the first item with which it fails, by halving: it holds of the first `low` items and fails of the first `high`.
+def first_failures(scratch, claims):
+    low, high = [0] * len(claims), [len(claim.items) for claim in claims]
+    while True:
+        wide = [i for i in range(len(claims)) if high[i] - low[i] > 1]
+        if not wide:
+            return [claim.items[count - 1][0] for claim, count in zip(claims, high)]
+        middle = [(low[i] + high[i]) // 2 for i in wide]
+        refused, limit = scratch.refused_among([claims[i] for i in wide], middle)
+        for place, i in enumerate(wide):
+            side = high if place in refused | limit else low
+            side[i] = middle[place]

@@ -1,0 +1,155 @@
+//! The linear hash file: bucket chains as lists of keys, and each operation as a whole.
+//! A chain that changes is built anew in free pages before its old pages are free again.
+
+use crate::{AddressSpace, Answer, Operation, Outcome, Restructuring, Sizes};
+
+#[derive(Clone, Debug, PartialEq, Eq)]
+pub struct HashFile {
+    sizes: Sizes,
+    space: AddressSpace,
+    /// The keys of each chain, ascending.
+    chains: Vec<Vec<u32>>,
+}
+
+impl HashFile {
+    /// An empty file; none where a size is outside its limits.
+    pub fn format(sizes: Sizes) -> Option<Self> {
+        if !sizes.within_limits() {
+            return None;
+        }
+        Some(HashFile {
+            sizes,
+            space: AddressSpace::new(sizes.originals),
+            chains: vec![Vec::new(); sizes.originals as usize],
+        })
+    }
+
+    pub fn sizes(&self) -> Sizes {
+        self.sizes
+    }
+
+    pub fn space(&self) -> AddressSpace {
+        self.space
+    }
+
+    pub fn chains(&self) -> &[Vec<u32>] {
+        &self.chains
+    }
+
+    /// The overflow pages in no chain.
+    pub fn free_pages(&self) -> usize {
+        let used: usize = self.chains.iter().map(|keys| self.pages_for(keys)).sum();
+        self.sizes.overflow_pages as usize - used
+    }
+
+    pub fn perform(&mut self, operation: Operation) -> Outcome {
+        match operation {
+            Operation::Find(key) => self.find(key),
+            Operation::Insert(key) => self.insert(key),
+            Operation::Delete(key) => self.delete(key),
+        }
+    }
+
+    pub fn find(&self, key: u32) -> Outcome {
+        match self.chains[self.home(key)].binary_search(&key) {
+            Ok(_) => Answer::Found.into(),
+            Err(_) => Answer::Absent.into(),
+        }
+    }
+
+    /// Inserts a key; splits where its chain has more overflow pages than before.
+    pub fn insert(&mut self, key: u32) -> Outcome {
+        let home = self.home(key);
+        let mut keys = self.chains[home].clone();
+        match keys.binary_search(&key) {
+            Ok(_) => return Answer::Present.into(),
+            Err(place) => keys.insert(place, key),
+        }
+        let old_pages = self.pages_for(&self.chains[home]);
+        let new_pages = self.pages_for(&keys);
+        if new_pages > self.free_pages() {
+            return Answer::NoPage.into();
+        }
+        self.chains[home] = keys;
+        let restructuring = if new_pages > old_pages {
+            self.split()
+        } else {
+            Restructuring::None
+        };
+        Outcome {
+            answer: Answer::Inserted,
+            restructuring,
+        }
+    }
+
+    /// Deletes a key; merges where its chain is left empty.
+    pub fn delete(&mut self, key: u32) -> Outcome {
+        let home = self.home(key);
+        let mut keys = self.chains[home].clone();
+        match keys.binary_search(&key) {
+            Ok(place) => keys.remove(place),
+            Err(_) => return Answer::Absent.into(),
+        };
+        if self.pages_for(&keys) > self.free_pages() {
+            return Answer::NoPage.into();
+        }
+        let emptied = keys.is_empty();
+        self.chains[home] = keys;
+        let restructuring = if emptied {
+            self.merge()
+        } else {
+            Restructuring::None
+        };
+        Outcome {
+            answer: Answer::Deleted,
+            restructuring,
+        }
+    }
+
+    /// Divides chain `next` between itself and a new last chain; skipped at P chains, or where both
+    /// halves need more pages than are free.
+    fn split(&mut self) -> Restructuring {
+        let AddressSpace { level, next, .. } = self.space;
+        if self.space.chains() == self.sizes.most_chains {
+            return Restructuring::SplitSkipped;
+        }
+        let keys = self.chains[next as usize].iter();
+        let (staying, going): (Vec<u32>, Vec<u32>) =
+            keys.partition(|key| self.space.hash(level + 1, **key) == next);
+        if self.pages_for(&staying) + self.pages_for(&going) > self.free_pages() {
+            return Restructuring::SplitSkipped;
+        }
+        self.chains[next as usize] = staying;
+        self.chains.push(going);
+        self.space = self.space.after_split();
+        Restructuring::Split
+    }
+
+    /// Joins the last chain to its target; skipped at N chains, or where the joined chain needs more
+    /// pages than are free.
+    fn merge(&mut self) -> Restructuring {
+        let target = match self.space.merge_target() {
+            Some(target) => target,
+            None => return Restructuring::MergeSkipped,
+        };
+        let partner = self.chains.len() - 1;
+        let pair = [&self.chains[target as usize][..], &self.chains[partner]];
+        let mut joined = pair.concat();
+        joined.sort_unstable();
+        if self.pages_for(&joined) > self.free_pages() {
+            return Restructuring::MergeSkipped;
+        }
+        self.chains.pop();
+        self.chains[target as usize] = joined;
+        self.space = self.space.after_merge(target);
+        Restructuring::Merged
+    }
+
+    fn home(&self, key: u32) -> usize {
+        self.space.address(key) as usize
+    }
+
+    fn pages_for(&self, keys: &[u32]) -> usize {
+        self.sizes.overflow_pages_for(keys.len())
+    }
+}

@@ -1,0 +1,214 @@
+//! Short runs worked out by hand: splits, merges and shortages, with the chains that each leaves.
+
+use sequential::{HashFile, Operation, Sizes};
+
+/// A file of N, b, P and V.
+fn formatted([originals, keys_a_page, most_chains, overflow_pages]: [u32; 4]) -> HashFile {
+    let sizes = Sizes {
+        originals,
+        keys_a_page,
+        most_chains,
+        overflow_pages,
+        parties: 1,
+    };
+    HashFile::format(sizes).expect("sizes within their limits")
+}
+
+/// Performs each operation and compares what it reports.
+fn run(file: &mut HashFile, script: &[(Operation, &str)]) {
+    for (operation, report) in script {
+        let said = file.perform(*operation).to_string();
+        assert_eq!(said, format!("(done {report})"), "{operation:?}");
+    }
+}
+
+/// Inserts keys that all go in and bring about no restructuring.
+fn fill(file: &mut HashFile, keys: &[u32]) {
+    for key in keys {
+        run(file, &[(Operation::Insert(*key), "inserted none")]);
+    }
+}
+
+/// Compares level, next, the free pages and the chains.
+fn expect(file: &HashFile, root: (u32, u32), free_pages: usize, chains: &[&[u32]]) {
+    assert_eq!((file.space().level, file.space().next), root);
+    assert_eq!(file.free_pages(), free_pages);
+    assert_eq!(file.chains(), chains);
+}
+
+/// The insertion of 42 that Ellis walks through: an overflow in chain 2 splits chain 0.
+#[test]
+fn an_overflow_splits_the_chain_that_is_next() {
+    let mut file = formatted([2, 2, 8, 8]);
+    fill(&mut file, &[4, 0]);
+    run(&mut file, &[(Operation::Insert(20), "inserted split")]);
+    fill(&mut file, &[8, 1, 3]);
+    run(&mut file, &[(Operation::Insert(5), "inserted split")]);
+    fill(&mut file, &[2, 6]);
+    expect(&file, (1, 0), 7, &[&[0, 4, 8, 20], &[1, 5], &[2, 6], &[3]]);
+    run(&mut file, &[(Operation::Insert(42), "inserted split")]);
+    let chains: [&[u32]; 5] = [&[0, 8], &[1, 5], &[2, 6, 42], &[3], &[4, 20]];
+    expect(&file, (1, 1), 7, &chains);
+    run(
+        &mut file,
+        &[
+            (Operation::Find(20), "found none"),
+            (Operation::Find(12), "absent none"),
+            (Operation::Insert(42), "present none"),
+            (Operation::Delete(10), "absent none"),
+        ],
+    );
+    expect(&file, (1, 1), 7, &chains);
+}
+
+#[test]
+fn a_split_is_skipped_at_the_most_chains() {
+    let mut file = formatted([1, 1, 1, 3]);
+    fill(&mut file, &[7]);
+    run(
+        &mut file,
+        &[
+            (Operation::Insert(5), "inserted split-skipped"),
+            (Operation::Insert(9), "inserted split-skipped"),
+            (Operation::Insert(4294967295), "no-page none"),
+        ],
+    );
+    expect(&file, (0, 0), 1, &[&[5, 7, 9]]);
+}
+
+/// Both halves need pages while the chain still holds its own.
+#[test]
+fn a_split_is_skipped_for_want_of_pages() {
+    let script = |last| {
+        [
+            (Operation::Insert(0), "inserted none"),
+            (Operation::Insert(2), last),
+        ]
+    };
+    let mut file = formatted([1, 1, 4, 1]);
+    run(&mut file, &script("inserted split-skipped"));
+    expect(&file, (0, 0), 0, &[&[0, 2]]);
+    let mut file = formatted([1, 1, 4, 2]);
+    run(&mut file, &script("inserted split"));
+    expect(&file, (1, 0), 1, &[&[0, 2], &[]]);
+}
+
+/// The split finds the page that its insert gave back.
+#[test]
+fn an_insert_gives_its_old_pages_back_before_the_split() {
+    let mut file = formatted([1, 1, 4, 3]);
+    run(
+        &mut file,
+        &[
+            (Operation::Insert(0), "inserted none"),
+            (Operation::Insert(2), "inserted split"),
+            (Operation::Insert(4), "inserted split"),
+        ],
+    );
+    expect(&file, (1, 1), 2, &[&[0, 4], &[], &[2]]);
+}
+
+/// A change needs pages for the whole new chain, even where it makes the chain shorter.
+#[test]
+fn a_change_is_refused_for_want_of_pages() {
+    let mut file = formatted([2, 1, 2, 3]);
+    fill(&mut file, &[0]);
+    run(
+        &mut file,
+        &[
+            (Operation::Insert(2), "inserted split-skipped"),
+            (Operation::Insert(4), "inserted split-skipped"),
+            (Operation::Insert(1), "inserted none"),
+            (Operation::Insert(3), "inserted split-skipped"),
+            (Operation::Delete(4), "no-page none"),
+            (Operation::Insert(5), "no-page none"),
+            (Operation::Insert(4), "present none"),
+            (Operation::Delete(6), "absent none"),
+            (Operation::Find(4), "found none"),
+        ],
+    );
+    expect(&file, (0, 0), 0, &[&[0, 2, 4], &[1, 3]]);
+    run(
+        &mut file,
+        &[
+            (Operation::Delete(3), "deleted none"),
+            (Operation::Delete(4), "deleted none"),
+        ],
+    );
+    expect(&file, (0, 0), 2, &[&[0, 2], &[1]]);
+}
+
+/// The chain emptied need not be one of the two that are joined.
+#[test]
+fn an_emptied_chain_merges_the_last_chain() {
+    let mut file = formatted([2, 1, 3, 2]);
+    fill(&mut file, &[0]);
+    run(&mut file, &[(Operation::Insert(2), "inserted split")]);
+    fill(&mut file, &[1]);
+    run(&mut file, &[(Operation::Delete(1), "deleted merged")]);
+    expect(&file, (0, 0), 1, &[&[0, 2], &[]]);
+    run(
+        &mut file,
+        &[
+            (Operation::Delete(0), "deleted none"),
+            (Operation::Delete(2), "deleted merge-skipped"),
+        ],
+    );
+    expect(&file, (0, 0), 2, &[&[], &[]]);
+}
+
+#[test]
+fn a_merge_is_skipped_for_want_of_pages() {
+    let mut file = formatted([2, 1, 3, 2]);
+    fill(&mut file, &[0]);
+    run(&mut file, &[(Operation::Insert(2), "inserted split")]);
+    fill(&mut file, &[1]);
+    run(
+        &mut file,
+        &[
+            (Operation::Insert(3), "inserted split-skipped"),
+            (Operation::Insert(4), "inserted split-skipped"),
+            (Operation::Delete(2), "deleted merge-skipped"),
+        ],
+    );
+    expect(&file, (0, 1), 0, &[&[0, 4], &[1, 3], &[]]);
+    run(
+        &mut file,
+        &[
+            (Operation::Delete(3), "deleted none"),
+            (Operation::Delete(1), "deleted merged"),
+        ],
+    );
+    expect(&file, (0, 0), 1, &[&[0, 4], &[]]);
+}
+
+/// A merge in the middle of a round moves next back by one and leaves level.
+#[test]
+fn a_merge_moves_next_back() {
+    let mut file = formatted([2, 1, 8, 4]);
+    for key in [0, 2, 1, 3, 4] {
+        file.insert(key);
+    }
+    expect(&file, (1, 1), 4, &[&[0], &[1], &[2], &[3], &[4]]);
+    run(&mut file, &[(Operation::Delete(3), "deleted merged")]);
+    expect(&file, (1, 0), 3, &[&[0, 4], &[1], &[2], &[]]);
+    run(&mut file, &[(Operation::Delete(1), "deleted merged")]);
+    expect(&file, (0, 1), 3, &[&[0, 4], &[], &[2]]);
+}
+
+#[test]
+fn the_largest_key_is_a_key() {
+    let mut file = formatted([3, 12, 256, 752]);
+    let key = 4294967295;
+    run(
+        &mut file,
+        &[
+            (Operation::Find(key), "absent none"),
+            (Operation::Insert(key), "inserted none"),
+            (Operation::Insert(key), "present none"),
+            (Operation::Find(key), "found none"),
+            (Operation::Delete(key), "deleted merge-skipped"),
+            (Operation::Delete(key), "absent none"),
+        ],
+    );
+}
