@@ -1,5 +1,5 @@
--- Steps 12 and 13 by their cases.
--- Main statements: unchanged-ends, no-old-goes-on, old-first (where 12 leads); held-leaves, unheld-refused (12); named-requests, unnamed-refused (13).
+-- Step 12 by its cases.
+-- Main statements: unchanged-ends, no-old-goes-on, old-first (where 12 leads); held-leaves, unheld-refused.
 use mathlib.Core.Path.{_≡_, refl, ap, _∙_}
 use mathlib.Core.Bool.{Bool, true, false, not}
 use mathlib.Core.List.{List, [], _∷_}
@@ -8,18 +8,15 @@ use lib.ListN.{getD}
 use borrow.Author.Tests.{not-true, not-false, eq-eqb, ne-eqb}
 use Rattle.model.specs.declared.Root.{Root}
 use Rattle.model.specs.declared.Party.{Party}
-use Rattle.model.specs.declared.Mode.the-variants.{Selective, Exclusive}
+use Rattle.model.specs.declared.Mode.the-variants.{Selective}
 use Rattle.model.specs.Records.{atStep}
 use Rattle.model.specs.LockWords.{claim, chainWord, holds}
-use Rattle.model.specs.Pages.{namesOverflow}
-use Rattle.model.specs.Outcome.{View, Outcome, withParty, refuse, damage, guarded, moved, request, heldAll, withoutHold, givenUp}
+use Rattle.model.specs.Outcome.{View, withParty, refuse, damage, guarded, moved, heldAll, withoutHold, givenUp}
 use Rattle.model.specs.Ready.{viewing}
-use Rattle.model.specs.Steps.Change.{isChange, oldPagesFirst, onward, finished, step12, step13}
+use Rattle.model.specs.Steps.Change.{isChange, oldPagesFirst, onward, finished, step12}
 use Rattle.step_paths.specs.Words.{leftAfter}
 use Rattle.step_paths.proofs.Releases.{held-goes-on, not-held-refused}
 use Rattle.change_steps.specs.Leaving.{afterLeaving}
-
--- ---- 12
 
 -- b is what the code's test of the answer said.
 module _ (v : View) {b : Bool} (e : b ≡ isChange (v .party .answer)) where
@@ -48,15 +45,3 @@ module _ (r : Root) (p : Party) (q : ℕ) (ls ps : List ℕ) {i : ℕ} (ei : i �
       let v = viewing r p q ls ps in
       not-held-refused r p q ls ps i Selective (afterLeaving (givenUp (claim (chainWord (p .chain)) Selective ∷ []) v)) eb h el
       ∙ ap (λ (w : ℕ). guarded v (heldAll v (claim w Selective ∷ [])) (afterLeaving (givenUp (claim (chainWord (p .chain)) Selective ∷ []) v))) ei
-
--- ---- 13
-
-module _ (v : View) {b : Bool} (e : b ≡ namesOverflow (v .root) (v .party .old)) where
-  pub unnamed-refused : not b ≡ true → refuse damage v ≡ step13 v
-  unfolding step13
-  unnamed-refused h = rw (← e, not-true b h) refl
-
-  pub named-requests : not b ≡ false → {i : ℕ} {p : Party} {o : Outcome} → i ≡ chainWord (v .party .chain) → p ≡ atStep 14 (v .party)
-      → o ≡ request v (claim i Exclusive) p → o ≡ step13 v
-  unfolding step13
-  named-requests h ei ep eo = rw (← e, not-false b h, ← ei, ← ep) eo

@@ -1,21 +1,13 @@
-// Change, for insert and delete (document 01, "The thirty steps"): steps 11 to 14, and where 12 and 14 lead.
-// Main statements: step_11 to step_14 are the model's step11 to step14, for every word that the memory may hold; onward is the model's onward.
+// Change, for insert and delete (document 01, "The thirty steps"): steps 11 and 12, and where 12 and 14 lead.
+// Main statements: step_11 and step_12 are the model's step11 and step12, for every word that the memory may hold; onward is the model's onward.
 
 ghost use mathlib.Core.Path.{_≡_};
-ghost use mathlib.Core.Bool.{true};
 ghost use mathlib.Core.List.{List};
 ghost use Prim.Native.Nat.{ℕ};
-ghost use Rattle.model.specs.Records.{withOld};
-ghost use Rattle.model.specs.Pages.{namesOverflow};
-ghost use Rattle.model.specs.Chains.{listFrom};
 ghost use Rattle.model.specs.Ready.{Ready, viewing, leftBy};
 ghost use Rattle.model.specs.Steps.Change as Change;
-ghost use Rattle.chains.specs.Walks.{counted};
-ghost use Rattle.chains.specs.declared.Walked.the-variants as Walked;
-ghost use Rattle.free_list.specs.Giving.{listed};
 ghost use Rattle.endings.specs.Scratch.{HasScratch};
 ghost use Rattle.change_steps.specs.Leaving.{afterLeaving};
-use chains::Walked;
 use model::ChainAddress;
 use model::Mode;
 use model::Party;
@@ -27,17 +19,8 @@ const INSERTED: u32 = 1;
 
 const DELETED: u32 = 3;
 
-// The party with another old overflow link.
-fn with_old(party: Party, old: u32) -> Party
-    ensures { λ r. ⌜ r ≡ withOld old party ⌝ }
-{
-    let mut next = party;
-    next.old = old;
-    next
-}
-
 // "an owed split goes to 15 and an owed merge to 23; else the operation is done".
-fn onward(root: Root, party: Party, q: u32, pages: &mut [u32]) -> Stepped
+pub fn onward(root: Root, party: Party, q: u32, pages: &mut [u32]) -> Stepped
     requires { ⌜ HasScratch root q (now pages) ⌝ }
     ensures { λ r. ⌜ ((ls : List ℕ) → leftBy r q ls (now (pages .exit)) ≡ Change.onward (viewing root party q ls (now (pages .entry)))) ⌝ }
 {
@@ -87,60 +70,6 @@ pub fn step_12(root: Root, party: Party, q: u32, locks: &mut [u32], pages: &mut 
     let word = step_paths::chain_word(ChainAddress(party.chain));
     if step_paths::give_up(locks, word, q, Mode::Selective) {
         chain_left(root, party, q, pages)
-    } else {
-        endings::refused(root, party)
-    }
-}
-
-// "13, if there are old overflow pages, request exclusive on the chain."
-pub fn step_13(root: Root, party: Party, q: u32, locks: &mut [u32], pages: &mut [u32]) -> Stepped
-    requires { ⌜ Ready (viewing root party q (now locks) (now pages)) ⌝ }
-    ensures { λ r. ⌜ leftBy r q (now (locks .exit)) (now (pages .exit)) ≡ Change.step13 (viewing root party q (now (locks .entry)) (now (pages .entry))) ⌝ }
-{
-    if !chains::names_overflow(root, party.old) {
-        return endings::refused(root, party);
-    }
-    let next = step_paths::at_step(party, 14);
-    let word = step_paths::chain_word(ChainAddress(party.chain));
-    step_paths::request_step(root, party, q, locks, pages, word, Mode::Exclusive, next)
-}
-
-// The n old pages are given back, the old link zeroed, the chain given up. "a free count that giving back would take above V" is damage, and so is
-// "a lock given up ... that is not held".
-fn old_given_back(
-    root: Root,
-    party: Party,
-    q: u32,
-    n: u32,
-    locks: &mut [u32],
-    pages: &mut [u32],
-) -> Stepped
-    requires { ⌜ (Ready (viewing root party q (now locks) (now pages))) × (namesOverflow root (party .old) ≡ true) × (counted (listFrom root (now pages) (party .old)) ≡ Walked.Pages n) ⌝ }
-    ensures { λ r. ⌜ leftBy r q (now (locks .exit)) (now (pages .exit)) ≡ Change.oldGivenBack (viewing root party q (now (locks .entry)) (now (pages .entry))) (listed (listFrom root (now (pages .entry)) (party .old))) ⌝ }
-{
-    if root.overflow - root.free < n {
-        return endings::refused(root, party);
-    }
-    let word = party.chain as usize + 1;
-    if lock_words::holds(locks[word], q, Mode::Exclusive) {
-        let after = free_list::give_back(root, party.old, n, pages);
-        lock_words::release(locks, word, q, Mode::Exclusive);
-        onward(after, with_old(party, 0), q, pages)
-    } else {
-        endings::refused(root, party)
-    }
-}
-
-// "14 give them back in chain order, zero the old link and give up the lock." The list is walked to its end before a word is written.
-pub fn step_14(root: Root, party: Party, q: u32, locks: &mut [u32], pages: &mut [u32]) -> Stepped
-    requires { ⌜ Ready (viewing root party q (now locks) (now pages)) ⌝ }
-    ensures { λ r. ⌜ leftBy r q (now (locks .exit)) (now (pages .exit)) ≡ Change.step14 (viewing root party q (now (locks .entry)) (now (pages .entry))) ⌝ }
-{
-    if chains::names_overflow(root, party.old) {
-        match chains::count_pages(root, &pages[..], party.old) {
-            Walked::Damaged => endings::refused(root, party),
-            Walked::Pages(n) => old_given_back(root, party, q, n, locks, pages),
-        }
     } else {
         endings::refused(root, party)
     }

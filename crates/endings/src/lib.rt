@@ -5,7 +5,6 @@ ghost use mathlib.Core.Path.{_≡_};
 ghost use mathlib.Core.List.{List};
 ghost use Prim.Native.Nat.{ℕ, _^_, _<_};
 ghost use Rattle.model.specs.declared.Party.{Party};
-ghost use Rattle.model.specs.Records as Records;
 ghost use Rattle.model.specs.Pages.{scratchPage};
 ghost use Rattle.model.specs.Answers.{answerOf, restructuringOf};
 ghost use Rattle.model.specs.Outcome as Outcome;
@@ -19,23 +18,6 @@ use model::Restructuring;
 use model::Root;
 use model::StepAnswer;
 use model::Stepped;
-
-// The zero record: a party that is idle.
-fn idle() -> Party
-    ensures { λ r. ⌜ r ≡ Records.idle ⌝ }
-{
-    Party {
-        operation: 0,
-        key: 0,
-        step: 0,
-        lev: 0,
-        chain: 0,
-        other: 0,
-        old: 0,
-        owed: 0,
-        answer: 0,
-    }
-}
 
 // "answer so far (0 none, 1 inserted, 2 present, 3 deleted, 4 absent, 5 no page)".
 pub fn answer_of(n: u32) -> OperationAnswer
@@ -105,7 +87,7 @@ pub fn done(
     page_io::store(pages, scratch_page(root, q), [0; 16]);
     Stepped {
         root: root,
-        party: idle(),
+        party: new_records::idle(),
         answer: StepAnswer::Done(answer, made),
     }
 }

@@ -1,52 +1,20 @@
--- The steps of a merge by their cases, over what the code's tests and calls answered.
--- Main statements: target-is-chain; barred-ends, open-requests (24); partner-requested (25); barred-refused, unheld-refused, root-moved-back (27);
--- unsound-refused, level-0-refused, lowered-written (28).
-use mathlib.Core.Path.{_≡_, refl, sym, ap, _∙_}
+-- Steps 27 and 28 of a merge by their cases, over what the code's tests and calls answered.
+-- Main statements: barred-refused, unheld-refused, root-moved-back (27); first-word-set, unsound-refused, level-0-refused, lowered-written (28).
+use mathlib.Core.Path.{_≡_, refl, ap, _∙_}
 use mathlib.Core.Bool.{Bool, true, false, not}
 use mathlib.Core.List.{List, [], _∷_}
-use Prim.Native.Nat.{ℕ, _-_, _≤_, _<_}
+use Prim.Native.Nat.{ℕ, _-_, _<_}
 use native.Mathlib.Omega.{arith}
 use lib.ListN.{length, getD, drop, set}
 use borrow.Author.Tests.{not-true, not-false, eq-eqb, ne-eqb}
 use Rattle.model.specs.declared.Root.{Root}
 use Rattle.model.specs.declared.Party.{Party}
 use Rattle.model.specs.declared.Mode.the-variants.{Exclusive}
-use Rattle.model.specs.declared.Restructuring.the-variants as Restructuring
 use Rattle.model.specs.Records.{atStep}
-use Rattle.model.specs.LockWords.{claim, rootWord, chainWord, holds, turnedSelective}
-use Rattle.model.specs.Addresses.{chainCount, mergePartner, mergeTarget}
+use Rattle.model.specs.LockWords.{rootWord, holds, turnedSelective}
 use Rattle.model.specs.Pages.{levelOf, withPage, withLocalLevel, pageSound}
-use Rattle.model.specs.Outcome.{View, Outcome, withRoot, withParty, withLocks, withPages, scratchOf, refuse, damage, moved, request, isHeld}
-use Rattle.model.specs.Ready.{Ready, viewing}
-use Rattle.model.specs.Steps.Split.{endedWith}
-use Rattle.model.specs.Steps.Merge.{rootExclusive, targetOf, mergeStops, merging, rootMovedBack, step24, step25, step27, step28}
-use Rattle.model.proofs.Laws.Retreat.{target-before}
-
--- The target is one of the chains there are.
-pub target-is-chain : (v : View) → Ready v → mergeStops (v .root) ≡ false → targetOf (v .root) < v .root .chains
-unfolding mergePartner
-target-is-chain v ready goes =
-    let r = v .root in
-    let before = target-before (r .originals) (r .level) (r .next) (ready .some-original) (ready .next-fits) goes in
-    omega (arith, ready .count-fits)
-
--- ---- 24 and 25
-
--- b is what the code's test of n = N answered.
-module _ (v : View) {b : Bool} (e : b ≡ mergeStops (v .root)) where
-  pub barred-ends : b ≡ true → {o : Outcome} → o ≡ endedWith v (rootExclusive ∷ []) Restructuring.MergeSkipped → o ≡ step24 v
-  unfolding step24
-  barred-ends h eo = rw (← e, h) eo
-
-  pub open-requests : b ≡ false → {i : ℕ} {p : Party} {o : Outcome} → i ≡ chainWord (targetOf (v .root)) → p ≡ merging (v .root) (v .party)
-      → o ≡ request v (claim i Exclusive) p → o ≡ step24 v
-  unfolding step24
-  open-requests h ei ep eo = rw (← e, h, ← ei, ← ep) eo
-
-pub partner-requested : (v : View) {i : ℕ} {p : Party} {o : Outcome} → i ≡ chainWord (v .party .other) → p ≡ atStep 26 (v .party)
-    → o ≡ request v (claim i Exclusive) p → o ≡ step25 v
-unfolding step25
-partner-requested v ei ep eo = rw (← ei, ← ep) eo
+use Rattle.model.specs.Outcome.{View, withRoot, withParty, withLocks, withPages, scratchOf, refuse, damage, moved, isHeld}
+use Rattle.model.specs.Steps.Merge.{mergeStops, rootMovedBack, step27, step28}
 
 -- ---- 27
 

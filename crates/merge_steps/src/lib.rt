@@ -1,4 +1,4 @@
-// Merge, inside a delete (document 01, "The thirty steps"): steps 23 to 25 and 27 to 30.
+// Merge, inside a delete (document 01, "The thirty steps"): what follows the joining of the keys, steps 27 to 29.
 // Main statements: each step_NN is the model's stepNN, for every word that the memory may hold.
 
 ghost use mathlib.Core.Path.{_≡_};
@@ -15,69 +15,12 @@ ghost use Rattle.chains.specs.declared.Walked.the-variants as Walked;
 ghost use Rattle.free_list.specs.Giving.{listed};
 ghost use Rattle.merge_steps.specs.Clearing.{CanClear, roomyCleared, bothCleared};
 use chains::Walked;
-use model::ChainAddress;
 use model::Mode;
 use model::PageAddress;
 use model::Party;
-use model::Restructuring;
 use model::Root;
 use model::Stepped;
 use step_paths::ROOT_WORD;
-
-// "23 request exclusive on root."
-pub fn step_23(root: Root, party: Party, q: u32, locks: &mut [u32], pages: &mut [u32]) -> Stepped
-    requires { ⌜ Ready (viewing root party q (now locks) (now pages)) ⌝ }
-    ensures { λ r. ⌜ leftBy r q (now (locks .exit)) (now (pages .exit)) ≡ Merge.step23 (viewing root party q (now (locks .entry)) (now (pages .entry))) ⌝ }
-{
-    let next = step_paths::at_step(party, 24);
-    step_paths::request_step(
-        root,
-        party,
-        q,
-        locks,
-        pages,
-        ROOT_WORD,
-        Mode::Exclusive,
-        next,
-    )
-}
-
-// The record once the target is granted: "Grants at 16 and 24 set chain and other chain".
-fn merging(root: Root, party: Party) -> Party
-    requires { ⌜ (RootFits root) × (Merge.mergeStops root ≡ false) ⌝ }
-    ensures { λ r. ⌜ r ≡ Merge.merging root party ⌝ }
-{
-    let target = addressing::merge_target(root);
-    let partner = addressing::merge_partner(root);
-    let mut granted = party;
-    granted.chain = target.0;
-    granted.other = partner.0;
-    step_paths::at_step(granted, 25)
-}
-
-// "24 if n = N give up root, done, merge skipped. ... Request exclusive on the target."
-pub fn step_24(root: Root, party: Party, q: u32, locks: &mut [u32], pages: &mut [u32]) -> Stepped
-    requires { ⌜ Ready (viewing root party q (now locks) (now pages)) ⌝ }
-    ensures { λ r. ⌜ leftBy r q (now (locks .exit)) (now (pages .exit)) ≡ Merge.step24 (viewing root party q (now (locks .entry)) (now (pages .entry))) ⌝ }
-{
-    if addressing::merge_barred(root) {
-        let made = Restructuring::MergeSkipped;
-        return last_locks::ended_with_root(root, party, q, locks, pages, Mode::Exclusive, made);
-    }
-    let next = merging(root, party);
-    let word = step_paths::chain_word(addressing::merge_target(root));
-    step_paths::request_step(root, party, q, locks, pages, word, Mode::Exclusive, next)
-}
-
-// "25 on the partner."
-pub fn step_25(root: Root, party: Party, q: u32, locks: &mut [u32], pages: &mut [u32]) -> Stepped
-    requires { ⌜ Ready (viewing root party q (now locks) (now pages)) ⌝ }
-    ensures { λ r. ⌜ leftBy r q (now (locks .exit)) (now (pages .exit)) ≡ Merge.step25 (viewing root party q (now (locks .entry)) (now (pages .entry))) ⌝ }
-{
-    let next = step_paths::at_step(party, 26);
-    let word = step_paths::chain_word(ChainAddress(party.other));
-    step_paths::request_step(root, party, q, locks, pages, word, Mode::Exclusive, next)
-}
 
 // The root moved back by one merge: "if next was 0, lower level; next becomes the target's number".
 fn moved_back(root: Root, party: Party) -> Root
@@ -181,20 +124,4 @@ pub fn step_29(root: Root, party: Party, q: u32, locks: &mut [u32], pages: &mut 
         return endings::refused(root, party);
     }
     lists_walked(root, party, chains::link_of(partner), pages)
-}
-
-// "30 give up all, done."
-pub fn step_30(root: Root, party: Party, q: u32, locks: &mut [u32], pages: &mut [u32]) -> Stepped
-    requires { ⌜ Ready (viewing root party q (now locks) (now pages)) ⌝ }
-    ensures { λ r. ⌜ leftBy r q (now (locks .exit)) (now (pages .exit)) ≡ Merge.step30 (viewing root party q (now (locks .entry)) (now (pages .entry))) ⌝ }
-{
-    last_locks::ended_with_merge(
-        root,
-        party,
-        q,
-        locks,
-        pages,
-        Mode::Selective,
-        Restructuring::Merged,
-    )
 }

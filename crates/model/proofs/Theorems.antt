@@ -16,5 +16,6 @@ pub mod LockTrades
 pub mod Grants
 pub mod Alters
 pub mod BookFed
+pub mod Meanings
 pub mod Places
 pub mod Singly

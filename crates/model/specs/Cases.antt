@@ -1,7 +1,6 @@
 -- The cases of document 01 that are checked by hand and proved, P1 to P8, as one table ("Checked by hand").
--- Main definitions: workedCases (a definition at a case's numbers, beside the number that document 01 gives); CasesHold (both columns are equal).
-use mathlib.Core.Path.{_≡_}
-use mathlib.Core.List.{List, [], _∷_, map}
+-- Main definition: workedCases (a definition at a case's numbers, beside the number that document 01 gives). proofs/Theorems/Cases.antt: both columns are the same.
+use mathlib.Core.List.{List, [], _∷_}
 use Prim.Native.Nat.{ℕ}
 use lib.ListN.{replicate}
 use Rattle.model.specs.Records.{rootOfSizes, withLevel, withNext, idle}
@@ -53,7 +52,3 @@ workedCases =
     ∷ (overflowNeeded 2 3, 1)
     ∷ (overflowNeeded 2 5, 2)
     ∷ []
-
--- Every definition gives the number that document 01 gives.
-abbrev pub CasesHold : Type 0
-CasesHold = map (λ (c : ℕ × ℕ). c .0) workedCases ≡ map (λ (c : ℕ × ℕ). c .1) workedCases

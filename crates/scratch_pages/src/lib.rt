@@ -3,7 +3,7 @@
 
 ghost use mathlib.Core.Path.{_≡_};
 ghost use mathlib.Core.List.{List};
-ghost use Prim.Native.Nat.{ℕ, _^_, _<_};
+ghost use Prim.Native.Nat.{ℕ, _<_};
 ghost use Rattle.model.specs.Pages.{pageOf, scratchPage};
 ghost use Rattle.model.specs.Ready.{viewing, leftBy};
 ghost use Rattle.model.specs.Steps.Change as Change;
@@ -13,20 +13,12 @@ use model::Party;
 use model::Root;
 use model::Stepped;
 
-// "overflow pages follow, then one scratch page a party".
-fn scratch_page(root: Root, q: u32) -> PageAddress
-    requires { ⌜ scratchPage root q < 2 ^ 32 ⌝ }
-    ensures { λ r. ⌜ r .0 ≡ scratchPage root q ⌝ }
-{
-    PageAddress(root.chains + root.overflow + q)
-}
-
 // The sixteen words of party q's scratch page.
 pub fn scratch_of(root: Root, q: u32, pages: &[u32]) -> [u32; 16]
     requires { ⌜ HasScratch root q (now pages) ⌝ }
     ensures { λ r. ⌜ r ≡ pageOf (now (pages .entry)) (scratchPage root q) ⌝ }
 {
-    page_io::load(pages, scratch_page(root, q))
+    page_io::load(pages, endings::scratch_page(root, q))
 }
 
 // "11 write the primary page", "18 write the old chain's primary page": "The scratch page counts as followed where it is read".

@@ -1,53 +1,14 @@
--- The steps of a split by their cases, over what the code's tests and calls answered.
--- Main statements: barred-ends, open-requests (16); chain-left (19); next-moved (20); level-moved (21); done-where-no-old, old-first (where 22 leads); held-leaves, unheld-refused (22).
-use mathlib.Core.Path.{_≡_, refl, _∙_}
-use mathlib.Core.Bool.{Bool, true, false}
-use mathlib.Core.List.{List, [], _∷_}
-use Prim.Native.Nat.{ℕ, _≤_, _<_}
-use native.Mathlib.Omega.{arith}
-use lib.ListN.{getD}
-use borrow.Author.Tests.{eq-eqb, ne-eqb}
-use Rattle.model.specs.declared.Root.{Root}
+-- Steps 20 and 21, over what the code's calls answered.
+-- Main statements: next-moved (20); level-moved (21).
+use mathlib.Core.Path.{_≡_, refl}
+use Prim.Native.Nat.{ℕ}
 use Rattle.model.specs.declared.Party.{Party}
-use Rattle.model.specs.declared.Mode.the-variants.{Selective}
-use Rattle.model.specs.declared.Restructuring.the-variants as Restructuring
-use Rattle.model.specs.Records.{atStep, withNext, withLevel, withOwed}
-use Rattle.model.specs.LockWords.{claim, rootWord, chainWord, holds}
-use Rattle.model.specs.Addresses.{chainCount, splitBarred, splitNext, splitLevel}
-use Rattle.model.specs.Outcome.{View, Outcome, withRoot, withParty, refuse, damage, moved, request, withoutHold, givenUp}
-use Rattle.model.specs.Ready.{Ready, viewing}
-use Rattle.model.specs.Steps.Locate.{release}
-use Rattle.model.specs.Steps.Change.{oldPagesFirst, finished}
-use Rattle.model.specs.Steps.Split.{countOfChains, rootSelective, endedWith, splitting, step16, step19, step20, step21, step22}
-use Rattle.step_paths.specs.Words.{leftAfter}
-use Rattle.step_paths.proofs.Releases.{held-goes-on, not-held-refused}
-use Rattle.split_steps.specs.Leaving.{splitMade}
-
--- Chain next is one of the chains there are.
-pub next-is-chain : (v : View) → Ready v → v .root .next < v .root .chains
-unfolding chainCount
-next-is-chain v ready = omega (arith, ready .next-fits, ready .count-fits)
-
--- ---- 16
-
--- b is what the code's test of n = P answered.
-module _ (v : View) {b : Bool} (e : b ≡ splitBarred (countOfChains (v .root)) (v .root .chains)) where
-  pub barred-ends : b ≡ true → {o : Outcome} → o ≡ endedWith v (rootSelective ∷ []) Restructuring.SplitSkipped → o ≡ step16 v
-  unfolding step16
-  barred-ends h eo = rw (← e, h) eo
-
-  pub open-requests : b ≡ false → {i : ℕ} {p : Party} {o : Outcome} → i ≡ chainWord (v .root .next) → p ≡ splitting (v .root) (v .party)
-      → o ≡ request v (claim i Selective) p → o ≡ step16 v
-  unfolding step16
-  open-requests h ei ep eo = rw (← e, h, ← ei, ← ep) eo
-
--- ---- 19 to 21
+use Rattle.model.specs.Records.{atStep, withNext, withLevel}
+use Rattle.model.specs.Addresses.{splitNext, splitLevel}
+use Rattle.model.specs.Outcome.{View, withRoot, withParty, moved}
+use Rattle.model.specs.Steps.Split.{step20, step21}
 
 module _ (v : View) {p : Party} where
-  pub chain-left : {i : ℕ} {o : Outcome} → i ≡ chainWord (v .party .chain) → p ≡ atStep 20 (v .party) → o ≡ release v (claim i Selective ∷ []) p → o ≡ step19 v
-  unfolding step19
-  chain-left ei ep eo = rw (← ei, ← ep) eo
-
   pub next-moved : {n : ℕ} → n ≡ splitNext (v .root .originals) (v .root .level) (v .root .next) → p ≡ atStep 21 (v .party)
       → moved (withParty p (withRoot (withNext n (v .root)) v)) ≡ step20 v
   unfolding step20
@@ -57,23 +18,3 @@ module _ (v : View) {p : Party} where
       → moved (withParty p (withRoot (withLevel n (v .root)) v)) ≡ step21 v
   unfolding step21
   level-moved en ep = rw (en, ep) refl
-
--- ---- 22
-
-module _ (v : View) where
-  pub done-where-no-old : v .party .old ≡ 0 → finished (withParty (withOwed 3 (v .party)) v) ≡ splitMade v
-  unfolding oldPagesFirst
-  done-where-no-old z = rw (eq-eqb (v .party .old) 0 z) refl
-
-  pub old-first : (v .party .old ≡ 0 → ⊥) → {p : Party} → p ≡ atStep 13 (withOwed 3 (v .party)) → moved (withParty p v) ≡ splitMade v
-  unfolding oldPagesFirst
-  old-first n ep = rw (ne-eqb (v .party .old) 0 n, ep) refl
-
-module _ (r : Root) (p : Party) (q : ℕ) (ls ps : List ℕ) {b : Bool} (eb : b ≡ holds (getD ls rootWord 0) q Selective) {ls′ : List ℕ} (el : ls′ ≡ leftAfter ls rootWord q Selective) where
-  pub held-leaves : b ≡ true → splitMade (viewing r p q ls′ ps) ≡ step22 (viewing r p q ls ps)
-  unfolding step22 givenUp withoutHold
-  held-leaves h = held-goes-on r p q ls ps rootWord Selective (λ w. splitMade w) eb h el
-
-  pub unheld-refused : b ≡ false → refuse damage (viewing r p q ls′ ps) ≡ step22 (viewing r p q ls ps)
-  unfolding step22 givenUp withoutHold
-  unheld-refused h = not-held-refused r p q ls ps rootWord Selective (splitMade (givenUp (rootSelective ∷ []) (viewing r p q ls ps))) eb h el

@@ -1,6 +1,7 @@
 // What steps of several groups share (document 01, "The thirty steps"): the next step's number, the lock word of a chain and the mode of an operation,
 // the one path of all requesting steps, and that of all steps that give up one lock and move on.
-// at_step, chain_word, mode_of, request_step and release_step equal the model's definitions, whatever the lock, its mode and the record afterwards;
+// at_step, chain_word, mode_of, request_step and release_step equal the model's definitions, whatever the lock, its mode and the record afterwards,
+// and so does request_chain, the one path of steps 4 and 7;
 // give_up says whether a lock was held, and gives up a held one.
 ghost use mathlib.Core.Path.{_≡_};
 ghost use mathlib.Core.List.{[], _∷_};
@@ -10,7 +11,7 @@ ghost use Rattle.model.specs.Records.{atStep};
 ghost use Rattle.model.specs.LockWords as LockWords;
 ghost use Rattle.model.specs.LockWords.{claim};
 ghost use Rattle.model.specs.Outcome as Outcome;
-ghost use Rattle.model.specs.Ready.{viewing, leftBy};
+ghost use Rattle.model.specs.Ready.{Ready, viewing, leftBy};
 ghost use Rattle.model.specs.Steps.Locate as Locate;
 ghost use Rattle.step_paths.specs.Words.{leftAfter};
 use model::ChainAddress;
@@ -25,6 +26,9 @@ pub const ROOT_WORD: u32 = 0;
 
 // "operation (0 idle, 1 find, 2 insert, 3 delete)".
 pub const FIND: u32 = 1;
+
+// The step that copies the primary page and chases: after 5, and "back to 6" after 8.
+pub const CHASE: u32 = 6;
 
 // The lock word of chain c.
 pub fn chain_word(c: ChainAddress) -> u32
@@ -81,6 +85,24 @@ pub fn request_step(
             answer: StepAnswer::Waiting,
         }
     }
+}
+
+// The party's chain is requested, "read for find, selective otherwise", and the grant leads to step k.
+pub fn request_chain(
+    root: Root,
+    party: Party,
+    q: u32,
+    locks: &mut [u32],
+    pages: &mut [u32],
+    k: u32,
+) -> Stepped
+    requires { ⌜ Ready (viewing root party q (now locks) (now pages)) ⌝ }
+    ensures { λ r. ⌜ leftBy r q (now (locks .exit)) (now (pages .exit)) ≡ Outcome.request (viewing root party q (now (locks .entry)) (now (pages .entry))) (Locate.chainLock party) (atStep k party) ⌝ }
+{
+    let word = chain_word(ChainAddress(party.chain));
+    let mode = mode_of(party);
+    let next = at_step(party, k);
+    request_step(root, party, q, locks, pages, word, mode, next)
 }
 
 // Whether the party holds the lock of a word; a held one is given up.

@@ -1,15 +1,18 @@
 -- P1 to P8 of document 01 hold of the definitions.
 -- Main statement: cases-hold.
-use mathlib.Core.Path.{refl}
+use mathlib.Core.Path.{_≡_, refl}
+use mathlib.Core.List.{map}
+use Prim.Native.Nat.{ℕ}
 use Rattle.model.specs.LockWords.{fieldOf, withField, permits, holds, grantedWord, releasedWord, turnedSelective}
 use Rattle.model.specs.Addresses.{hashed, span, hash, addressLevel, addressOf, chainCount, splitNext, splitLevel, mergePartner, mergeTarget, mergeLevel, mergeBarred}
 use Rattle.model.specs.Filling.{overflowNeeded}
 use Rattle.model.specs.Outcome.{isGranted, withHold, request, isHeld}
 use Rattle.model.specs.Steps.Split.{step20, step21}
 use Rattle.model.specs.Steps.Merge.{step23, merging, step24, rootMovedBack, step27}
-use Rattle.model.specs.Cases.{CasesHold}
+use Rattle.model.specs.Cases.{workedCases}
 
-pub cases-hold : CasesHold
+-- Every definition gives the number that document 01 gives.
+pub cases-hold : map (λ (c : ℕ × ℕ). c .0) workedCases ≡ map (λ (c : ℕ × ℕ). c .1) workedCases
 unfolding hashed span hash addressLevel addressOf chainCount splitNext splitLevel mergePartner mergeTarget mergeLevel mergeBarred
     fieldOf withField permits holds grantedWord releasedWord turnedSelective isGranted withHold request isHeld
     overflowNeeded step20 step21 step23 merging step24 rootMovedBack step27

@@ -7,8 +7,8 @@ use lib.ListN.{length, take, length-take}
 use Rattle.model.specs.Entries.{staying, going}
 use Rattle.model.specs.Ready.{viewing}
 use Rattle.model.specs.Steps.Split.{halvesOf}
-use Rattle.split_build.specs.Dividing.{both}
-use Rattle.split_build.proofs.Parts.{front-part}
+use Rattle.halves_build.specs.Halves.{both}
+use Rattle.halves_build.proofs.Parts.{front-part}
 use Rattle.split_build.proofs.Halves.{chain-refused, chain-divided}
 use borrow.Author.Needs.{needs}
 use Rattle.split_build.proofs.divide.Statement.{statement}

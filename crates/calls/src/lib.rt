@@ -1,0 +1,108 @@
+// The three calls over values (document 01, "What it covers" and "Refused calls"): the root and one party's record by value, the lock words and the page words lent.
+// Every refusal is decided here, in the table's order. There is nothing that a caller must see to: the contracts hold for all words and all lengths.
+// Main statements: format, begin and step leave what the model's formatCall, beginCall and stepCall leave, whatever the other parties' records are.
+
+ghost use mathlib.Core.Path.{_≡_};
+ghost use mathlib.Core.List.{List};
+ghost use Prim.Native.Nat.{ℕ};
+ghost use lib.ListN.{length};
+ghost use Rattle.model.specs.declared.Party.{Party};
+ghost use Rattle.model.specs.Memory.{partyAt};
+ghost use Rattle.model.specs.Calls.{formatCall, beginCall, stepCall};
+ghost use Rattle.calls.specs.Lent.{lent, leftByFormat, leftByBegin, leftByStep};
+use model::BeginAnswer;
+use model::FormatAnswer;
+use model::Operation;
+use model::Party;
+use model::Root;
+use model::StepAnswer;
+use model::Stepped;
+
+// What format leaves beside the lent words. Where the answer is formatted, every party's record is the zero record; else no record is altered.
+pub struct Formatted {
+    pub root: Root,
+    pub answer: FormatAnswer,
+}
+
+// What begin leaves: the party's record. It alters nothing else.
+pub struct Begun {
+    pub party: Party,
+    pub answer: BeginAnswer,
+}
+
+// Format with the sizes N b P V Q, over a row of `parties` records.
+pub fn format(
+    root: Root,
+    n: u32,
+    b: u32,
+    p: u32,
+    v: u32,
+    q: u32,
+    parties: usize,
+    locks: &mut [u32],
+    pages: &mut [u32],
+) -> Formatted
+    ensures { λ r. ⌜ ((row : List Party) → length row ≡ parties → leftByFormat r row (now (locks .exit)) (now (pages .exit)) ≡ formatCall (lent root row (now (locks .entry)) (now (pages .entry))) n b p v q) ⌝ }
+{
+    let cause = gates::format_cause(n, b, p, v, q, parties, locks.len(), pages.len());
+    if cause != gates::NO_CAUSE {
+        return Formatted {
+            root,
+            answer: FormatAnswer::Refused(cause),
+        };
+    }
+    let made = format_memory::format_words(n, b, p, v, q, locks, pages);
+    Formatted {
+        root: made,
+        answer: FormatAnswer::Formatted,
+    }
+}
+
+// Begin an operation for party q, one of `parties`, whose record is `party`; past the row's end no record is looked at.
+pub fn begin(
+    root: Root,
+    party: Party,
+    parties: usize,
+    locks: usize,
+    pages: usize,
+    q: u32,
+    operation: Operation,
+    key: u32,
+) -> Begun
+    ensures { λ r. ⌜ ((row : List Party) (ls ps : List ℕ) → length row ≡ parties → length ls ≡ locks → length ps ≡ pages → partyAt row q ≡ party → leftByBegin r root row q ls ps ≡ beginCall (lent root row ls ps) q operation key) ⌝ }
+{
+    let cause = gates::begin_cause(root, party, parties, locks, pages, q);
+    if cause != gates::NO_CAUSE {
+        return Begun {
+            party,
+            answer: BeginAnswer::Refused(cause),
+        };
+    }
+    let next = new_records::begun(operation, key);
+    Begun {
+        party: next,
+        answer: BeginAnswer::Begun,
+    }
+}
+
+// One step for party q, one of `parties`, whose record is `party`; past the row's end no record is looked at.
+pub fn step(
+    root: Root,
+    party: Party,
+    parties: usize,
+    q: u32,
+    locks: &mut [u32],
+    pages: &mut [u32],
+) -> Stepped
+    ensures { λ r. ⌜ ((row : List Party) → length row ≡ parties → partyAt row q ≡ party → leftByStep r row q (now (locks .exit)) (now (pages .exit)) ≡ stepCall (lent root row (now (locks .entry)) (now (pages .entry))) q) ⌝ }
+{
+    let cause = gates::step_cause(root, party, parties, locks.len(), pages.len(), q);
+    if cause != gates::NO_CAUSE {
+        return Stepped {
+            root,
+            party,
+            answer: StepAnswer::Refused(cause),
+        };
+    }
+    step_numbers::step_by_number(root, party, q, locks, pages)
+}

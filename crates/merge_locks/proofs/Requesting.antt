@@ -1,0 +1,44 @@
+-- The requests of a merge by their cases, over what the code's tests and calls answered.
+-- Main statements: target-is-chain; barred-ends, open-requests (24); partner-requested (25).
+use mathlib.Core.Path.{_≡_}
+use mathlib.Core.Bool.{Bool, true, false}
+use mathlib.Core.List.{[], _∷_}
+use Prim.Native.Nat.{ℕ, _<_}
+use native.Mathlib.Omega.{arith}
+use Rattle.model.specs.declared.Party.{Party}
+use Rattle.model.specs.declared.Mode.the-variants.{Exclusive}
+use Rattle.model.specs.declared.Restructuring.the-variants as Restructuring
+use Rattle.model.specs.Records.{atStep}
+use Rattle.model.specs.LockWords.{claim, chainWord}
+use Rattle.model.specs.Addresses.{mergePartner}
+use Rattle.model.specs.Outcome.{View, Outcome, request}
+use Rattle.model.specs.Ready.{Ready}
+use Rattle.model.specs.Steps.Split.{endedWith}
+use Rattle.model.specs.Steps.Merge.{rootExclusive, targetOf, mergeStops, merging, step24, step25}
+use Rattle.model.proofs.Laws.Retreat.{target-before}
+
+-- The target is one of the chains there are.
+pub target-is-chain : (v : View) → Ready v → mergeStops (v .root) ≡ false → targetOf (v .root) < v .root .chains
+unfolding mergePartner
+target-is-chain v ready goes =
+    let r = v .root in
+    let before = target-before (r .originals) (r .level) (r .next) (ready .some-original) (ready .next-fits) goes in
+    omega (arith, ready .count-fits)
+
+-- ---- 24 and 25
+
+-- b is what the code's test of n = N answered.
+module _ (v : View) {b : Bool} (e : b ≡ mergeStops (v .root)) where
+  pub barred-ends : b ≡ true → {o : Outcome} → o ≡ endedWith v (rootExclusive ∷ []) Restructuring.MergeSkipped → o ≡ step24 v
+  unfolding step24
+  barred-ends h eo = rw (← e, h) eo
+
+  pub open-requests : b ≡ false → {i : ℕ} {p : Party} {o : Outcome} → i ≡ chainWord (targetOf (v .root)) → p ≡ merging (v .root) (v .party)
+      → o ≡ request v (claim i Exclusive) p → o ≡ step24 v
+  unfolding step24
+  open-requests h ei ep eo = rw (← e, h, ← ei, ← ep) eo
+
+pub partner-requested : (v : View) {i : ℕ} {p : Party} {o : Outcome} → i ≡ chainWord (v .party .other) → p ≡ atStep 26 (v .party)
+    → o ≡ request v (claim i Exclusive) p → o ≡ step25 v
+unfolding step25
+partner-requested v ei ep eo = rw (← ei, ← ep) eo

@@ -1,0 +1,69 @@
+-- The locking steps of a split by their cases, over what the code's tests and calls answered.
+-- Main statements: next-is-chain, barred-ends, open-requests (16); chain-left (19); done-where-no-old, old-first (where 22 leads); held-leaves, unheld-refused (22).
+use mathlib.Core.Path.{_≡_, refl}
+use mathlib.Core.Bool.{Bool, true, false}
+use mathlib.Core.List.{List, [], _∷_}
+use Prim.Native.Nat.{ℕ, _<_}
+use native.Mathlib.Omega.{arith}
+use lib.ListN.{getD}
+use borrow.Author.Tests.{eq-eqb, ne-eqb}
+use Rattle.model.specs.declared.Root.{Root}
+use Rattle.model.specs.declared.Party.{Party}
+use Rattle.model.specs.declared.Mode.the-variants.{Selective}
+use Rattle.model.specs.declared.Restructuring.the-variants as Restructuring
+use Rattle.model.specs.Records.{atStep, withOwed}
+use Rattle.model.specs.LockWords.{claim, rootWord, chainWord, holds}
+use Rattle.model.specs.Addresses.{chainCount, splitBarred}
+use Rattle.model.specs.Outcome.{View, Outcome, withParty, refuse, damage, moved, request, withoutHold, givenUp}
+use Rattle.model.specs.Ready.{Ready, viewing}
+use Rattle.model.specs.Steps.Locate.{release}
+use Rattle.model.specs.Steps.Change.{oldPagesFirst, finished}
+use Rattle.model.specs.Steps.Split.{countOfChains, rootSelective, endedWith, splitting, step16, step19, step22}
+use Rattle.step_paths.specs.Words.{leftAfter}
+use Rattle.step_paths.proofs.Releases.{held-goes-on, not-held-refused}
+use Rattle.split_locks.specs.Leaving.{splitMade}
+
+-- Chain next is one of the chains there are.
+pub next-is-chain : (v : View) → Ready v → v .root .next < v .root .chains
+unfolding chainCount
+next-is-chain v ready = omega (arith, ready .next-fits, ready .count-fits)
+
+-- ---- 16
+
+-- b is what the code's test of n = P answered.
+module _ (v : View) {b : Bool} (e : b ≡ splitBarred (countOfChains (v .root)) (v .root .chains)) where
+  pub barred-ends : b ≡ true → {o : Outcome} → o ≡ endedWith v (rootSelective ∷ []) Restructuring.SplitSkipped → o ≡ step16 v
+  unfolding step16
+  barred-ends h eo = rw (← e, h) eo
+
+  pub open-requests : b ≡ false → {i : ℕ} {p : Party} {o : Outcome} → i ≡ chainWord (v .root .next) → p ≡ splitting (v .root) (v .party)
+      → o ≡ request v (claim i Selective) p → o ≡ step16 v
+  unfolding step16
+  open-requests h ei ep eo = rw (← e, h, ← ei, ← ep) eo
+
+-- ---- 19
+
+module _ (v : View) {p : Party} where
+  pub chain-left : {i : ℕ} {o : Outcome} → i ≡ chainWord (v .party .chain) → p ≡ atStep 20 (v .party) → o ≡ release v (claim i Selective ∷ []) p → o ≡ step19 v
+  unfolding step19
+  chain-left ei ep eo = rw (← ei, ← ep) eo
+
+-- ---- 22
+
+module _ (v : View) where
+  pub done-where-no-old : v .party .old ≡ 0 → finished (withParty (withOwed 3 (v .party)) v) ≡ splitMade v
+  unfolding oldPagesFirst
+  done-where-no-old z = rw (eq-eqb (v .party .old) 0 z) refl
+
+  pub old-first : (v .party .old ≡ 0 → ⊥) → {p : Party} → p ≡ atStep 13 (withOwed 3 (v .party)) → moved (withParty p v) ≡ splitMade v
+  unfolding oldPagesFirst
+  old-first n ep = rw (ne-eqb (v .party .old) 0 n, ep) refl
+
+module _ (r : Root) (p : Party) (q : ℕ) (ls ps : List ℕ) {b : Bool} (eb : b ≡ holds (getD ls rootWord 0) q Selective) {ls′ : List ℕ} (el : ls′ ≡ leftAfter ls rootWord q Selective) where
+  pub held-leaves : b ≡ true → splitMade (viewing r p q ls′ ps) ≡ step22 (viewing r p q ls ps)
+  unfolding step22 givenUp withoutHold
+  held-leaves h = held-goes-on r p q ls ps rootWord Selective (λ w. splitMade w) eb h el
+
+  pub unheld-refused : b ≡ false → refuse damage (viewing r p q ls′ ps) ≡ step22 (viewing r p q ls ps)
+  unfolding step22 givenUp withoutHold
+  unheld-refused h = not-held-refused r p q ls ps rootWord Selective (splitMade (givenUp (rootSelective ∷ []) (viewing r p q ls ps))) eb h el
