@@ -15,7 +15,7 @@ use Rattle.model.specs.declared.BeginAnswer.the-variants as BeginAnswer
 use Rattle.model.specs.declared.FormatAnswer.the-variants as FormatAnswer
 use Rattle.model.specs.Records.{rootOfSizes, idle, begun}
 use Rattle.model.specs.Answers.{operationNumber}
-use Rattle.model.specs.Outcome.{View, Outcome}
+use Rattle.model.specs.Outcome.{Outcome}
 use Rattle.model.specs.Ready.{viewing, leftBy}
 use Rattle.model.specs.Memory.{Memory, partyAt, afterStep, formatted}
 use Rattle.model.specs.Refusals.{firstCause, formatRows, beginRows, stepRows}

@@ -1,10 +1,9 @@
 -- Both chains of a merge by their cases: which is damage, and what is joined where none is.
--- Main statements: target-damaged, partner-damaged, shared-damaged, pair-sound; front-is, front-long; pair-damaged, pair-joined (both chains gathered).
+-- Main statements: target-damaged, partner-damaged, shared-damaged, pair-sound; pair-damaged, pair-joined (both chains gathered).
 use mathlib.Core.Path.{_≡_, refl, sym, ap, ap₂, _∙_}
 use mathlib.Core.Bool.{true, false, not}
 use mathlib.Core.List.{List}
 use Prim.Native.Nat.{ℕ, _+_, _-_, _≤_}
-use native.Mathlib.Nat.{sub-zero}
 use lib.ListN.{length, take}
 use Rattle.model.specs.declared.Root.{Root}
 use Rattle.model.specs.Entries.{Entry, joined, sharesKey}
@@ -12,6 +11,7 @@ use Rattle.model.specs.Chains.{Checked, damaged, sound, andThen, Chain, chainOf
 use Rattle.model.specs.Steps.Merge.{Pair, pairOf, joinedEntries}
 use Rattle.chain_keys.specs.Gathering.{Whole}
 use Rattle.chain_keys.specs.declared.Gathered.{Gathered}
+use Rattle.chain_keys.proofs.WholeChain.{front-is, front-long}
 use Rattle.chain_join.specs.declared.Joined.{Joined}
 use Rattle.chain_join.specs.Joining.{JoinedPair}
 
@@ -40,13 +40,6 @@ module _ (r : Root) (ps : List ℕ) (c o : ℕ) where
       pub pair-sound : not (sharesKey (t .entries) (u .entries)) ≡ true → pairOf r ps c o ≡ sound (record { target = t; partner = u })
       unfolding pairOf
       pair-sound e = rw (target, partner, e) refl
-
--- A chain gathered, as the front of its buffer is lent.
-pub front-is : {x : Checked Chain} {n : ℕ} (g : Gathered) (keys : List ℕ) (whole : Whole x n g keys) → take (g .count - 0) keys ≡ whole .chain .entries
-front-is g keys whole = ap (λ (k : ℕ). take k keys) (sub-zero (g .count)) ∙ whole .entries
-
-pub front-long : {x : Checked Chain} {n : ℕ} (g : Gathered) (keys : List ℕ) (whole : Whole x n g keys) → length (take (g .count - 0) keys) ≡ g .count
-front-long g keys whole = ap length (front-is g keys whole) ∙ sym (whole .count)
 
 -- Both were gathered, and their keys joined where none is in both.
 module _ (r : Root) (ps : List ℕ) (c o n m : ℕ) (g h : Gathered) (a b : List ℕ) (target : Whole (chainOf r ps c) n g a) (partner : Whole (chainOf r ps o) m h b) where

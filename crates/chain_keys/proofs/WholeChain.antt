@@ -1,5 +1,5 @@
 -- A chain whose pages were walked and whose records were gathered, over the model's chainOf.
--- Main statements: sound-ascends (the records of a chain looked through whole ascend); pages-bounded, unwalked-damaged; walked-chain (what chainOf is once the pages were walked); keys-fall-refused, keys-ascend-whole (what it is once the records were gathered).
+-- Main statements: sound-ascends (the records of a chain looked through whole ascend); pages-bounded, unwalked-damaged; walked-chain (what chainOf is once the pages were walked); keys-fall-refused, keys-ascend-whole (what it is once the records were gathered); front-is, front-long (a chain gathered, as the front of its buffer is lent).
 use mathlib.Core.Path.{_≡_, refl, sym, ap, _∙_}
 use mathlib.Core.Bool.{Bool, true, false, cond}
 use mathlib.Core.List.{List, [], _∷_, _++_}
@@ -13,6 +13,7 @@ use Rattle.model.specs.Sizes.{mostKeys}
 use Rattle.model.specs.Entries.{ascending}
 use Rattle.model.specs.Pages.{pageOf, levelOf, countOf, linkOf, entriesOf, pageSound}
 use Rattle.model.specs.Chains.{Checked, damaged, sound, soundIf, andThen, Chain, overflowFrom, listFrom, entriesOn, readChain, ascendingChain, chainOf}
+use Rattle.model.proofs.Laws.Lists.{front-part}
 use Rattle.chains.specs.Walks.{counted}
 use Rattle.chains.specs.declared.Walked.the-variants as Walked
 use Rattle.chains.proofs.Tests.{sound-page-links}
@@ -130,3 +131,11 @@ module _ (r : Root) (ps : List ℕ) (c n : ℕ) (passed : Passed r ps c n) (keys
       fits = fits;
       entries = entries-are;
     }
+
+-- A chain gathered, as the front of its buffer is lent.
+module _ {x : Checked Chain} {n : ℕ} (g : Gathered) (keys : List ℕ) (whole : Whole x n g keys) where
+  pub front-is : take (g .count - 0) keys ≡ whole .chain .entries
+  front-is = front-part (g .count) keys ∙ whole .entries
+
+  pub front-long : length (take (g .count - 0) keys) ≡ g .count
+  front-long = ap length front-is ∙ sym (whole .count)

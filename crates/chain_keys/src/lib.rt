@@ -6,7 +6,7 @@ ghost use mathlib.Core.Bool.{true, false};
 ghost use mathlib.Core.List.{_++_};
 ghost use Prim.Native.Nat.{_+_, _*_, _≤_, _<_};
 ghost use lib.ListN.{length, take};
-ghost use Rattle.model.specs.Sizes.{pageWords, mostKeys};
+ghost use Rattle.model.specs.Sizes.{mostKeys};
 ghost use Rattle.model.specs.Pages.{countOf, linkOf, entriesOf};
 ghost use Rattle.model.specs.Chains.{chainOf, damaged};
 ghost use Rattle.chains.specs.Walks.{counted};

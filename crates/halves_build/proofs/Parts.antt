@@ -1,16 +1,12 @@
 -- The pages taken in two parts, those of the staying half and the rest: both parts can be filled.
--- Main statements: front-part, back-part (the parts as the code lends them); front-fillable, back-fillable, still-fillable.
-use mathlib.Core.Path.{_≡_, ap}
+-- Main statements: back-part (the rest as the code lends it); front-fillable, back-fillable, still-fillable.
+use mathlib.Core.Path.{_≡_}
 use mathlib.Core.List.{List}
 use Prim.Native.Nat.{ℕ, _+_, _-_, _≤_, _<_}
-use native.Mathlib.Nat.{sub-zero}
 use native.Mathlib.Omega.{arith}
 use lib.ListN.{length, take, drop, length-drop}
 use lib.Seq.{length-take-le, getD-take, getD-drop, take-all}
 use Rattle.page_fill.specs.Fills.{Fillable}
-
-pub front-part : (n : ℕ) (xs : List ℕ) → take (n - 0) xs ≡ take n xs
-front-part n xs = ap (λ (k : ℕ). take k xs) (sub-zero n)
 
 pub back-part : (n : ℕ) (xs : List ℕ) → take (length xs - n) (drop n xs) ≡ drop n xs
 back-part n xs = take-all (length xs - n) (drop n xs) (rw length-drop (omega arith))

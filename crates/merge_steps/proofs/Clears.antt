@@ -1,9 +1,9 @@
 -- Step 29 by its cases: which test refuses it, and what it leaves where none does.
 -- Main statements: no-room-refused, all-cleared (both lists are given back); first-damaged, second-damaged, both-walked (both are walked);
 -- unsound-link-refused, unsound-page-refused, sound-cleared (29).
-use mathlib.Core.Path.{_≡_, refl, ap, _∙_}
-use mathlib.Core.Bool.{Bool, true, false, not, cond, _&&_}
-use mathlib.Core.List.{List, [], _∷_, _++_}
+use mathlib.Core.Path.{_≡_, refl, ap}
+use mathlib.Core.Bool.{Bool, true, false, not}
+use mathlib.Core.List.{List, _++_}
 use Prim.Native.Nat.{ℕ, _+_, _≤_, _<_}
 use native.Mathlib.Omega.{arith}
 use lib.ListN.{length}

@@ -7,12 +7,12 @@ use Prim.Native.Nat.{ℕ, _<_}
 use Rattle.model.specs.declared.Operation.{Operation}
 use Rattle.model.specs.Memory.{formatted, formattedRoot}
 use Rattle.model.specs.Runs.{Call, events}
-use Rattle.model.specs.Book.{emptyBook, bookAgrees}
+use Rattle.model.specs.Book.{emptyBook, bookAgrees, bookAtEnd}
 use Rattle.model.specs.Links.{clockStart, linksFresh}
 use Rattle.model.specs.Progress.{progresses}
 use Rattle.model.specs.Demands.{Sizes, start, Reached, AtRest, ScheduleRight, GrantsRight, RunSingly}
 use Rattle.model.proofs.Laws.Lists.{All}
-use Rattle.model.proofs.Theorems.Calls.{bookAtEnd, run-answers}
+use Rattle.model.proofs.Theorems.Calls.{run-answers}
 use Rattle.model.proofs.Theorems.AllSteps.{steps-kept}
 use Rattle.model.proofs.Theorems.Reached.{formatted-inv, reached-inv}
 use Rattle.model.proofs.Theorems.LinkRule.{links-fresh}

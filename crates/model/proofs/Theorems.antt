@@ -17,5 +17,6 @@ pub mod Grants
 pub mod Alters
 pub mod BookFed
 pub mod Meanings
+pub mod Consistency
 pub mod Places
 pub mod Singly

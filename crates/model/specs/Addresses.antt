@@ -1,6 +1,6 @@
 -- Addresses of linear hashing, the number of chains, and how a split and a merge move level and next (document 01, "Addresses and locks" and the steps).
 -- Main definitions: hash (h_i), addressOf, chainCount (n); splitNext, splitLevel; mergeTarget, mergePartner, mergeLevel; splitBarred, mergeBarred.
-use mathlib.Core.Bool.{Bool, true, false, cond}
+use mathlib.Core.Bool.{Bool, cond}
 use Prim.Native.Nat.{ℕ, _+_, _-_, _*_, _%_, _^_}
 use lib.Dec.{ltb, eqb}
 

@@ -1,6 +1,6 @@
 -- Document 01's numbers and words for the cases of the answer enums, of operations and of restructurings.
 -- Main definitions: operationNumber, answerNumber and answerOf (a party's answer so far), refusalNumber, restructuringOf (from what is owed).
-use mathlib.Core.Bool.{Bool, true, false, cond}
+use mathlib.Core.Bool.{cond}
 use Prim.Native.Nat.{ℕ}
 use lib.Dec.{eqb}
 use Rattle.model.specs.declared.Operation.{Operation}

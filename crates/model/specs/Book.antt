@@ -1,7 +1,7 @@
 -- The set book (document 01, "The set book"): what every answer of a run must be.
 -- It is fed the events of a run, and compares each answer with its note.
 -- Main definitions: Book, emptyBook; enter, noteAt (steps 6, 10 and 11), closed; agrees, afterEvent; bookAgrees (over a whole list).
-use mathlib.Core.Bool.{Bool, true, false, cond, not, _&&_, _||_}
+use mathlib.Core.Bool.{Bool, true, false, cond, _&&_}
 use mathlib.Core.List.{List, [], _∷_}
 use mathlib.Core.Option.{Option, none, some}
 use Prim.Native.Nat.{ℕ}
@@ -142,3 +142,8 @@ agrees b (stepFor q) number (toStep a) = agreesWith b q number a
 unfoldable pub bookAgrees : Book → List Event → Bool
 bookAgrees b [] = true
 bookAgrees b (e ∷ es) = agrees b (e .call) (e .number) (e .reply) && bookAgrees (bookAfter b (e .call) (e .number) (e .reply)) es
+
+-- The book after a list of events.
+unfoldable pub bookAtEnd : Book → List Event → Book
+bookAtEnd b [] = b
+bookAtEnd b (e ∷ es) = bookAtEnd (bookAfter b (e .call) (e .number) (e .reply)) es

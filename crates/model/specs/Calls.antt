@@ -1,7 +1,6 @@
 -- The three calls as total functions on memory of any contents and any lengths (document 01, "What it covers" and "Refused calls").
 -- Main definitions: formatCall, beginCall, stepCall; each gives the answer and all lent memory afterwards.
-use mathlib.Core.Bool.{Bool, true, false, cond}
-use mathlib.Core.List.{List}
+use mathlib.Core.Bool.{cond}
 use Prim.Native.Nat.{ℕ}
 use lib.ListN.{set}
 use lib.Dec.{eqb}
@@ -14,7 +13,6 @@ use Rattle.model.specs.declared.FormatAnswer.{FormatAnswer}
 use Rattle.model.specs.declared.FormatAnswer.the-variants as FormatAnswer
 use Rattle.model.specs.Records.{rootOfSizes, begun}
 use Rattle.model.specs.Answers.{operationNumber}
-use Rattle.model.specs.Outcome.{Outcome}
 use Rattle.model.specs.Memory.{Memory, partyAt, viewOf, afterStep, formatted}
 use Rattle.model.specs.Refusals.{firstCause, formatRows, beginRows, stepRows}
 use Rattle.model.specs.Steps.Dispatch.{stepOf}

@@ -1,10 +1,9 @@
 -- Demands 2 and 3 as statements about every list of calls from formatted memory.
 -- Main definitions: Reached (a memory that only the index has changed); ScheduleRight (demand 3), GrantsRight and RunSingly (demand 2). The theorems that they hold are in proofs/.
 use mathlib.Core.Path.{_≡_}
-use mathlib.Core.Bool.{Bool, true, false}
+use mathlib.Core.Bool.{true, false}
 use mathlib.Core.List.{List, []}
-use Prim.Native.Nat.{ℕ, _<_}
-use Rattle.model.specs.declared.Root.{Root}
+use Prim.Native.Nat.{ℕ}
 use Rattle.model.specs.declared.Operation.{Operation}
 use Rattle.model.specs.declared.StepAnswer.the-variants as StepAnswer
 use Rattle.model.specs.declared.BeginAnswer.the-variants as BeginAnswer
@@ -17,7 +16,7 @@ use Rattle.model.specs.Book.{emptyBook, bookAgrees}
 use Rattle.model.specs.Links.{clockStart, linksFresh}
 use Rattle.model.specs.Progress.{underWay, progresses}
 use Rattle.model.specs.Holds.{grantsRight}
-use Rattle.model.specs.Sequential.{Finished, fileOf, performedOn, runAlone}
+use Rattle.model.specs.Sequential.{fileOf, performedOn, runAlone}
 
 -- Sizes N b P V Q within their limits.
 pub record Sizes : Type 0 where

@@ -1,6 +1,5 @@
 -- Pages filled with a chain's records (document 01: "the first b in its primary page, the next b in its first overflow page, and so on").
 -- Main definitions: overflowNeeded; primaryOf (a chain's primary page); overflowWritten (its overflow pages).
-use mathlib.Core.Bool.{Bool, true, false, cond}
 use mathlib.Core.List.{List, [], _∷_}
 use Prim.Native.Nat.{ℕ, _+_, _-_, _/_}
 use lib.ListN.{length, take, drop}

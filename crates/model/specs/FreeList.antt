@@ -1,6 +1,6 @@
 -- The free list (document 01: "Pages are taken from the head; a page given back becomes the head").
 -- Main definitions: tooFew, Taken and takenFrom (pages taken, with the tests of damage); GivenBack and givenBack (pages given back, in order).
-use mathlib.Core.Bool.{Bool, true, false, cond, not, _&&_, _||_}
+use mathlib.Core.Bool.{Bool, false, cond, not, _&&_, _||_}
 use mathlib.Core.List.{List, [], _∷_}
 use Prim.Native.Nat.{ℕ, zero, suc}
 use lib.Dec.{ltb, eqb}

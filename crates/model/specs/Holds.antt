@@ -1,7 +1,7 @@
 -- Locks held, derived from the calls made and not from the lock words (demand 2): each grant adds a lock, each give-up takes it away.
 -- Main definitions: tableOne (Table I, its nine entries), Hold, permitted; givesUp (what each step gives up), holdsAfter; grantsRight (over a whole list).
 use mathlib.Core.Bool.{Bool, true, false, cond, not, _&&_, _||_}
-use mathlib.Core.List.{List, [], _∷_, _++_}
+use mathlib.Core.List.{List, [], _∷_}
 use mathlib.Core.Option.{Option, none, some}
 use Prim.Native.Nat.{ℕ}
 use lib.Dec.{eqb}

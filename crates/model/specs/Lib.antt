@@ -23,4 +23,6 @@ pub mod Progress
 pub mod Effects
 pub mod Holds
 pub mod Sequential
+pub mod Consistency
+pub mod PagePlaces
 pub mod Demands

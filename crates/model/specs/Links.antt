@@ -1,7 +1,7 @@
 -- The link rule (document 01, "The set book", last paragraph, and demand 3): no step follows a chain's link to an overflow page given back since that link was read.
 -- Calls are numbered from 1. Two readings outlive their call: the link in a party's scratch page (read at 6 or 9) and the old link in its record (read at 10, 17 or 26).
 -- Main definitions: Clock (when each link was read and each page given back), Trace and traceOf (what each step follows, reads and gives back); linksFresh (over a whole list).
-use mathlib.Core.Bool.{Bool, true, false, cond, _&&_, _||_}
+use mathlib.Core.Bool.{Bool, true, false, cond, _&&_}
 use mathlib.Core.List.{List, [], _∷_, _++_, map}
 use Prim.Native.Nat.{ℕ, _+_}
 use lib.Dec.{ltb, eqb}
@@ -10,7 +10,7 @@ use Rattle.model.specs.declared.StepAnswer.the-variants as StepAnswer
 use Rattle.model.specs.Pages.{pageOf, linkOf, primaryPage, linkedPage}
 use Rattle.model.specs.Chains.{Checked, damaged, sound, Chain, chainOf, listFrom}
 use Rattle.model.specs.FreeList.{isAmong}
-use Rattle.model.specs.Outcome.{View, Outcome, scratchOf}
+use Rattle.model.specs.Outcome.{View, scratchOf}
 use Rattle.model.specs.Memory.{Memory, partyAt, viewOf}
 use Rattle.model.specs.Calls.{stepCall}
 use Rattle.model.specs.Runs.{Call, beginFor, stepFor, afterCall}

@@ -1,8 +1,7 @@
 -- Lock words and Table I (document 01, "The lent memory" and "Addresses and locks").
 -- A lock word is read by fields: bit q marks party q as a reader, bits 16 to 20 hold the selective holder plus one, bits 21 to 25 the exclusive holder plus one.
 -- Main definitions: fieldOf, withField; Claim (a lock: which word, which mode); permits (Table I); holds, grantedWord, releasedWord.
-use mathlib.Core.Bool.{Bool, true, false, cond, _&&_}
-use mathlib.Core.List.{List}
+use mathlib.Core.Bool.{Bool, _&&_}
 use Prim.Native.Nat.{ℕ, _+_, _*_, _/_, _%_, _^_}
 use lib.Dec.{eqb}
 use Rattle.model.specs.declared.Mode.{Mode}

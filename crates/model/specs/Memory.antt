@@ -1,7 +1,7 @@
 -- The lent memory whole (document 01, "The lent memory"), and what format makes of it.
 -- Main definitions: Memory, partyAt, viewOf, afterStep; formatted.
-use mathlib.Core.Bool.{Bool, true, false, cond}
-use mathlib.Core.List.{List, [], _∷_, _++_}
+use mathlib.Core.Bool.{cond}
+use mathlib.Core.List.{List, [], _++_}
 use Prim.Native.Nat.{ℕ, zero, suc, _+_, _*_}
 use lib.ListN.{getD, set, replicate}
 use lib.Dec.{eqb}

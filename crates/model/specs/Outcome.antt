@@ -10,7 +10,7 @@ use Rattle.model.specs.declared.OperationAnswer.{OperationAnswer}
 use Rattle.model.specs.declared.Restructuring.{Restructuring}
 use Rattle.model.specs.declared.StepAnswer.{StepAnswer}
 use Rattle.model.specs.declared.StepAnswer.the-variants as StepAnswer
-use Rattle.model.specs.Records.{idle, atStep}
+use Rattle.model.specs.Records.{idle}
 use Rattle.model.specs.LockWords.{Claim, permits, holds, grantedWord, releasedWord}
 use Rattle.model.specs.Pages.{pageOf, withPage, zeroPage, scratchPage}
 use Rattle.model.specs.Chains.{Checked, damaged, sound}

@@ -1,6 +1,6 @@
 -- Pages of sixteen words in the page memory, and link words (document 01, "The lent memory").
 -- Main definitions: pageOf, withPage; the fields of a page; filledPage, freePage, zeroPage; where the pages stand; linkSound, pageSound (the tests of a page followed).
-use mathlib.Core.Bool.{Bool, true, false, cond, _&&_, _||_}
+use mathlib.Core.Bool.{Bool, _&&_, _||_}
 use mathlib.Core.List.{List, [], _∷_, _++_}
 use Prim.Native.Nat.{ℕ, _+_, _-_, _*_}
 use lib.ListN.{length, getD, take, drop, replicate}

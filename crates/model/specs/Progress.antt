@@ -1,6 +1,6 @@
 -- Progress (demand 3, last part): if operations are under way, at least one of them would answer moved or done if its step came next.
 -- Main definitions: underWay, canMove, progresses; alwaysProgresses (after every call of a list).
-use mathlib.Core.Bool.{Bool, true, false, cond, not, _&&_, _||_}
+use mathlib.Core.Bool.{Bool, false, not, _&&_, _||_}
 use mathlib.Core.List.{List, [], _∷_}
 use Prim.Native.Nat.{ℕ, zero, suc}
 use Rattle.model.specs.Refusals.{isIdle}

@@ -1,7 +1,7 @@
 -- What a step's code may take for granted, and how its result and the lent words make an outcome.
 -- Main definitions: viewing, leftBy (the two sides of a step function's equation); Ready (what holds once no row of the refusal table is met).
 use mathlib.Core.Path.{_≡_}
-use mathlib.Core.Bool.{Bool, true, false}
+use mathlib.Core.Bool.{true}
 use mathlib.Core.List.{List}
 use Prim.Native.Nat.{ℕ, _≤_, _<_}
 use lib.ListN.{length}

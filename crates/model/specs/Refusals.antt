@@ -1,6 +1,6 @@
 -- The refusal table and the damage tests that every step makes (document 01, "Refused calls").
 -- Main definitions: Row, firstCause (tests run in the table's order); lengthsFit; recordSound (the tests of damage on root and record); the rows of each call.
-use mathlib.Core.Bool.{Bool, true, false, cond, not, _&&_, _||_}
+use mathlib.Core.Bool.{Bool, cond, not, _&&_, _||_}
 use mathlib.Core.List.{List, [], _∷_}
 use Prim.Native.Nat.{ℕ}
 use lib.ListN.{length}

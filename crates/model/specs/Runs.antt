@@ -1,14 +1,12 @@
 -- Lists of begins and steps, run from any memory, and the events that such a run makes (document 01, "The set book").
 -- Main definitions: Call, Reply, Event (a call, the number of the step it performed, its reply); eventOf, afterCall; events and finalMemory of a list.
-use mathlib.Core.Bool.{Bool, true, false, cond}
 use mathlib.Core.List.{List, [], _∷_}
 use Prim.Native.Nat.{ℕ}
-use Rattle.model.specs.declared.Root.{Root}
 use Rattle.model.specs.declared.Operation.{Operation}
 use Rattle.model.specs.declared.StepAnswer.{StepAnswer}
 use Rattle.model.specs.declared.BeginAnswer.{BeginAnswer}
-use Rattle.model.specs.Memory.{Memory, partyAt, formatted}
-use Rattle.model.specs.Calls.{Called, beginCall, stepCall}
+use Rattle.model.specs.Memory.{Memory, partyAt}
+use Rattle.model.specs.Calls.{beginCall, stepCall}
 
 -- A begin: party, operation, key. A step: party.
 pub data Call : Type 0 where

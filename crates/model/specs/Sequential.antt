@@ -2,11 +2,11 @@
 -- A file is level, next and the records of each chain. Pages are only counted: a chain takes the overflow pages that its records need, the others are free, so that
 -- the stated shortages of pages and of chains are part of the yardstick.
 -- Main definitions: File, freeIn; Finished, findIn, insertIn, deleteIn; splitFile, mergeFile; fileOf (the file that a memory holds); runAlone.
-use mathlib.Core.Bool.{Bool, true, false, cond, not, _&&_, _||_}
+use mathlib.Core.Bool.{Bool, cond, _||_}
 use mathlib.Core.List.{List, [], _∷_, _++_}
 use Prim.Native.Nat.{ℕ, zero, suc, _+_, _-_}
-use lib.ListN.{length, getD, set, take}
-use lib.Dec.{ltb, eqb}
+use lib.ListN.{getD, set, take}
+use lib.Dec.{ltb}
 use Rattle.model.specs.declared.Root.{Root}
 use Rattle.model.specs.declared.Operation.{Operation}
 use Rattle.model.specs.declared.Operation.the-variants as Operation
@@ -22,7 +22,7 @@ use Rattle.model.specs.Chains.{Checked, damaged, sound, Chain, chainOf}
 use Rattle.model.specs.Filling.{pagesFor}
 use Rattle.model.specs.Steps.Change.{splitOwed, mergeOwed}
 use Rattle.model.specs.Memory.{Memory}
-use Rattle.model.specs.Calls.{Called, beginCall, stepCall}
+use Rattle.model.specs.Calls.{Called, stepCall}
 
 -- Level, next and the records of each chain. The sizes are those of a root record.
 pub record File : Type 0 where

@@ -4,7 +4,7 @@
 
 ghost use mathlib.Core.Path.{_≡_};
 ghost use Prim.Native.Nat.{_+_, _*_, _^_, _≤_, _<_};
-ghost use lib.ListN.{length, getD, take, drop};
+ghost use lib.ListN.{length, getD, drop};
 ghost use Rattle.model.specs.Sizes.{pageWords, mostKeys};
 ghost use Rattle.model.specs.Pages.{withPage, filledPage, linkToFirst};
 ghost use Rattle.model.specs.Filling.{overflowNeeded, primaryOf, overflowWritten};

@@ -6,8 +6,8 @@ use mathlib.Core.List.{List}
 use Prim.Native.Nat.{ℕ}
 use Rattle.model.specs.declared.Party.{Party}
 use Rattle.model.specs.Records.{atStep}
-use Rattle.model.specs.Pages.{pageOf, withPage, pageSound, scratchPage}
-use Rattle.model.specs.Outcome.{View, Outcome, refuse, damage, moved, withParty, withPages, scratchOf}
+use Rattle.model.specs.Pages.{withPage, pageSound}
+use Rattle.model.specs.Outcome.{View, refuse, damage, moved, withParty, withPages, scratchOf}
 use Rattle.model.specs.Steps.Change.{primaryWritten}
 
 -- w is the scratch page as the code read it, b what its test of w answered.

@@ -1,5 +1,5 @@
 -- `calls::step` meets its contract.
-use mathlib.Core.Path.{_≡_, sym, _∙_}
+use mathlib.Core.Path.{sym, _∙_}
 use Rattle.gates.proofs.Accepted.{ready}
 use Rattle.calls.proofs.Calling.{step-refused, step-stepped}
 use borrow.Author.Needs.{needs}

@@ -1,13 +1,13 @@
 -- `chain_build::build_chain` meets its contract.
 use mathlib.Core.Path.{_≡_, sym, ap, ap₂, _∙_}
-use Prim.Native.Nat.{ℕ, _-_}
-use native.Mathlib.Nat.{sub-zero}
+use Prim.Native.Nat.{ℕ}
 use mathlib.Core.List.{List}
 use lib.ListN.{take}
 use Rattle.model.specs.Pages.{withPage, scratchPage}
 use Rattle.model.specs.Chains.{damaged, sound}
 use Rattle.model.specs.Filling.{primaryOf, overflowWritten}
 use Rattle.model.specs.FreeList.{Taken, pagesTaken}
+use Rattle.model.proofs.Laws.Lists.{front-part}
 use Rattle.free_list.specs.declared.Drawn.{Drawn}
 use Rattle.free_list.specs.Taking.{drawnAs}
 use Rattle.free_list.proofs.Taking.{taken-overflow}
@@ -50,7 +50,7 @@ write-chain-requires c κs =
     let t : Taken = record { pages = take (a .k) xs; head = told .head .given .0 .0 } in
     let taken : pagesTaken (a .root) (a .pages .now) (a .k) ≡ sound t
     = sym (drawn .take-pages .ensures) ∙ ap (λ (d : Drawn). drawnAs d (take (a .k) xs)) (told .head .given .1) in
-    let part : take (a .k - 0) xs ≡ take (a .k) xs = ap (λ (n : ℕ). take n xs) (sub-zero (a .k)) in
+    let part = front-part (a .k) xs in
     let can = start .pre .0 in
     let over = taken-overflow (a .root) (a .pages .now) (a .k) t taken .overflow in
     let at = c .before .before .before .scratch-page .ensures in
@@ -99,7 +99,7 @@ returns-2 c = λ ls.
     let t : Taken = record { pages = take (a .k) xs; head = told .head .given .0 .0 } in
     let taken : pagesTaken (a .root) (a .pages .now) (a .k) ≡ sound t
     = sym (drawn .take-pages .ensures) ∙ ap (λ (d : Drawn). drawnAs d (take (a .k) xs)) (told .head .given .1) in
-    let part : take (a .k - 0) xs ≡ take (a .k) xs = ap (λ (n : ℕ). take n xs) (sub-zero (a .k)) in
+    let part = front-part (a .k) xs in
     let b = a .root .keys in
     let pages = c .before .before .before .before .before .write-chain .last .1 .1 .1 .1 .1 .0 in
     let at = c .before .before .before .before .before .before .before .before .before .scratch-page in

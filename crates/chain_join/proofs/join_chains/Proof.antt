@@ -1,13 +1,13 @@
 -- `chain_join::join_chains` meets its contract.
-use mathlib.Core.Path.{_≡_, refl, sym, ap, _∙_}
-use Prim.Native.Nat.{ℕ, _+_, _-_, _≤_}
+use mathlib.Core.Path.{_≡_, refl, ap, _∙_}
+use Prim.Native.Nat.{ℕ, _+_, _≤_}
 use native.Mathlib.Omega.{arith}
 use lib.ListN.{length}
 use borrow.Author.Tests.{not-true, not-false}
 use Rattle.model.specs.Entries.{ascending}
-use Rattle.chain_keys.proofs.WholeChain.{sound-ascends}
+use Rattle.chain_keys.proofs.WholeChain.{sound-ascends, front-is, front-long}
 use Rattle.chain_join.specs.declared.Joined.{Joined}
-use Rattle.chain_join.proofs.Pairs.{target-damaged, partner-damaged, front-is, front-long, pair-damaged, pair-joined}
+use Rattle.chain_join.proofs.Pairs.{target-damaged, partner-damaged, pair-damaged, pair-joined}
 use borrow.Author.Needs.{needs}
 use Rattle.chain_join.proofs.join_chains.Statement.{statement}
 use Rattle.chain_join.proofs.join_chains.Tie as tie

@@ -1,11 +1,11 @@
 -- `chain_keys::gather` meets its contract.
 use mathlib.Core.Path.{_≡_, sym, ap, _∙_}
-use Prim.Native.Nat.{ℕ, _-_, _≤_}
+use Prim.Native.Nat.{_≤_}
 use native.Mathlib.Omega.{arith}
-use native.Mathlib.Nat.{sub-zero}
 use lib.ListN.{length, take}
 use Rattle.model.specs.Entries.{ascending}
 use Rattle.model.specs.Pages.{pageOf, countOf}
+use Rattle.model.proofs.Laws.Lists.{front-part}
 use Rattle.chain_keys.specs.declared.Gathered.{Gathered}
 use Rattle.chain_keys.proofs.WholeChain.{walked-chain, keys-fall-refused, keys-ascend-whole}
 use borrow.Author.Needs.{needs}
@@ -56,8 +56,7 @@ returns c =
     let keys = gathering .gather-keys .last .1 .1 .1 .0 in
     let long : length keys ≡ length (a .keys .now) = gathering .gather-keys .kept .1 .1 .1 .0 in
     let count = gathering .gather-keys .result in
-    let part : take (count - 0) keys ≡ take count keys = ap (λ (k : ℕ). take k keys) (sub-zero count) in
-    let tested : c .before .before .ascends .result ≡ ascending (take count keys) = c .before .before .ascends .ensures ∙ ap ascending part in
+    let tested : c .before .before .ascends .result ≡ ascending (take count keys) = c .before .before .ascends .ensures ∙ ap ascending (front-part count keys) in
     let g : Gathered = record { ok = c .before .before .ascends .result; level = c .before .level-of .result; link = c .link-of .result; count = count } in
     let fits : count ≤ length keys = omega (arith, gathering .gather-keys .ensures .0, long) in (
       λ bad. keys-fall-refused (a .root) ps (a .chain .0) (a .n) passed keys (loaded .load .result) g page (gathering .gather-keys .ensures .1) (sym tested ∙ bad),

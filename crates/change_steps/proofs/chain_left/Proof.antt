@@ -1,6 +1,5 @@
 -- `change_steps::chain_left` meets its contract.
 use mathlib.Core.Path.{_∙_}
-use native.Mathlib.Omega.{arith}
 use Rattle.model.specs.Ready.{viewing}
 use Rattle.change_steps.proofs.Leaves.{unchanged-ends, no-old-goes-on, old-first}
 use borrow.Author.Needs.{needs}

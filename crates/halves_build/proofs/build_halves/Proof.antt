@@ -8,12 +8,12 @@ use Rattle.model.specs.Records.{atStep, withOld}
 use Rattle.model.specs.Pages.{scratchPage}
 use Rattle.model.specs.Chains.{damaged, sound}
 use Rattle.model.specs.FreeList.{Taken, pagesTaken}
+use Rattle.model.proofs.Laws.Lists.{front-part}
 use Rattle.free_list.specs.declared.Drawn.{Drawn}
 use Rattle.free_list.specs.Taking.{drawnAs}
 use Rattle.free_list.proofs.Taking.{taken-overflow}
 use Rattle.chain_build.proofs.Building.{overflow-fillable}
 use Rattle.halves_build.specs.Halves.{both, bothWritten}
-use Rattle.halves_build.proofs.Parts.{front-part}
 use Rattle.halves_build.proofs.Built.{damaged-refused, taken-divided}
 use borrow.Author.Needs.{needs}
 use Rattle.halves_build.proofs.build_halves.Statement.{statement}

@@ -5,8 +5,9 @@ use mathlib.Core.List.{List}
 use lib.ListN.{take, drop}
 use Rattle.model.specs.Pages.{withPage}
 use Rattle.model.specs.Filling.{primaryOf, overflowWritten}
+use Rattle.model.proofs.Laws.Lists.{front-part}
 use Rattle.halves_build.specs.Halves.{bothWritten}
-use Rattle.halves_build.proofs.Parts.{front-part, back-part, front-fillable, back-fillable, still-fillable}
+use Rattle.halves_build.proofs.Parts.{back-part, front-fillable, back-fillable, still-fillable}
 use borrow.Author.Needs.{needs}
 use Rattle.halves_build.proofs.write_halves.Statement.{statement}
 use Rattle.halves_build.proofs.write_halves.Tie as tie

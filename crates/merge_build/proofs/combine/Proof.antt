@@ -1,10 +1,10 @@
 -- `merge_build::combine` meets its contract.
-use mathlib.Core.Path.{_≡_, refl, sym, ap, _∙_}
-use Prim.Native.Nat.{ℕ, _-_, _≤_}
-use native.Mathlib.Nat.{sub-zero}
+use mathlib.Core.Path.{_≡_, _∙_}
+use Prim.Native.Nat.{_-_, _≤_}
 use native.Mathlib.Omega.{arith}
 use lib.ListN.{length, take, length-take}
 use Rattle.model.specs.Ready.{viewing}
+use Rattle.model.proofs.Laws.Lists.{front-part}
 use Rattle.merge_build.proofs.Combines.{pair-refused, pair-combined}
 use borrow.Author.Needs.{needs}
 use Rattle.merge_build.proofs.combine.Statement.{statement}
@@ -60,7 +60,7 @@ returns c =
     let joining = c .before .before .before .before .before .before .before .before .before .before .before .before .before .before .before .before .before .before .before .join-chains in
     let out = joining .last .1 .1 .1 .1 .1 .1 .1 .0 in
     let both = joining .ensures .1 (c .before .before .before .before .before .before .before .before .before .before .before .before .if1 .taken) in
-    let part = ap (λ (n : ℕ). take n out) (sub-zero (joining .result .count)) ∙ both .entries in
+    let part = front-part (joining .result .count) out ∙ both .entries in
     c .before .before .before .before .before .before .combine-with .ensures (both .pair) (both .level) (both .link) part ∙ pair-combined v (start .pre .not-barred) (both .pair) (both .is-sound)
 
 refused-requires : tie.Need-refused-requires

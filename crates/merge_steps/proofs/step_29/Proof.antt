@@ -1,9 +1,9 @@
 -- `merge_steps::step_29` meets its contract.
-use mathlib.Core.Path.{_≡_, sym, ap, _∙_}
+use mathlib.Core.Path.{_≡_, sym, _∙_}
 use mathlib.Core.Bool.{true}
 use native.Mathlib.Omega.{arith}
 use borrow.Author.Tests.{not-false}
-use Rattle.model.specs.Pages.{linkOf, linkSound, pageSound}
+use Rattle.model.specs.Pages.{linkSound, pageSound}
 use Rattle.model.specs.Ready.{viewing}
 use Rattle.chains.proofs.Tests.{sound-page-links}
 use Rattle.merge_steps.specs.Clearing.{CanClear}

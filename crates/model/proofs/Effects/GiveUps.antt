@@ -1,11 +1,11 @@
 -- Several locks given up in one step: each is found held, and the words then say that the party holds none of them.
 -- Main statements: Apart (locks of different words), held-all, given-up-locks, given-up-rest (nothing but lock words changes), release-all (a party that gives up all it holds).
-use mathlib.Core.Path.{_≡_, refl, sym, ap, _∙_}
+use mathlib.Core.Path.{_≡_, refl, _∙_}
 use mathlib.Core.Logic.{_≢_}
 use mathlib.Core.Bool.{Bool, true, false, cond, not, _&&_, _||_, and-true, and-false, and-not-self, or-false}
 use mathlib.Core.List.{List, [], _∷_}
 use Prim.Native.Nat.{ℕ, _<_}
-use lib.ListN.{length, getD, set}
+use lib.ListN.{length, set}
 use lib.Dec.{eqb}
 use Rattle.model.specs.declared.Root.{Root}
 use Rattle.model.specs.declared.Party.{Party}
@@ -14,7 +14,7 @@ use Rattle.model.specs.LockWords.{Claim}
 use Rattle.model.specs.Outcome.{View, withLocks, isHeld, heldAll, withoutHold, givenUp}
 use Rattle.model.specs.Memory.{partyAt}
 use Rattle.model.specs.Holds.{sameMode}
-use Rattle.model.proofs.Laws.Lists.{Cmp, same, diff, cmp, All, all-map, all-zip, eqb-same, eqb-diff}
+use Rattle.model.proofs.Laws.Lists.{Cmp, same, diff, cmp, All, all-zip, eqb-same, eqb-diff}
 use Rattle.model.proofs.Invariant.Claims.{claims, isClaimed, claimed, LocksOk}
 use Rattle.model.proofs.Invariant.LockMoves.{held-true, locks-released, locks-same, locks-move}
 use Rattle.model.proofs.Effects.Requests.{claim-more}

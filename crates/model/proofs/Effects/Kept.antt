@@ -1,31 +1,27 @@
 -- What is owed of a step: it is not refused, it agrees with the set book, and the invariant holds after it; and how the parts of the invariant are put together again.
 -- Main statements: Kept; row-same, row-other, row-chain (the row after one record changed); extents-move, extents-by-one; assemble; waits-kept (a waiting call).
-use mathlib.Core.Path.{_≡_, refl, sym, ap, _∙_, subst}
+use mathlib.Core.Path.{_≡_, refl, sym, ap, _∙_}
 use mathlib.Core.Logic.{_≢_}
-use mathlib.Core.Bool.{Bool, true, false, cond, _&&_, _||_, false≢true}
-use mathlib.Core.List.{List, [], _∷_}
-use mathlib.Core.Option.{Option, none, some}
-use Prim.Native.Nat.{ℕ, zero, suc, _+_, _≤_, _<_}
+use mathlib.Core.Bool.{true, false, false≢true}
+use mathlib.Core.List.{List}
+use mathlib.Core.Option.{none}
+use Prim.Native.Nat.{ℕ, _≤_, _<_}
 use native.Mathlib.Omega.{arith}
-use lib.ListN.{length, getD, set, length-set}
+use lib.ListN.{length, set, length-set}
 use lib.Seq.{getD-set-same, getD-set-other, set-getD}
-use lib.Dec.{eqb}
 use Rattle.model.specs.declared.Root.{Root}
 use Rattle.model.specs.declared.Party.{Party}
-use Rattle.model.specs.declared.StepAnswer.{StepAnswer}
-use Rattle.model.specs.declared.StepAnswer.the-variants as StepAnswer
-use Rattle.model.specs.Sizes.{lockWords, allPageWords, within}
+use Rattle.model.specs.Sizes.{lockWords}
 use Rattle.model.specs.Records.{idle}
 use Rattle.model.specs.Answers.{refusalNumber}
 use Rattle.model.specs.Addresses.{span}
-use Rattle.model.specs.Pages.{pageOf, primaryPage, zeroPage}
-use Rattle.model.specs.Outcome.{View, Outcome, waits}
+use Rattle.model.specs.Outcome.{Outcome, waits}
 use Rattle.model.specs.Memory.{Memory, partyAt, viewOf, afterStep}
-use Rattle.model.specs.Book.{Book, Entered, agreesWith, afterReply, noteFor, noteStep}
-use Rattle.model.proofs.Laws.Lists.{Cmp, same, diff, cmp, eqb-diff}
+use Rattle.model.specs.Book.{Book, agreesWith, afterReply}
+use Rattle.model.proofs.Laws.Lists.{Cmp, same, diff, cmp}
 use Rattle.model.proofs.Invariant.Ghost.{Extent, rootExtent, size, Ghost}
 use Rattle.model.proofs.Invariant.Claims.{LocksOk, claimed}
-use Rattle.model.proofs.Invariant.Statement.{Limits, restructures, liveFor, lowFor, ExtentsOk, uses, PagesOk, BookOk, Scene, NoPages, PartyOk, sceneOf, Inv}
+use Rattle.model.proofs.Invariant.Statement.{Limits, restructures, liveFor, lowFor, ExtentsOk, PagesOk, BookOk, NoPages, PartyOk, sceneOf, Inv}
 use Rattle.model.proofs.Invariant.Frame.{SameLimits, SameSizes, Keeps, party-frame, none-kept}
 
 -- What is owed of a step of party q that has the outcome o.

@@ -1,25 +1,24 @@
 -- Steps that change the party's record and lock words alone: root, pages and ghost stay.
 -- Main statements: keeps-row (every other party keeps what it relies on), pages-row, own-parts (the parts of the invariant after such a step), own-kept (such a step that moves).
-use mathlib.Core.Path.{_≡_, refl, sym, ap, _∙_, subst}
+use mathlib.Core.Path.{_≡_, refl, sym, ap, _∙_}
 use mathlib.Core.Logic.{_≢_}
-use mathlib.Core.Bool.{Bool, true, false, cond}
-use mathlib.Core.List.{List, [], _∷_}
-use Prim.Native.Nat.{ℕ, zero, suc, _+_, _≤_, _<_}
+use mathlib.Core.Bool.{false}
+use mathlib.Core.List.{List}
+use Prim.Native.Nat.{ℕ, _<_}
 use native.Mathlib.Omega.{arith}
-use lib.ListN.{length, getD, set}
+use lib.ListN.{length, set}
 use Rattle.model.specs.declared.Root.{Root}
 use Rattle.model.specs.declared.Party.{Party}
 use Rattle.model.specs.Sizes.{lockWords}
 use Rattle.model.specs.Answers.{refusalNumber}
-use Rattle.model.specs.Pages.{pageOf}
 use Rattle.model.specs.Outcome.{withParty, withLocks, moved}
 use Rattle.model.specs.Memory.{Memory, partyAt, viewOf}
 use Rattle.model.specs.Book.{Book, agreesWith, afterReply}
 use Rattle.model.proofs.Laws.Lists.{Cmp, same, diff, cmp}
-use Rattle.model.proofs.Invariant.Ghost.{Ghost, owner, inChain, oldOf}
-use Rattle.model.proofs.Laws.Structure.{SameOn, same-on}
+use Rattle.model.proofs.Invariant.Ghost.{owner, oldOf}
+use Rattle.model.proofs.Laws.Structure.{same-on}
 use Rattle.model.proofs.Invariant.Claims.{LocksOk, claimed}
-use Rattle.model.proofs.Invariant.Statement.{ExtentsOk, uses, PagesOk, BookOk, Scene, Protected, in-chain, in-old, PartyOk, sceneOf, Inv}
+use Rattle.model.proofs.Invariant.Statement.{ExtentsOk, uses, PagesOk, Scene, Protected, in-chain, in-old, PartyOk, sceneOf, Inv}
 use Rattle.model.proofs.Invariant.Frame.{SameLimits, SameSizes, Keeps, still-grows}
 use Rattle.model.proofs.Effects.Kept.{Kept, row-same, row-other, Parts, assemble}
 use Rattle.model.proofs.Invariant.Facts.{still-noted}

@@ -1,20 +1,19 @@
 -- Steps that request a lock: granted by Table I, the party holds it and its record moves on; else it waits.
 -- Main statements: claim-more, claim-last (one lock more in a list, at its front or its end), request-kept (every requesting step).
-use mathlib.Core.Path.{_≡_, refl, sym, ap, _∙_, subst}
+use mathlib.Core.Path.{_≡_, refl, sym, ap, _∙_}
 use mathlib.Core.Logic.{_≢_}
 use mathlib.Core.Bool.{Bool, true, false, cond, _&&_, _||_, or-comm, or-assoc, or-false, and-true, and-false}
 use mathlib.Core.List.{List, [], _∷_, _++_}
-use Prim.Native.Nat.{ℕ, zero, suc, _+_, _≤_, _<_}
+use Prim.Native.Nat.{ℕ, _<_}
 use native.Mathlib.Omega.{arith}
 use lib.ListN.{length, getD, set}
 use lib.Dec.{eqb}
 use Rattle.model.specs.declared.Party.{Party}
 use Rattle.model.specs.declared.Mode.{Mode}
 use Rattle.model.specs.declared.Mode.the-variants.{Read, Selective, Exclusive}
-use Rattle.model.specs.declared.StepAnswer.the-variants as StepAnswer
 use Rattle.model.specs.Sizes.{lockWords}
 use Rattle.model.specs.LockWords.{Claim, permits, grantedWord}
-use Rattle.model.specs.Outcome.{View, Outcome, isGranted, withHold, request, waits}
+use Rattle.model.specs.Outcome.{isGranted, withHold, request}
 use Rattle.model.specs.Memory.{Memory, partyAt, viewOf}
 use Rattle.model.specs.Book.{Book}
 use Rattle.model.specs.Holds.{sameMode}

@@ -2,11 +2,11 @@
 -- Main statements: taken-is (the free list gives them), owned-then, built-then, new-then, free-then, held-kept; touches and taking-parts (the parts of the invariant after such a step).
 use mathlib.Core.Path.{_≡_, refl, sym, ap, _∙_, subst}
 use mathlib.Core.Logic.{_≢_, _⊎_, inl, inr}
-use mathlib.Core.Bool.{Bool, true, false, cond, _&&_, _||_, false≢true}
+use mathlib.Core.Bool.{true, false, false≢true}
 use mathlib.Core.List.{List, [], _∷_, _++_}
-use Prim.Native.Nat.{ℕ, zero, suc, _+_, _-_, _≤_, _<_}
+use Prim.Native.Nat.{ℕ, _+_, _-_, _≤_, _<_}
 use native.Mathlib.Omega.{arith}
-use lib.ListN.{length, set, take, drop, length-take, length-drop}
+use lib.ListN.{length, set, take, drop, length-drop}
 use lib.Seq.{take-take, take-add, drop-drop, drop-at, length-take-le}
 use lib.Dec.{eqb}
 use Rattle.model.specs.declared.Root.{Root}
@@ -18,16 +18,15 @@ use Rattle.model.specs.Chains.{sound}
 use Rattle.model.specs.FreeList.{isAmong, pagesTaken}
 use Rattle.model.specs.Memory.{Memory, partyAt}
 use Rattle.model.specs.Book.{Book}
-use Rattle.model.proofs.Laws.Lists.{Told, holds, fails, tell, eqb-diff, eqb-false, or-neither, or-either, first-or-rest, among-append, among-take, among-drop, count-nil, count-cut, absent-count, among-count, count-absent, All, all-from}
-use Rattle.model.proofs.Invariant.Ghost.{Owner, owner, Named, nobody, free, inChain, oldOf, partnerOf, builtBy, newBy, sameOwner, count, size, Ghost, Owned, ownAfter, heldAfter}
+use Rattle.model.proofs.Laws.Lists.{Told, holds, fails, tell, eqb-diff, eqb-false, or-neither, or-either, first-or-rest, among-append, among-take, among-drop, count-nil, count-cut, All, all-from}
+use Rattle.model.proofs.Invariant.Ghost.{Owner, owner, Named, nobody, free, inChain, oldOf, builtBy, newBy, sameOwner, count, size, Ghost, Owned, ownAfter, heldAfter}
 use Rattle.model.proofs.Invariant.Owners.{kinds-apart, indices-apart, own-of-member, member-of-own, absent-elsewhere, no-repeats, overflow-bounds, held-after-same, held-after-other, own-after-moved, own-after-other, handed, handed-front, same-from}
-use Rattle.model.proofs.Laws.Structure.{FreePages, free-frame}
+use Rattle.model.proofs.Laws.Structure.{free-frame}
 use Rattle.model.proofs.Laws.Filling.{IsOverflow}
 use Rattle.model.proofs.Laws.Reading.{held-overflow}
 use Rattle.model.proofs.Laws.FreeList.{taken-front, free-drop}
 use Rattle.model.proofs.Invariant.Claims.{claimed, LocksOk}
 use Rattle.model.proofs.Invariant.Statement.{ExtentsOk, uses, Scene, PartyOk, Inv, sceneOf}
-use Rattle.model.proofs.Invariant.Frame.{SameSizes}
 use Rattle.model.proofs.Effects.Kept.{Parts}
 use Rattle.model.proofs.Effects.Touch.{Touch, free-page, own-scratch, Touches, FreeAfter, keeps-touched, pages-touched, book-touched}
 

@@ -2,12 +2,11 @@
 -- Main statements: Touch (the kinds of page that a step may write), Touches; keeps-touched (every other party keeps what it relies on), chain-untouched (every live chain stays).
 use mathlib.Core.Path.{_≡_, refl, sym, ap, _∙_, subst, subst₃}
 use mathlib.Core.Logic.{_≢_}
-use mathlib.Core.Bool.{Bool, true, false, cond, _&&_, _||_, false≢true}
-use mathlib.Core.List.{List, [], _∷_}
-use mathlib.Core.Option.{Option, none, some}
-use Prim.Native.Nat.{ℕ, zero, suc, _+_, _≤_, _<_}
+use mathlib.Core.Bool.{true, false, false≢true}
+use mathlib.Core.List.{List}
+use Prim.Native.Nat.{ℕ, _+_, _≤_, _<_}
 use native.Mathlib.Omega.{arith}
-use lib.ListN.{length, getD, set, List·getD-eq-default}
+use lib.ListN.{length, set, List·getD-eq-default}
 use lib.Dec.{eqb}
 use Rattle.model.specs.declared.Party.{Party}
 use Rattle.model.specs.Records.{idle}
@@ -16,12 +15,12 @@ use Rattle.model.specs.Addresses.{hash}
 use Rattle.model.specs.Pages.{pageOf, primaryPage, scratchPage, linkToFirst, zeroPage}
 use Rattle.model.specs.FreeList.{isAmong}
 use Rattle.model.specs.Memory.{Memory, partyAt}
-use Rattle.model.specs.Book.{Book, Entered}
+use Rattle.model.specs.Book.{Book}
 use Rattle.model.proofs.Laws.Lists.{Told, holds, fails, tell, Cmp, same, diff, cmp, Ord, lt, ge, ord, not-both, eqb-diff}
-use Rattle.model.proofs.Invariant.Ghost.{Owner, owner, Named, nobody, free, inChain, oldOf, size, localLevel, Ghost, Owned}
-use Rattle.model.proofs.Invariant.Owners.{own-of-member, overflow-bounds, owner-diff, kinds-apart, indices-apart, same-from}
+use Rattle.model.proofs.Invariant.Ghost.{Owner, owner, Named, nobody, free, inChain, oldOf, size, localLevel, Owned}
+use Rattle.model.proofs.Invariant.Owners.{own-of-member, kinds-apart, same-from}
 use Rattle.model.proofs.Laws.Structure.{SameOn, FreePages, ChainIs, chain-frame}
-use Rattle.model.proofs.Invariant.Statement.{uses, PagesOk, BookOk, Scene, scratchIn, heldIn, Protected, in-chain, in-old, Busy, PartyOk, resting, working, sceneOf, Inv}
+use Rattle.model.proofs.Invariant.Statement.{uses, PagesOk, BookOk, Scene, heldIn, Protected, in-chain, in-old, PartyOk, resting, working, sceneOf, Inv}
 use Rattle.model.proofs.Invariant.Frame.{SameSizes, Keeps, still-grows}
 use Rattle.model.proofs.Effects.Kept.{row-same, row-other}
 

@@ -1,10 +1,10 @@
 -- Which locks a party holds is a function of its record; every lock word is the encoding of that function over all parties.
 -- Main statements: claims (the locks held, by step number), claimed; WordOk (a lock word says exactly who holds it, and an exclusive holder is alone), LocksOk.
-use mathlib.Core.Path.{_≡_, refl}
+use mathlib.Core.Path.{_≡_}
 use mathlib.Core.Logic.{_≢_}
-use mathlib.Core.Bool.{Bool, true, false, cond, _&&_, _||_}
+use mathlib.Core.Bool.{Bool, true, false, _&&_, _||_}
 use mathlib.Core.List.{List, [], _∷_}
-use Prim.Native.Nat.{ℕ, zero, suc, _+_, _^_, _≤_, _<_}
+use Prim.Native.Nat.{ℕ, suc, _^_, _≤_, _<_}
 use lib.ListN.{length, getD}
 use lib.Dec.{eqb}
 use Rattle.model.specs.declared.Root.{Root}
@@ -17,7 +17,7 @@ use Rattle.model.specs.Memory.{partyAt}
 use Rattle.model.specs.Steps.Locate.{rootRead, chainLock, otherLock}
 use Rattle.model.specs.Steps.Change.{chainSelective, chainExclusive}
 use Rattle.model.specs.Steps.Split.{rootSelective}
-use Rattle.model.specs.Steps.Merge.{rootExclusive, otherExclusive, mergeLocks}
+use Rattle.model.specs.Steps.Merge.{rootExclusive, mergeLocks}
 
 -- ---- The locks that a record says its party holds
 

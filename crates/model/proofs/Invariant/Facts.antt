@@ -3,10 +3,9 @@
 -- book does not note), changed-here, changed-elsewhere.
 use mathlib.Core.Path.{_≡_, refl, sym, ap, _∙_, subst}
 use mathlib.Core.Logic.{_≢_, _⊎_, inl, inr}
-use mathlib.Core.Bool.{Bool, true, false, cond, _||_, false≢true}
-use mathlib.Core.List.{List, [], _∷_}
+use mathlib.Core.Bool.{true, false, _||_, false≢true}
 use mathlib.Core.Option.{Option, none, some}
-use Prim.Native.Nat.{ℕ, zero, suc, _+_, _≤_, _<_}
+use Prim.Native.Nat.{ℕ, suc, _≤_}
 use native.Mathlib.Omega.{arith}
 use lib.ListN.{List·getD-eq-default}
 use lib.Dec.{eqb}
@@ -18,7 +17,7 @@ use Rattle.model.specs.Book.{Book, Entered, changedAt, noteFor, noteStep
 use Rattle.model.specs.Steps.Split.{countOfChains}
 use Rattle.model.proofs.Laws.Lists.{eqb-true, eqb-same, eqb-diff, Ord, lt, ge, ord, and-both, or-either}
 use Rattle.model.proofs.Invariant.Ghost.{rootExtent, size}
-use Rattle.model.proofs.Invariant.Statement.{restructures, liveFor, uses, Scene, heldIn, NothingBuilt, NothingOld, NoPages, factsAt, Busy, PartyOk, resting, working, sceneOf, Inv}
+use Rattle.model.proofs.Invariant.Statement.{restructures, liveFor, uses, Scene, NoPages, factsAt, Busy, PartyOk, resting, working, sceneOf, Inv}
 
 -- A party under way at step number n: its entry in the book, its bounds and its facts.
 pub record At (n : ℕ) (s : Scene) (q : ℕ) (p : Party) : Type 0 where

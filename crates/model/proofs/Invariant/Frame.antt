@@ -2,13 +2,11 @@
 -- Main statements: Grows, Keeps (what a party relies on), still-grows; party-frame (the frame of every party at every step number).
 use mathlib.Core.Path.{_≡_, refl, sym, ap, _∙_, subst, subst₃}
 use native.Mathlib.Nat.{add-zero, add-suc, suc-add, zero-add}
-use mathlib.Core.Logic.{_≢_}
 use mathlib.Core.Bool.{Bool, true, false, cond, _&&_, _||_, or-true, false≢true}
-use mathlib.Core.List.{List, [], _∷_, _++_}
-use mathlib.Core.Option.{Option, none, some}
+use mathlib.Core.List.{List, [], _∷_}
 use Prim.Native.Nat.{ℕ, zero, suc, _+_, _≤_, _<_}
 use native.Mathlib.Omega.{arith}
-use lib.ListN.{length, getD, drop}
+use lib.ListN.{getD, drop}
 use lib.Dec.{eqb}
 use borrow.Author.Tests.{eq-eqb, eqb-true}
 use Rattle.model.specs.declared.Root.{Root}
@@ -17,7 +15,7 @@ use Rattle.model.specs.declared.Mode.{Mode}
 use Rattle.model.specs.declared.Mode.the-variants.{Read, Selective, Exclusive}
 use Rattle.model.specs.LockWords.{Claim, chainWord}
 use Rattle.model.specs.Entries.{Entry, staying, going, joined}
-use Rattle.model.specs.Pages.{pageOf, linkOf, pageSound, linkSound, namesOverflow, linkToFirst, primaryPage, scratchPage}
+use Rattle.model.specs.Pages.{pageOf, linkOf, pageSound, linkSound, namesOverflow, linkToFirst, primaryPage}
 use Rattle.model.specs.Chains.{entriesOn}
 use Rattle.model.specs.FreeList.{isAmong}
 use Rattle.model.specs.Steps.Change.{chainSelective, chainExclusive}
@@ -28,8 +26,8 @@ use Rattle.model.specs.Holds.{sameMode}
 use Rattle.model.specs.Sizes.{within}
 use Rattle.model.specs.Steps.Locate.{modeOf, chainLock, otherLock}
 use Rattle.model.specs.Steps.Dispatch.{hasStep}
-use Rattle.model.proofs.Invariant.Ghost.{Owner, owner, inChain, oldOf, partnerOf, builtBy, newBy, Extent, size, localLevel}
-use Rattle.model.proofs.Laws.Structure.{Linked, Overflow, ChainIs, SameOn, linked-frame, overflow-frame, chain-frame}
+use Rattle.model.proofs.Invariant.Ghost.{owner, inChain, oldOf, partnerOf, builtBy, newBy, Extent, size, localLevel}
+use Rattle.model.proofs.Laws.Structure.{Linked, SameOn, linked-frame, overflow-frame, chain-frame}
 use Rattle.model.proofs.Invariant.Claims.{claims, claimTable, noLock, isClaimed}
 use Rattle.model.proofs.Invariant.Statement.{restructures, Scene, scratchIn, heldIn, NothingBuilt, NothingOld, NoPages, Early, Heads, Chasing, Protected, Walking, AtHome, Building, Rebuilt, Trash, Leaving, Written, unchanged, made-change, Returning, Settled, SplitChains, Dividing, Divided, MergeChains, Joining, Joined, MovedBack, Emptying, uses, Facts, factsNone, factsEarly, factsLevelRead, factsLocated, factsLocked, factsChasing, factsCoupled, factsHome, factsRebuilt, factsJoined, factsMovedBack, factsEmptying, factsMerged, factTable, Busy, PartyOk, resting, working}
 
@@ -357,7 +355,7 @@ unfolding isClaimed
 later c cs i m h = rw (h, or-true (eqb (c .word) i && sameMode (c .mode) m)) refl
 
 -- The chain of a party that holds it alone, in the mode of its operation.
-holds-chain : (r : Root) (p : Party) (n : ℕ) → p .step ≡ n → getD claimTable n noLock p ≡ chainLock p ∷ [] → isClaimed (claims r p) (chainWord (p .chain)) (modeOf p) ≡ true
+pub holds-chain : (r : Root) (p : Party) (n : ℕ) → p .step ≡ n → getD claimTable n noLock p ≡ chainLock p ∷ [] → isClaimed (claims r p) (chainWord (p .chain)) (modeOf p) ≡ true
 holds-chain r p n e c = rw (claims-at r p n e, c) (named [] (chainWord (p .chain)) (modeOf p))
 
 -- An insert or a delete locks its chain selectively.

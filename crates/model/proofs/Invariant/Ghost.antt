@@ -1,14 +1,15 @@
 -- What only the proof knows: who owns each overflow page, the list of pages that each owner has, the records of each live chain, and how far the live file extends.
 -- Main statements: Owner, Ghost; Owned (each overflow page is once in its owner's list and in no other); handed (pages that go from one owner to another).
-use mathlib.Core.Path.{_≡_, refl, sym, ap, _∙_}
-use mathlib.Core.Bool.{Bool, true, false, cond, _&&_}
-use mathlib.Core.List.{List, [], _∷_, _++_}
-use Prim.Native.Nat.{ℕ, zero, suc, _+_, _≤_, _<_}
+use mathlib.Core.Path.{_≡_}
+use mathlib.Core.Bool.{Bool, false, cond, _&&_}
+use mathlib.Core.List.{List, []}
+use Prim.Native.Nat.{ℕ, _+_, _≤_, _<_}
 use lib.Dec.{ltb, leb, eqb}
 use Rattle.model.specs.declared.Root.{Root}
 use Rattle.model.specs.Entries.{Entry}
 use Rattle.model.specs.Addresses.{span, chainCount}
 use Rattle.model.specs.FreeList.{isAmong}
+unfoldable pub use Rattle.model.specs.PagePlaces.{count}
 
 -- ---- Owners
 
@@ -58,11 +59,6 @@ sameOwner a b = eqb (a .kind) (b .kind) && eqb (a .index) (b .index)
 -- 1 where the owners are the same, else 0.
 unfoldable pub owns : Owner → Owner → ℕ
 owns a b = cond (sameOwner a b) 1 0
-
--- How often x is in the list.
-unfoldable pub count : ℕ → List ℕ → ℕ
-count x [] = 0
-count x (y ∷ ys) = cond (eqb y x) 1 0 + count x ys
 
 -- ---- How far a file extends
 

@@ -1,36 +1,36 @@
 -- THE INVARIANT: what holds of the memory, with the set book beside it, after every list of calls from formatted memory.
 -- Main statements: Limits; ExtentsOk (how far the live file extends); PagesOk (who owns each page, and what each page holds); BookOk (the book's set is the keys of the live chains);
 -- the facts of a party by its step number (factTable), PartyOk; Inv.
-use mathlib.Core.Path.{_≡_, refl}
+use mathlib.Core.Path.{_≡_}
 use mathlib.Core.Logic.{_≢_}
-use mathlib.Core.Bool.{Bool, true, false, cond, not, _&&_, _||_}
+use mathlib.Core.Bool.{Bool, true, false, cond, _&&_, _||_}
 use mathlib.Core.List.{List, [], _∷_, _++_}
 use mathlib.Core.Option.{Option, none, some}
-use Prim.Native.Nat.{ℕ, zero, suc, _+_, _≤_, _<_}
+use Prim.Native.Nat.{ℕ, suc, _+_, _≤_, _<_}
 use lib.ListN.{length, getD, drop}
-use lib.Dec.{ltb, leb, eqb}
+use lib.Dec.{eqb}
 use Rattle.model.specs.declared.Root.{Root}
 use Rattle.model.specs.declared.Party.{Party}
-use Rattle.model.specs.declared.Operation.{Operation}
 use Rattle.model.specs.declared.OperationAnswer.{OperationAnswer}
 use Rattle.model.specs.declared.OperationAnswer.the-variants as OperationAnswer
 use Rattle.model.specs.Sizes.{mostKeys, lockWords, allPageWords, within}
 use Rattle.model.specs.Records.{idle}
 use Rattle.model.specs.Answers.{operationNumber, answerOf}
 use Rattle.model.specs.Addresses.{span, hash, addressOf}
-use Rattle.model.specs.Entries.{Entry, keyOf, hasKey, ascending, staying, going, joined}
+use Rattle.model.specs.Entries.{Entry, hasKey, ascending, staying, going, joined}
 use Rattle.model.specs.Pages.{pageOf, linkOf, entriesOf, linkToFirst, pageSound, primaryPage, scratchPage, zeroPage}
 use Rattle.model.specs.Chains.{entriesOn}
 use Rattle.model.specs.Filling.{primaryOf}
 use Rattle.model.specs.FreeList.{isAmong}
 use Rattle.model.specs.Memory.{Memory, partyAt}
 use Rattle.model.specs.Book.{Book, Entered, isIn}
-use Rattle.model.specs.Steps.Change.{Change, kept, changed, changeOf, owedBy, isChange}
+unfoldable pub use Rattle.model.specs.Consistency.{restructures}
+use Rattle.model.specs.Steps.Change.{changed, changeOf, owedBy, isChange}
 use Rattle.model.specs.Steps.Split.{countOfChains}
 use Rattle.model.specs.Steps.Merge.{targetOf, mergeStops}
 use Rattle.model.specs.Steps.Dispatch.{hasStep}
 use Rattle.model.specs.Addresses.{mergePartner}
-use Rattle.model.proofs.Invariant.Ghost.{Owner, Named, nobody, free, inChain, oldOf, partnerOf, builtBy, newBy, count, Extent, extent, rootExtent, size, advance, localLevel, Ghost, Owned}
+use Rattle.model.proofs.Invariant.Ghost.{Owner, Named, free, inChain, oldOf, partnerOf, builtBy, newBy, count, Extent, extent, rootExtent, size, advance, localLevel, Ghost, Owned}
 use Rattle.model.proofs.Laws.Structure.{Linked, FreePages, Overflow, ChainIs}
 use Rattle.model.proofs.Invariant.Claims.{LocksOk, claimed}
 
@@ -48,10 +48,6 @@ pub record Limits (r : Root) : Type 0 where
   pub parties-fit : r .parties ≤ 16
 
 -- ---- How far the file extends
-
--- The party that splits or merges, by its record: it holds the root selectively or exclusively.
-unfoldable pub restructures : Party → Bool
-restructures p = within 16 22 (p .step) || within 24 30 (p .step)
 
 -- The live extent while party p restructures: the root's, but for the steps between a change of the chains and the change of the root.
 unfoldable pub liveFor : Root → Party → Extent

@@ -1,13 +1,13 @@
 -- Tools over tests, numbers and lists that the other proof files share: ways to branch, how often a number is in a list, whether it is,
 -- and facts of every element.
 -- Main statements: cmp, ord, tell (branch by data that carry the facts); cond-ind; count-append, count-cut, count-reverse; among-counts (a number is in a list
--- where its count is not 0); All, all-in, all-from; Numbered, numbered-at (facts of a table's entries by their numbers).
+-- where its count is not 0); All, all-in, all-from; Numbered, numbered-at (facts of a table's entries by their numbers); front-part (the front of a buffer, as it is lent).
 use mathlib.Core.Path.{_≡_, refl, sym, ap, _∙_, subst}
 use mathlib.Core.Logic.{_≢_, _⊎_, inl, inr}
 use mathlib.Core.Bool.{Bool, true, false, cond, _&&_, _||_, or-assoc}
 use mathlib.Core.List.{List, [], _∷_, _++_, reverse, reverseAux}
-use Prim.Native.Nat.{ℕ, zero, suc, _+_, _≤_, _<_}
-use native.Mathlib.Nat.{add-zero, add-suc, suc-add, zero-add}
+use Prim.Native.Nat.{ℕ, zero, suc, _+_, _-_, _≤_, _<_}
+use native.Mathlib.Nat.{add-zero, add-suc, suc-add, zero-add, sub-zero}
 use native.Mathlib.Omega.{arith}
 use lib.ListN.{getD, take, drop, take-append-drop}
 use lib.Dec.{eqb, ltb}
@@ -255,3 +255,8 @@ module _ {A : Type 0} (P : ℕ → A → Type 0) (d : A) (past : (n : ℕ) → P
   -- From number 0 on; what holds of the default holds past the table's end.
   pub numbered-at : (xs : List A) → Numbered P 0 xs → (k : ℕ) → P k (getD xs k d)
   numbered-at xs a k = subst (λ (n : ℕ). P n (getD xs k d)) (zero-add k) (numbered-from 0 xs a k)
+
+-- ---- The front of a buffer: its part from 0 to n, as code lends it
+
+pub front-part : (n : ℕ) (xs : List ℕ) → take (n - 0) xs ≡ take n xs
+front-part n xs = ap (λ (k : ℕ). take k xs) (sub-zero n)

@@ -1,13 +1,12 @@
 -- How lists of pages stand in the page memory: linked lists, the free list, and a bucket chain's pages word for word.
 -- Main statements: Linked (pages that links lead through), FreePages (the free list), Overflow and ChainIs (a chain that holds exactly these records); SameOn (two memories that agree on
 -- some pages) with the frames of each.
-use mathlib.Core.Path.{_≡_, refl, sym, ap, _∙_}
-use mathlib.Core.Bool.{Bool, true, false, cond}
+use mathlib.Core.Path.{_≡_, _∙_}
+use mathlib.Core.Bool.{true}
 use mathlib.Core.List.{List, [], _∷_, _++_}
-use Prim.Native.Nat.{ℕ, zero, suc, _+_, _*_, _≤_, _<_}
+use Prim.Native.Nat.{ℕ, _<_}
 use lib.ListN.{length, take, drop}
 use Rattle.model.specs.declared.Root.{Root}
-use Rattle.model.specs.Sizes.{pageWords}
 use Rattle.model.specs.Entries.{Entry}
 use Rattle.model.specs.Pages.{pageOf, filledPage, freePage, linkOf, linkToFirst, pageSound, primaryPage}
 use Rattle.model.specs.Filling.{primaryOf}

@@ -1,5 +1,5 @@
 -- Step 6 keeps the invariant.
--- Main statements: Chased, chase-ends and chased-heads (where a chase ends); noted-six (what the book notes); step06-kept.
+-- Main statements: Chased, chase-ends and chased-heads (where a chase ends); noted-six (what the book notes); step06-moves, stayed-home (what it leaves, and where the key's home is); step06-kept.
 use mathlib.Core.Path.{_≡_, refl, sym, ap, _∙_, subst}
 use mathlib.Core.Logic.{_≢_}
 use mathlib.Core.Bool.{Bool, true, false, cond}
@@ -310,6 +310,18 @@ module _ (m : Memory) (b : Book) (i : Inv m b) (q : ℕ) (in-row : q < m .root .
           let n : end .chain ≢ me .chain = λ e. d (sym s ∙ e) in
           subst Leads (rw (eqb-diff (end .chain) (me .chain) n) refl) (leaves j l h n (omega arith))
 
-  pub step06-kept : Kept m b q (step06 (viewOf m q))
+  -- No test fails, so the page is copied and the chase decides.
+  pub step06-moves : step06 (viewOf m q) ≡ moved (withParty next (withScratch page (viewOf m q)))
   unfolding step06
-  step06-kept = rw (page-sound, reaches, lt-ltb (end .chain) (m .root .chains) end-fits) moves
+  step06-moves = rw (page-sound, reaches, lt-ltb (end .chain) (m .root .chains) end-fits) refl
+
+  -- Where the chase stays, the chain is the key's home.
+  pub stayed-home : end .chain ≡ me .chain → hash (m .root .originals) top (me .key) ≡ me .chain
+  stayed-home e = go chased
+    where
+      go : Chased (m .root .originals) (me .key) (me .chain) top end → hash (m .root .originals) top (me .key) ≡ me .chain
+      go (stayed l s h) = h
+      go (left j l s h d r) = absurd (d (sym s ∙ e))
+
+  pub step06-kept : Kept m b q (step06 (viewOf m q))
+  step06-kept = subst (Kept m b q) (sym step06-moves) moves

@@ -2,53 +2,48 @@
 -- Main statement: step17-kept.
 use mathlib.Core.Path.{_≡_, refl, sym, ap, _∙_, subst}
 use mathlib.Core.Logic.{_≢_, _⊎_, inl, inr}
-use mathlib.Core.Bool.{Bool, true, false, cond, not, _&&_, _||_, false≢true}
-use mathlib.Core.List.{List, [], _∷_, _++_}
-use mathlib.Core.Option.{Option, none, some}
-use Prim.Native.Nat.{ℕ, zero, suc, _+_, _-_, _*_, _^_, _≤_, _<_}
+use mathlib.Core.Bool.{true, false, false≢true}
+use mathlib.Core.List.{List, [], _∷_}
+use Prim.Native.Nat.{ℕ, _+_, _≤_, _<_}
 use native.Mathlib.Omega.{arith}
-use lib.ListN.{length, getD, set, take, drop}
+use lib.ListN.{length, set, take, drop}
 use lib.Dec.{eqb, ltb}
 use Rattle.model.specs.declared.Root.{Root}
 use Rattle.model.specs.declared.Party.{Party}
-use Rattle.model.specs.declared.Mode.{Mode}
-use Rattle.model.specs.declared.Mode.the-variants.{Read, Selective, Exclusive}
 use Rattle.model.specs.declared.Restructuring.the-variants as Restructuring
 use Rattle.model.specs.Sizes.{lockWords, pageWords}
-use Rattle.model.specs.Records.{idle, atStep, withOld, withFreeList}
+use Rattle.model.specs.Records.{idle, atStep, withOld}
 use Rattle.model.specs.Answers.{answerOf, refusalNumber}
-use Rattle.model.specs.LockWords.{Claim, chainWord}
-use Rattle.model.specs.Addresses.{span, chainCount, splitBarred}
+use Rattle.model.specs.Addresses.{chainCount, splitBarred}
 use Rattle.model.specs.Entries.{Entry, staying, going}
-use Rattle.model.specs.Pages.{pageOf, withPage, primaryPage, scratchPage, linkToFirst, zeroPage, mostLevel}
+use Rattle.model.specs.Pages.{pageOf, withPage, primaryPage, scratchPage, linkToFirst, zeroPage}
 use Rattle.model.specs.Chains.{Chain}
 use Rattle.model.specs.Filling.{pagesFor, primaryOf, overflowWritten}
-use Rattle.model.specs.FreeList.{isAmong, tooFew, pagesTaken}
-use Rattle.model.specs.Outcome.{givenUp, done}
+use Rattle.model.specs.FreeList.{isAmong, tooFew}
 use Rattle.model.specs.Memory.{Memory, partyAt, viewOf}
-use Rattle.model.specs.Book.{Book, Entered, noteFor, agreesWith, afterReply}
+use Rattle.model.specs.Book.{Book, agreesWith, afterReply}
 use Rattle.model.specs.Steps.Change.{chainSelective, rootAfterTaking}
-use Rattle.model.specs.Steps.Split.{rootSelective, countOfChains, endedWith, Halves, halvesOf, halvesNeed, halvesWritten, divided, divideWith, step17}
+use Rattle.model.specs.Steps.Split.{rootSelective, countOfChains, endedWith, halvesOf, halvesNeed, halvesWritten, divided, divideWith, step17}
 use Rattle.model.specs.Steps.Dispatch.{hasStep}
-use Rattle.model.proofs.Laws.Lists.{cond-ind, Told, holds, fails, tell, Cmp, same, diff, cmp, eqb-same, eqb-diff, eqb-false, not-both, or-neither, first-or-rest, ltb-false, All, all-append}
-use Rattle.model.proofs.Invariant.Ghost.{Owner, owner, nobody, free, inChain, oldOf, partnerOf, builtBy, newBy, Extent, extent, rootExtent, size, localLevel, count, Ghost, Owned}
+use Rattle.model.proofs.Laws.Lists.{cond-ind, Told, holds, fails, tell, Cmp, same, diff, cmp, eqb-diff, eqb-false, or-neither, first-or-rest, ltb-false, All}
+use Rattle.model.proofs.Invariant.Ghost.{Owner, free, inChain, oldOf, partnerOf, builtBy, newBy, rootExtent, size, localLevel, count, Ghost, Owned}
 use Rattle.model.proofs.Invariant.Owners.{same-from, kinds-apart, no-repeats, overflow-bounds, absent-elsewhere}
-use Rattle.model.proofs.Laws.Distinct.{Outside, Distinct, distinct-count}
-use Rattle.model.proofs.Laws.Pages.{Has, length-withPage, page-same, page-other, has-withPage}
-use Rattle.model.proofs.Laws.Structure.{Overflow, ChainIs, SameOn, overflow-frame}
+use Rattle.model.proofs.Laws.Distinct.{distinct-count}
+use Rattle.model.proofs.Laws.Pages.{Has, length-withPage, page-same, page-other}
+use Rattle.model.proofs.Laws.Structure.{Overflow, ChainIs, overflow-frame}
 use Rattle.model.proofs.Laws.Filling.{IsOverflow, length-primaryOf, overflow-written, overflowWritten-other, length-overflowWritten}
 use Rattle.model.proofs.Laws.Reading.{has-overflow, absent-outside}
-use Rattle.model.proofs.Invariant.Claims.{claims, isClaimed, claimed, LocksOk}
+use Rattle.model.proofs.Invariant.Claims.{claims, claimed, LocksOk}
 use Rattle.model.proofs.Invariant.LockMoves.{locks-root, locks-stay}
 use Rattle.model.proofs.Invariant.Restructurer.{others-use-none}
-use Rattle.model.proofs.Invariant.Statement.{restructures, liveFor, lowFor, ExtentsOk, uses, Scene, heldIn, NoPages, Dividing, Divided, SplitChains, Building, working, Inv, sceneOf}
+use Rattle.model.proofs.Invariant.Statement.{restructures, liveFor, lowFor, ExtentsOk, uses, Scene, NoPages, Divided, working, Inv, sceneOf}
 use Rattle.model.proofs.Invariant.Frame.{claims-at}
 use Rattle.model.proofs.Effects.Kept.{Kept, row-same, row-other, extents-move, assemble}
 use Rattle.model.proofs.Invariant.Facts.{At, facts-at, still-noted}
 use Rattle.model.proofs.Effects.Touch.{Touch, outside}
 use Rattle.model.proofs.Effects.Done.{held-claims, done-kept, extents-leave}
 use Rattle.model.proofs.Effects.BuiltChain.{chain-found}
-use Rattle.model.proofs.Effects.Taking.{builtPages, newPages, takenGhost, takenRoot, takenScene, taken-is, built-cut, new-cut, built-many, new-many, owned-then, built-then, new-then, free-then, held-kept, built-overflow, new-overflow, taking-parts}
+use Rattle.model.proofs.Effects.Taking.{builtPages, newPages, takenGhost, takenRoot, taken-is, built-cut, new-cut, built-many, new-many, owned-then, built-then, new-then, held-kept, built-overflow, new-overflow, taking-parts}
 
 module _ (m : Memory) (b : Book) (i : Inv m b) (q : ℕ) (in-row : q < m .root .parties) (is-seventeen : partyAt (m .parties) q .step ≡ 17) where
   abbrev me : Party

@@ -12,7 +12,6 @@ use lib.Dec.{ltb}
 use Rattle.model.specs.declared.Root.{Root}
 use Rattle.model.specs.declared.Party.{Party}
 use Rattle.model.specs.declared.OperationAnswer.{OperationAnswer}
-use Rattle.model.specs.declared.OperationAnswer.the-variants as OperationAnswer
 use Rattle.model.specs.Records.{atStep, withAnswer, withOld, withOwed}
 use Rattle.model.specs.Answers.{answerNumber, answerOf, refusalNumber}
 use Rattle.model.specs.Entries.{Entry, hasKey}

@@ -1,10 +1,10 @@
 -- The lemmas of the thirty steps together: every step of a party under way is not refused, agrees with the book and keeps the invariant.
 -- Main statement: steps-kept.
-use mathlib.Core.Path.{_≡_, refl, sym, ap, _∙_, subst}
-use mathlib.Core.Logic.{_≢_, _⊎_, inl, inr}
-use mathlib.Core.Bool.{Bool, true, false, _&&_, _||_, and-false, false≢true}
+use mathlib.Core.Path.{_≡_, sym, _∙_, subst}
+use mathlib.Core.Logic.{_⊎_, inl, inr}
+use mathlib.Core.Bool.{true, false, _&&_, _||_, and-false, false≢true}
 use mathlib.Core.List.{List, [], _∷_}
-use Prim.Native.Nat.{ℕ, zero, suc, _+_, _≤_, _<_}
+use Prim.Native.Nat.{ℕ, zero, suc, _+_, _<_}
 use native.Mathlib.Nat.{add-zero, add-suc, suc-add, zero-add}
 use native.Mathlib.Omega.{arith}
 use lib.ListN.{length, getD}
@@ -14,7 +14,7 @@ use Rattle.model.specs.Outcome.{View, Outcome}
 use Rattle.model.specs.Memory.{Memory, partyAt, viewOf}
 use Rattle.model.specs.Book.{Book}
 use Rattle.model.specs.Steps.Dispatch.{hasStep, noStep, stepTable, stepOf}
-use Rattle.model.proofs.Laws.Lists.{Ord, lt, ge, ord, and-both, or-either, leb-true}
+use Rattle.model.proofs.Laws.Lists.{and-both, or-either, leb-true}
 use Rattle.model.proofs.Invariant.Statement.{Inv}
 use Rattle.model.proofs.Effects.Kept.{Kept}
 use Rattle.model.proofs.Theorems.Calls.{StepsKept}

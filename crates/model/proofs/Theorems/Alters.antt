@@ -43,7 +43,7 @@ use Rattle.model.specs.Memory.{Memory, partyAt, viewOf, afterStep}
 use Rattle.model.specs.Refusals.{firstCause, lengthsFit, beginRows, stepRows}
 use Rattle.model.specs.Calls.{Called, called, withBegun, beginCall, stepped, stepCall}
 use Rattle.model.specs.Runs.{Call, replyTo, events}
-use Rattle.model.specs.Book.{Book, emptyBook}
+use Rattle.model.specs.Book.{Book, emptyBook, bookAtEnd}
 use Rattle.model.specs.Links.{performs}
 use Rattle.model.specs.Effects.{scratchLink, AltersRecord, AltersScratch, AltersOwn, own-record, own-scratch, StepAlters, WaitsForLock, Begins, BeginAlters}
 use Rattle.model.specs.Demands.{Sizes, start, Reached}
@@ -60,7 +60,7 @@ use Rattle.model.proofs.Effects.Kept.{row-same, row-other}
 use Rattle.model.proofs.Effects.ScratchPage.{protected-bounds}
 use Rattle.model.proofs.Invariant.Facts.{At, facts-at}
 use Rattle.model.proofs.Effects.GiveUps.{given-up-rest}
-use Rattle.model.proofs.Theorems.Calls.{undamaged, bookAtEnd, call-kept}
+use Rattle.model.proofs.Theorems.Calls.{undamaged, call-kept}
 use Rattle.model.proofs.Theorems.Answering.{unasked, asked, fairly, step-fair}
 use Rattle.model.proofs.Theorems.AllSteps.{steps-kept}
 use Rattle.model.proofs.Theorems.Reached.{reached-inv}

@@ -2,13 +2,13 @@
 -- Main statements: StepsKept (what the lemmas of the thirty steps say together); record-sound (no common test of damage fails); call-kept; run-answers, run-inv (over whole lists).
 use mathlib.Core.Path.{_≡_, refl, sym, ap, _∙_, subst}
 use mathlib.Core.Logic.{_≢_}
-use mathlib.Core.Bool.{Bool, true, false, cond, not, _&&_, _||_, false≢true}
+use mathlib.Core.Bool.{Bool, true, false, not, _||_, false≢true}
 use mathlib.Core.List.{List, [], _∷_}
-use mathlib.Core.Option.{Option, some}
-use Prim.Native.Nat.{ℕ, zero, suc, _+_, _≤_, _<_}
+use mathlib.Core.Option.{Option}
+use Prim.Native.Nat.{ℕ, _+_, _≤_, _<_}
 use native.Mathlib.Omega.{arith}
-use lib.ListN.{length, getD, set, List·getD-eq-default}
-use lib.Dec.{eqb, leb, ltb}
+use lib.ListN.{length}
+use lib.Dec.{eqb, ltb}
 use Rattle.model.specs.declared.Root.{Root}
 use Rattle.model.specs.declared.Party.{Party}
 use Rattle.model.specs.declared.Operation.{Operation}
@@ -17,18 +17,18 @@ use Rattle.model.specs.declared.StepAnswer.{StepAnswer}
 use Rattle.model.specs.declared.StepAnswer.the-variants as StepAnswer
 use Rattle.model.specs.declared.BeginAnswer.{BeginAnswer}
 use Rattle.model.specs.declared.BeginAnswer.the-variants as BeginAnswer
-use Rattle.model.specs.Sizes.{withinLimits, lockWords, allPageWords, within}
+use Rattle.model.specs.Sizes.{withinLimits, lockWords, allPageWords}
 use Rattle.model.specs.Records.{idle, begun}
 use Rattle.model.specs.Answers.{operationNumber, refusalNumber}
 use Rattle.model.specs.Addresses.{span, chainCount}
 use Rattle.model.specs.Outcome.{damage}
 use Rattle.model.specs.Memory.{Memory, partyAt, viewOf}
-use Rattle.model.specs.Refusals.{firstCause, isIdle, lengthsFit, rootSound, partySound, recordSound, stepRows, beginRows}
+use Rattle.model.specs.Refusals.{lengthsFit, rootSound, partySound, recordSound}
 use Rattle.model.specs.Calls.{Called, called, stepped, stepCall, withBegun, beginCall}
-use Rattle.model.specs.Runs.{Call, beginFor, stepFor, Reply, toBegin, toStep, callerOf, replyTo, afterCall, Event, eventOf, events, finalMemory}
-use Rattle.model.specs.Book.{Book, Entered, changedAt, enter, withEntry, bookAfter, afterReply, afterBegin, agrees, agreesWith, bookAgrees}
+use Rattle.model.specs.Runs.{Call, beginFor, stepFor, Reply, toBegin, toStep, callerOf, replyTo, afterCall, eventOf, events, finalMemory}
+use Rattle.model.specs.Book.{Book, Entered, changedAt, enter, bookAfter, afterReply, afterBegin, agrees, agreesWith, bookAgrees, bookAtEnd}
 use Rattle.model.specs.Steps.Dispatch.{hasStep, stepOf}
-use Rattle.model.proofs.Laws.Lists.{Told, holds, fails, tell, Cmp, same, diff, cmp, Ord, lt, ge, ord, both-and, eqb-same, eqb-diff, eqb-true, eqb-false, le-leb, lt-ltb, leb-true}
+use Rattle.model.proofs.Laws.Lists.{Ord, lt, ge, ord, both-and, eqb-same, eqb-diff, le-leb, lt-ltb}
 use Rattle.model.proofs.Invariant.Ghost.{nobody, oldOf, free, rootExtent, size}
 use Rattle.model.proofs.Invariant.Owners.{owns-nothing, kinds-apart}
 use Rattle.model.proofs.Invariant.Claims.{claims}
@@ -278,11 +278,6 @@ module _ (kept : StepsKept) (m : Memory) (b : Book) (i : Inv m b) where
   call-kept (stepFor q) = step-ok q (ord q (m .root .parties))
 
 -- ---- A list of calls
-
--- The book after a list of events.
-unfoldable pub bookAtEnd : Book → List Event → Book
-bookAtEnd b [] = b
-bookAtEnd b (e ∷ es) = bookAtEnd (bookAfter b (e .call) (e .number) (e .reply)) es
 
 pub run-answers : StepsKept → (m : Memory) (b : Book) → Inv m b → (cs : List Call) → bookAgrees b (events m cs) ≡ true
 unfolding bookAgrees events eventOf

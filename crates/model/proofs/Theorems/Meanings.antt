@@ -1,21 +1,32 @@
--- Definitions that the demands could lose unseen, said once more in other words: parts of the book and of the link rule that only forbid, and what steps and yardstick share.
--- Main statements: unentered-refused, unnoted-refused (the book); chain-followed, list-followed (the link rule); grown-owes, not-grown-owes-none, emptied-owes (what is owed).
+-- Definitions that the demands could lose unseen, said once more in other words: parts of the book and of the link rule that only forbid, what steps and yardstick share, the record's words,
+-- and numbers of answers.
+-- Main statements: unentered-refused, unnoted-refused (the book); chain-followed, list-followed (the link rule); grown-owes, not-grown-owes-none, emptied-owes (what is owed); idle-zero, begun-zeroes, update-alone (a party's record); begin-number,
+-- format-number, restructurings-in-order (numbers of answers).
 use mathlib.Core.Path.{_≡_, refl, sym}
 use mathlib.Core.Bool.{true, false}
-use mathlib.Core.List.{List, [], _∷_}
+use mathlib.Core.List.{List, [], _∷_, map}
 use mathlib.Core.Option.{none}
 use Prim.Native.Nat.{ℕ, _≤_, _<_}
 use native.Mathlib.Omega.{arith}
-use lib.ListN.{length}
+use lib.ListN.{length, replicate, set}
 use lib.Dec.{eqb}
 use borrow.Author.Tests.{ne-eqb, lt-ltb, le-ltb}
+use Rattle.model.specs.declared.Party.{Party}
 use Rattle.model.specs.declared.OperationAnswer.{OperationAnswer}
+use Rattle.model.specs.declared.Operation.{Operation}
+use Rattle.model.specs.declared.Restructuring.the-variants as Restructuring
+use Rattle.model.specs.Records.{rootOfSizes, idle, begun, atStep, withLev, withChain, withOther, withOld, withOwed, withAnswer}
+use Rattle.model.specs.Answers.{restructuringNumber, beginRefusal, formatRefusal}
 use Rattle.model.specs.Entries.{Entry, isEmpty}
 use Rattle.model.specs.Chains.{sound, Chain, chainOf, listFrom}
 use Rattle.model.specs.Outcome.{View}
 use Rattle.model.specs.Steps.Change.{splitOwed, mergeOwed}
+use Rattle.model.specs.Memory.{Memory}
+use Rattle.model.specs.Refusals.{firstCause, formatRows, beginRows}
+use Rattle.model.specs.Calls.{formatCall, beginCall}
 use Rattle.model.specs.Book.{isNote, isNoteOf}
 use Rattle.model.specs.Links.{pagesIn, pagesListed, chainPages, listPages}
+use Rattle.model.proofs.Laws.Lists.{Cmp, same, diff, cmp, Numbered, _▸_}
 
 -- An answer to an operation that was not entered, or that has no note yet, does not agree.
 pub unentered-refused : (a : OperationAnswer) → isNoteOf a none ≡ false
@@ -49,3 +60,41 @@ pub emptied-owes : (es : List Entry) → mergeOwed es ≡ eqb (length es) 0
 unfolding mergeOwed isEmpty
 emptied-owes [] = refl
 emptied-owes (e ∷ es) = sym (ne-eqb (length (e ∷ es)) 0 (λ z. omega arith))
+
+-- The nine words of a party's record: all zero where nobody is under way; operation, key, step 1 and six zeros where an operation has begun.
+abbrev pub words : Party → List ℕ
+words p = p .operation ∷ p .key ∷ p .step ∷ p .lev ∷ p .chain ∷ p .other ∷ p .old ∷ p .owed ∷ p .answer ∷ []
+
+pub idle-zero : words idle ≡ replicate 9 0
+idle-zero = refl
+
+pub begun-zeroes : (operation key : ℕ) → words (begun operation key) ≡ operation ∷ key ∷ 1 ∷ replicate 6 0
+begun-zeroes operation key = refl
+
+-- Each update of a record alters its own word alone, from the third word on.
+pub update-alone :
+    Numbered (λ n f. (x : ℕ) (p : Party) → words (f x p) ≡ set (words p) n x) 2 (atStep ∷ withLev ∷ withChain ∷ withOther ∷ withOld ∷ withOwed ∷ withAnswer ∷ [])
+update-alone = (λ x p. refl) ▸ (λ x p. refl) ▸ (λ x p. refl) ▸ (λ x p. refl) ▸ (λ x p. refl) ▸ (λ x p. refl) ▸ (λ x p. refl) ▸ tt
+
+-- The number of a call's refusal is the first cause that it meets, and 0 where it meets none.
+pub begin-number : (m : Memory) (q : ℕ) (o : Operation) (k : ℕ) → beginRefusal (beginCall m q o k .answer) ≡ firstCause (beginRows m q)
+unfolding beginCall beginRefusal
+begin-number m q o k = go (cmp (firstCause (beginRows m q)) 0)
+  where
+    go : Cmp (firstCause (beginRows m q)) 0 → beginRefusal (beginCall m q o k .answer) ≡ firstCause (beginRows m q)
+    go (same e) = rw e refl
+    go (diff d) = rw (ne-eqb (firstCause (beginRows m q)) 0 d) refl
+
+pub format-number : (m : Memory) (n b p v q : ℕ) → formatRefusal (formatCall m n b p v q .answer) ≡ firstCause (formatRows (rootOfSizes n b p v q) m)
+unfolding formatCall formatRefusal
+format-number m n b p v q = go (cmp (firstCause (formatRows (rootOfSizes n b p v q) m)) 0)
+  where
+    go : Cmp (firstCause (formatRows (rootOfSizes n b p v q) m)) 0 → formatRefusal (formatCall m n b p v q .answer) ≡ firstCause (formatRows (rootOfSizes n b p v q) m)
+    go (same e) = rw e refl
+    go (diff d) = rw (ne-eqb (firstCause (formatRows (rootOfSizes n b p v q) m)) 0 d) refl
+
+-- The restructurings are numbered from 0, in this order.
+pub restructurings-in-order :
+    map restructuringNumber (Restructuring.None ∷ Restructuring.Split ∷ Restructuring.SplitSkipped ∷ Restructuring.Merged ∷ Restructuring.MergeSkipped ∷ []) ≡ 0 ∷ 1 ∷ 2 ∷ 3 ∷ 4 ∷ []
+unfolding restructuringNumber
+restructurings-in-order = refl

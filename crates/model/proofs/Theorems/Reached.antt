@@ -2,11 +2,11 @@
 -- Main statements: formatted-inv, reached-inv.
 use mathlib.Core.List.{List}
 use Rattle.model.specs.Runs.{Call, events}
-use Rattle.model.specs.Book.{emptyBook}
+use Rattle.model.specs.Book.{emptyBook, bookAtEnd}
 use Rattle.model.specs.Demands.{Sizes, start, Reached}
 use Rattle.model.proofs.Invariant.Statement.{Inv}
 use Rattle.model.proofs.Invariant.Start.{start-inv}
-use Rattle.model.proofs.Theorems.Calls.{bookAtEnd, run-inv}
+use Rattle.model.proofs.Theorems.Calls.{run-inv}
 use Rattle.model.proofs.Theorems.AllSteps.{steps-kept}
 
 -- Formatted memory has the invariant.

@@ -1,22 +1,22 @@
 -- Change: steps 10 to 14 (document 01, "The thirty steps"), for insert and delete.
 -- Main definitions: Change and changeOf (what an operation makes of a chain's records), splitOwed, mergeOwed; onward (where 12 and 14 lead); step10 to step14.
-use mathlib.Core.Bool.{Bool, true, false, cond, not, _&&_, _||_}
+use mathlib.Core.Bool.{Bool, cond, _&&_, _||_}
 use mathlib.Core.List.{List, [], _∷_}
 use Prim.Native.Nat.{ℕ, _+_, _-_}
 use lib.ListN.{length}
 use lib.Dec.{ltb, leb, eqb}
 use Rattle.model.specs.declared.Root.{Root}
 use Rattle.model.specs.declared.Party.{Party}
-use Rattle.model.specs.declared.Mode.the-variants.{Read, Selective, Exclusive}
+use Rattle.model.specs.declared.Mode.the-variants.{Selective, Exclusive}
 use Rattle.model.specs.declared.OperationAnswer.the-variants as OperationAnswer
 use Rattle.model.specs.Answers.{answerNumber, answerOf, restructuringOf}
 use Rattle.model.specs.Records.{atStep, withAnswer, withOld, withOwed, withFreeList}
 use Rattle.model.specs.LockWords.{Claim, claim, chainWord}
 use Rattle.model.specs.Entries.{Entry, entryOf, hasKey, insertedInto, removedFrom, isEmpty}
-use Rattle.model.specs.Pages.{pageOf, withPage, pageSound, primaryPage, namesOverflow}
+use Rattle.model.specs.Pages.{withPage, pageSound, primaryPage, namesOverflow}
 use Rattle.model.specs.Chains.{Chain, chainOf, listFrom}
 use Rattle.model.specs.Filling.{pagesFor, primaryOf, overflowWritten}
-use Rattle.model.specs.FreeList.{tooFew, Taken, pagesTaken, GivenBack, givenBack}
+use Rattle.model.specs.FreeList.{tooFew, Taken, pagesTaken, givenBack}
 use Rattle.model.specs.Outcome.{View, Outcome, withRoot, withParty, withPages, withScratch, scratchOf, moved, done, guarded, checked, request, heldAll, givenUp}
 
 -- The locks of these steps.

@@ -1,6 +1,6 @@
 -- The step that a number names, which operation has which steps, and the lock that a step requests.
 -- Main definitions: hasStep, stepTable, stepOf; wantTable, wants.
-use mathlib.Core.Bool.{Bool, true, false, cond, _&&_, _||_}
+use mathlib.Core.Bool.{Bool, cond, _&&_, _||_}
 use mathlib.Core.List.{List, [], _∷_}
 use mathlib.Core.Option.{Option, none, some}
 use Prim.Native.Nat.{ℕ}

@@ -1,8 +1,7 @@
 -- Find: step 9 (document 01, "The thirty steps"). The scratch page holds the page looked at; a call looks at one page.
 -- Main definition: step09.
-use mathlib.Core.Bool.{Bool, true, false, cond, _&&_}
-use mathlib.Core.List.{List, [], _∷_}
-use Prim.Native.Nat.{ℕ}
+use mathlib.Core.Bool.{cond}
+use mathlib.Core.List.{[], _∷_}
 use lib.Dec.{eqb}
 use Rattle.model.specs.declared.OperationAnswer.{OperationAnswer}
 use Rattle.model.specs.declared.OperationAnswer.the-variants as OperationAnswer

@@ -1,13 +1,13 @@
 -- Locating: steps 1 to 8 (document 01, "The thirty steps"). Every operation begins with them.
 -- Main definitions: modeOf (the mode in which an operation locks its chain), located, chase, step01 to step08.
-use mathlib.Core.Bool.{Bool, true, false, cond, _&&_}
+use mathlib.Core.Bool.{cond, _&&_}
 use mathlib.Core.List.{List, [], _∷_}
 use Prim.Native.Nat.{ℕ, zero, suc, _+_, _-_}
 use lib.Dec.{ltb, leb, eqb}
 use Rattle.model.specs.declared.Root.{Root}
 use Rattle.model.specs.declared.Party.{Party}
 use Rattle.model.specs.declared.Mode.{Mode}
-use Rattle.model.specs.declared.Mode.the-variants.{Read, Selective, Exclusive}
+use Rattle.model.specs.declared.Mode.the-variants.{Read, Selective}
 use Rattle.model.specs.Records.{atStep, withLev, withChain, withOther}
 use Rattle.model.specs.LockWords.{Claim, claim, rootWord, chainWord}
 use Rattle.model.specs.Addresses.{hash, addressLevel, addressOf}

@@ -1,15 +1,14 @@
 -- Merge: steps 23 to 30 (document 01, "The thirty steps"), inside a delete.
 -- Main definitions: Pair and pairOf (step 26's two chains), mergeGoes; step23 to step30.
-use mathlib.Core.Bool.{Bool, true, false, cond, not, _&&_}
+use mathlib.Core.Bool.{Bool, cond, not, _&&_}
 use mathlib.Core.List.{List, [], _∷_, _++_}
-use Prim.Native.Nat.{ℕ, _+_, _-_}
+use Prim.Native.Nat.{ℕ, _-_}
 use lib.ListN.{length, set}
 use lib.Dec.{eqb}
 use Rattle.model.specs.declared.Root.{Root}
 use Rattle.model.specs.declared.Party.{Party}
-use Rattle.model.specs.declared.Mode.the-variants.{Read, Selective, Exclusive}
+use Rattle.model.specs.declared.Mode.the-variants.{Exclusive}
 use Rattle.model.specs.declared.Restructuring.the-variants as Restructuring
-use Rattle.model.specs.Answers.{answerOf}
 use Rattle.model.specs.Records.{atStep, withChain, withOther, withOld, withNext, withLevel}
 use Rattle.model.specs.LockWords.{Claim, claim, rootWord, chainWord, turnedSelective}
 use Rattle.model.specs.Addresses.{mergeTarget, mergePartner, mergeLevel, mergeBarred}
@@ -18,7 +17,7 @@ use Rattle.model.specs.Pages.{pageOf, withPage, levelOf, linkOf, pageSou
 use Rattle.model.specs.Chains.{Checked, damaged, soundIf, andThen, Chain, chainOf, listFrom}
 use Rattle.model.specs.Filling.{pagesFor, primaryOf, overflowWritten}
 use Rattle.model.specs.FreeList.{tooFew, Taken, pagesTaken}
-use Rattle.model.specs.Outcome.{View, Outcome, withRoot, withParty, withLocks, withPages, withScratch, scratchOf, lockWord, moved, done, guarded, checked, request, isHeld, heldAll, givenUp}
+use Rattle.model.specs.Outcome.{View, Outcome, withRoot, withParty, withLocks, withPages, withScratch, scratchOf, lockWord, moved, guarded, checked, request, isHeld}
 use Rattle.model.specs.Steps.Change.{chainExclusive, rootAfterTaking, roomToGiveBack, pagesGivenBack}
 use Rattle.model.specs.Steps.Split.{countOfChains, rootSelective, endedWith}
 

@@ -1,12 +1,12 @@
 -- Split: steps 15 to 22 (document 01, "The thirty steps"), inside an insert.
 -- Main definitions: Halves and halvesOf (step 17's two chains); step15 to step22.
-use mathlib.Core.Bool.{Bool, true, false, cond, not, _&&_}
+use mathlib.Core.Bool.{cond, not}
 use mathlib.Core.List.{List, [], _∷_}
 use Prim.Native.Nat.{ℕ, _+_}
-use lib.ListN.{length, take, drop}
+use lib.ListN.{take, drop}
 use Rattle.model.specs.declared.Root.{Root}
 use Rattle.model.specs.declared.Party.{Party}
-use Rattle.model.specs.declared.Mode.the-variants.{Read, Selective, Exclusive}
+use Rattle.model.specs.declared.Mode.the-variants.{Selective}
 use Rattle.model.specs.declared.Restructuring.{Restructuring}
 use Rattle.model.specs.declared.Restructuring.the-variants as Restructuring
 use Rattle.model.specs.Answers.{answerOf}

@@ -1,5 +1,5 @@
 -- `page_lists::give_back_both` meets its contract: the second list was recorded on the memory as found, and is given back after the first.
-use mathlib.Core.Path.{_≡_, ap, _∙_}
+use mathlib.Core.Path.{ap, _∙_}
 use Prim.Native.Nat.{_≤_}
 use native.Mathlib.Omega.{arith}
 use Rattle.model.specs.Chains.{listFrom}

@@ -1,12 +1,9 @@
 -- `page_lists::give_listed` meets its contract. The loop's invariant: what is still to be given back leaves what the whole list leaves.
-use mathlib.Core.Path.{_≡_, refl, sym, ap, _∙_}
-use mathlib.Core.List.{List}
-use Prim.Native.Nat.{ℕ, zero-le, _+_, _-_, _*_, _≤_, _<_}
+use mathlib.Core.Path.{_≡_, refl, _∙_}
+use Prim.Native.Nat.{zero-le, _-_, _≤_, _<_}
 use native.Mathlib.Omega.{arith}
 use lib.ListN.{length, getD, take, drop}
 use lib.Seq.{getD-take, length-take-le}
-use Rattle.model.specs.Sizes.{pageWords}
-use Rattle.model.specs.Pages.{withPage}
 use Rattle.model.specs.FreeList.{givenBack}
 use Rattle.free_list.proofs.Giving.{returned-all}
 use Rattle.page_lists.proofs.Returned.{given-more, given-all}

@@ -1,7 +1,7 @@
 -- `page_lists::list_pages` meets its contract. The loop's invariant: the pages recorded, and those that the link still leads to, make the list.
-use mathlib.Core.Path.{_≡_, refl, sym, ap, _∙_}
+use mathlib.Core.Path.{_≡_, refl, ap, _∙_}
 use mathlib.Core.List.{_++_}
-use Prim.Native.Nat.{ℕ, zero-le, _+_, _-_, _≤_, _<_}
+use Prim.Native.Nat.{zero-le, _+_, _-_, _≤_, _<_}
 use native.Mathlib.Nat.{sub-zero}
 use native.Mathlib.Omega.{arith}
 use lib.ListN.{length, take, length-set}

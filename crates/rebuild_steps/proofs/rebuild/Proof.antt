@@ -1,14 +1,14 @@
 -- `rebuild_steps::rebuild` meets its contract.
 use mathlib.Core.Path.{_≡_, sym, ap, _∙_}
-use Prim.Native.Nat.{ℕ, _-_}
+use Prim.Native.Nat.{ℕ}
 use native.Mathlib.Omega.{arith}
-use native.Mathlib.Nat.{sub-zero}
 use mathlib.Core.List.{List}
 use lib.ListN.{length, take}
 use Rattle.model.specs.Entries.{ascending}
 use Rattle.model.specs.Ready.{viewing}
 use Rattle.model.specs.Steps.Change.{changed, changeOf, rebuildWith}
-use Rattle.chain_keys.proofs.WholeChain.{sound-ascends}
+use Rattle.model.proofs.Laws.Lists.{front-part}
+use Rattle.chain_keys.proofs.WholeChain.{sound-ascends, front-is, front-long}
 use Rattle.rebuild_steps.specs.Rebuilding.{changedAs}
 use Rattle.rebuild_steps.proofs.Changes.{made-changed, unmade-kept}
 use Rattle.rebuild_steps.proofs.Rebuilds.{chain-refused, change-kept, change-made}
@@ -28,13 +28,7 @@ part-change-start c = search needs
 part-change-end : tie.Need-part-change-end
 part-change-end c =
     let gathering = c .before .before .before .before in
-    let start = gathering .before .before .before .before .before .before .before in
-    let a = start .args in
-    let ps = a .pages .now in
     let whole = gathering .gather .ensures .1 (c .before .if1 .taken) in
-    let count = gathering .gather .result .count in
-    let keys = gathering .gather .last .1 .1 .1 .1 .0 in
-    let part : take (count - 0) keys ≡ whole .chain .entries = ap (λ (n : ℕ). take n keys) (sub-zero count) ∙ whole .entries in
     whole .fits
 
 change-requires : tie.Need-change-requires
@@ -44,11 +38,10 @@ change-requires c κs =
     let a = start .args in
     let ps = a .pages .now in
     let whole = gathering .gather .ensures .1 (c .before .before .before .if1 .taken) in
-    let count = gathering .gather .result .count in
     let keys = gathering .gather .last .1 .1 .1 .1 .0 in
-    let part : take (count - 0) keys ≡ whole .chain .entries = ap (λ (n : ℕ). take n keys) (sub-zero count) ∙ whole .entries in
+    let part = front-is _ keys whole in
     let ascends = sound-ascends (a .root) ps (a .party .chain) (whole .chain) (whole .is-sound) in
-    let few = ap length part ∙ sym (whole .count) in
+    let few = front-long _ keys whole in
     let long : length keys ≡ length (a .keys .now) = gathering .gather .kept .1 .1 .1 .1 .0 in
     (ap ascending part ∙ ascends, omega (arith, few, whole .fits, long, start .pre .next-room))
 
@@ -85,7 +78,7 @@ returns c = λ ls.
     let whole = gathering .gather .ensures .1 (c .before .before .before .before .before .before .before .before .before .before .before .before .before .before .before .before .if1 .taken) in
     let count = gathering .gather .result .count in
     let keys = gathering .gather .last .1 .1 .1 .1 .0 in
-    let part : take (count - 0) keys ≡ whole .chain .entries = ap (λ (n : ℕ). take n keys) (sub-zero count) ∙ whole .entries in
+    let part = front-is _ keys whole in
     let changing = c .before .before .before .before .before .before .before .before .before .before .before .before in
     let made = changing .change .result in
     let next = changing .change .last .1 .1 .1 .0 in
@@ -93,7 +86,7 @@ returns c = λ ls.
     let change : changedAs made next ≡ changeOf (a .party .operation) (a .party .key) (whole .chain .entries)
     = changing .change .ensures .1 ∙ ap (changeOf (a .party .operation) (a .party .key)) part in
     let es = take (made .count) next in
-    let front : take (made .count - 0) next ≡ es = ap (λ (n : ℕ). take n next) (sub-zero (made .count)) in
+    let front = front-part (made .count) next in
     c .before .before .before .before .rebuild-with .ensures ls (whole .chain) (whole .level) (whole .link) (whole .pages)
     ∙ ap (λ (xs : List ℕ). rebuildWith v (whole .chain) (changed (made .answer) xs)) front
     ∙ change-made v (whole .chain) (whole .is-sound) (made .answer) es (sym (made-changed made next (c .before .before .before .before .before .before .before .before .before .if2 .taken)) ∙ change)
@@ -117,9 +110,8 @@ returns-2 c = λ ls.
     let a = start .args in
     let ps = a .pages .now in
     let whole = gathering .gather .ensures .1 (c .before .before .before .before .before .before .before .before .if1 .taken) in
-    let count = gathering .gather .result .count in
     let keys = gathering .gather .last .1 .1 .1 .1 .0 in
-    let part : take (count - 0) keys ≡ whole .chain .entries = ap (λ (n : ℕ). take n keys) (sub-zero count) ∙ whole .entries in
+    let part = front-is _ keys whole in
     let changing = c .before .before .before .before in
     let made = changing .change .result in
     let next = changing .change .last .1 .1 .1 .0 in

@@ -7,8 +7,9 @@ use lib.ListN.{length, take, length-take}
 use Rattle.model.specs.Entries.{staying, going}
 use Rattle.model.specs.Ready.{viewing}
 use Rattle.model.specs.Steps.Split.{halvesOf}
+use Rattle.model.proofs.Laws.Lists.{front-part}
 use Rattle.halves_build.specs.Halves.{both}
-use Rattle.halves_build.proofs.Parts.{front-part}
+use Rattle.chain_keys.proofs.WholeChain.{front-is, front-long}
 use Rattle.split_build.proofs.Halves.{chain-refused, chain-divided}
 use borrow.Author.Needs.{needs}
 use Rattle.split_build.proofs.divide.Statement.{statement}
@@ -29,16 +30,7 @@ part-halves-start c = search needs
 part-halves-end : tie.Need-part-halves-end
 part-halves-end c =
     let gathering = c .before .before .before .before .before in
-    let start = gathering .before .before .before .before .before .before .before .before .before in
-    let a = start .args in
-    let can = start .pre in
-    let ps = a .pages .now in
     let whole = gathering .gather .ensures .1 (c .before .before .if1 .taken) in
-    let count = gathering .gather .result .count in
-    let keys = gathering .gather .last .1 .1 .1 .1 .0 in
-    let long : length keys ≡ length (a .keys .now) = gathering .gather .kept .1 .1 .1 .1 .0 in
-    let part : take (count - 0) keys ≡ whole .chain .entries = front-part count keys ∙ whole .entries in
-    let many : length (take (count - 0) keys) ≡ count = ap length part ∙ sym (whole .count) in
     whole .fits
 
 halves-requires : tie.Need-halves-requires
@@ -47,13 +39,10 @@ halves-requires c κs =
     let start = gathering .before .before .before .before .before .before .before .before .before in
     let a = start .args in
     let can = start .pre in
-    let ps = a .pages .now in
     let whole = gathering .gather .ensures .1 (c .before .before .before .before .before .if1 .taken) in
-    let count = gathering .gather .result .count in
     let keys = gathering .gather .last .1 .1 .1 .1 .0 in
     let long : length keys ≡ length (a .keys .now) = gathering .gather .kept .1 .1 .1 .1 .0 in
-    let part : take (count - 0) keys ≡ whole .chain .entries = front-part count keys ∙ whole .entries in
-    let many : length (take (count - 0) keys) ≡ count = ap length part ∙ sym (whole .count) in
+    let many = front-long _ keys whole in
     let ready = can .can-divide-with .ready in (
       ready .some-original,
       omega (arith, ready .originals-fit, ready .chains-fit),
@@ -77,18 +66,13 @@ part-divide-with-end c =
     let start = gathering .before .before .before .before .before .before .before .before .before in
     let a = start .args in
     let can = start .pre in
-    let ps = a .pages .now in
     let whole = gathering .gather .ensures .1 (c .before .before .before .before .before .before .before .before .before .before .before .if1 .taken) in
-    let count = gathering .gather .result .count in
     let keys = gathering .gather .last .1 .1 .1 .1 .0 in
     let long : length keys ≡ length (a .keys .now) = gathering .gather .kept .1 .1 .1 .1 .0 in
-    let part : take (count - 0) keys ≡ whole .chain .entries = front-part count keys ∙ whole .entries in
-    let many : length (take (count - 0) keys) ≡ count = ap length part ∙ sym (whole .count) in
+    let many = front-long _ keys whole in
     let halving = c .before .before .before .before .before .halves in
     let stay = halving .last .1 .1 .1 .1 .0 in
-    let go = halving .last .1 .1 .1 .1 .1 .0 in
     let stay-long : length stay ≡ length (a .stay .now) = halving .kept .1 .1 .1 .1 .0 in
-    let go-long : length go ≡ length (a .go .now) = halving .kept .1 .1 .1 .1 .1 .0 in
     omega (arith, halving .ensures .0, many, whole .fits, long, can .stay-room, stay-long)
 
 sub-divide-with-2 : tie.Need-sub-divide-with-2
@@ -103,17 +87,12 @@ part-divide-with-end-2 c =
     let start = gathering .before .before .before .before .before .before .before .before .before in
     let a = start .args in
     let can = start .pre in
-    let ps = a .pages .now in
     let whole = gathering .gather .ensures .1 (c .before .before .before .before .before .before .before .before .before .before .before .before .before .if1 .taken) in
-    let count = gathering .gather .result .count in
     let keys = gathering .gather .last .1 .1 .1 .1 .0 in
     let long : length keys ≡ length (a .keys .now) = gathering .gather .kept .1 .1 .1 .1 .0 in
-    let part : take (count - 0) keys ≡ whole .chain .entries = front-part count keys ∙ whole .entries in
-    let many : length (take (count - 0) keys) ≡ count = ap length part ∙ sym (whole .count) in
+    let many = front-long _ keys whole in
     let halving = c .before .before .before .before .before .before .before .halves in
-    let stay = halving .last .1 .1 .1 .1 .0 in
     let go = halving .last .1 .1 .1 .1 .1 .0 in
-    let stay-long : length stay ≡ length (a .stay .now) = halving .kept .1 .1 .1 .1 .0 in
     let go-long : length go ≡ length (a .go .now) = halving .kept .1 .1 .1 .1 .1 .0 in
     omega (arith, halving .ensures .0, many, whole .fits, long, can .go-room, go-long)
 
@@ -123,13 +102,7 @@ divide-with-requires c κs =
     let start = gathering .before .before .before .before .before .before .before .before .before in
     let a = start .args in
     let can = start .pre in
-    let ps = a .pages .now in
-    let whole = gathering .gather .ensures .1 (c .before .before .before .before .before .before .before .before .before .before .before .before .before .before .before .before .before .if1 .taken) in
     let count = gathering .gather .result .count in
-    let keys = gathering .gather .last .1 .1 .1 .1 .0 in
-    let long : length keys ≡ length (a .keys .now) = gathering .gather .kept .1 .1 .1 .1 .0 in
-    let part : take (count - 0) keys ≡ whole .chain .entries = front-part count keys ∙ whole .entries in
-    let many : length (take (count - 0) keys) ≡ count = ap length part ∙ sym (whole .count) in
     let halving = c .before .before .before .before .before .before .before .before .before .before .before .halves in
     let stay = halving .last .1 .1 .1 .1 .0 in
     let go = halving .last .1 .1 .1 .1 .1 .0 in
@@ -174,14 +147,11 @@ returns c =
     let whole = gathering .gather .ensures .1 (c .before .before .before .before .before .before .before .before .before .before .before .before .before .before .before .before .before .before .before .before .before .before .before .before .if1 .taken) in
     let count = gathering .gather .result .count in
     let keys = gathering .gather .last .1 .1 .1 .1 .0 in
-    let long : length keys ≡ length (a .keys .now) = gathering .gather .kept .1 .1 .1 .1 .0 in
-    let part : take (count - 0) keys ≡ whole .chain .entries = front-part count keys ∙ whole .entries in
-    let many : length (take (count - 0) keys) ≡ count = ap length part ∙ sym (whole .count) in
+    let part = front-is _ keys whole in
+    let many = front-long _ keys whole in
     let halving = c .before .before .before .before .before .before .before .before .before .before .before .before .before .before .before .before .before .before .halves in
     let stay = halving .last .1 .1 .1 .1 .0 in
     let go = halving .last .1 .1 .1 .1 .1 .0 in
-    let stay-long : length stay ≡ length (a .stay .now) = halving .kept .1 .1 .1 .1 .0 in
-    let go-long : length go ≡ length (a .go .now) = halving .kept .1 .1 .1 .1 .1 .0 in
     let kept = halving .result in
     let v = viewing (a .root) (a .party) (a .q) (a .locks .now) ps in
     let n = a .root .originals in

@@ -1,5 +1,5 @@
 -- `step_numbers::merge_step` meets its contract: one number a step, the last what is left of the range.
-use mathlib.Core.Path.{_≡_, _∙_}
+use mathlib.Core.Path.{_∙_}
 use Rattle.model.specs.Ready.{viewing}
 use Rattle.model.specs.Steps.Dispatch.{stepTable, stepOf}
 use Rattle.step_numbers.proofs.Numbering.{named, past, exactly}
