@@ -1,6 +1,6 @@
 -- A chain's overflow pages walked, and then followed again to gather their records.
--- Main statements: unsound-damaged, sound-listed (what overflowOf is); walked-followed (pages that were walked can be followed), walked-entries (and have these records);
--- next-followed, entries-next (one page more).
+-- Main statements: unsound-damaged, sound-listed (what overflowOf is); Walks and walked-walks (pages that were walked can be followed, and have these records);
+-- next-page, entries-next, page-gathered (one page more), all-gathered (the end).
 use mathlib.Core.Path.{_≡_, refl, sym, ap, _∙_}
 use mathlib.Core.Bool.{Bool, true, false, cond, _&&_}
 use mathlib.Core.List.{List, [], _∷_, _++_, append-nil, append-assoc}

@@ -1,5 +1,5 @@
 -- A list divided by hash, key by key, into two buffers: one turn, over the model's staying and going.
--- Main statements: none-divided (the start), one-stays, one-goes (a turn), all-divided (the end).
+-- Main statements: none-divided (the start), one-stays, one-goes (a turn), all-stayed, all-gone (the end).
 use mathlib.Core.Path.{_≡_, refl, sym, ap, _∙_}
 use mathlib.Core.List.{List, _∷_, _++_, append-nil}
 use Prim.Native.Nat.{ℕ, _+_, _-_, _≤_, _<_}

@@ -1,6 +1,6 @@
 -- Lists of keys passed from the front, key by key, and the buffer that the keys kept go into.
--- Main statements: next-of (the key passed next); stored-next (one key more in the buffer), all-stored (the end);
--- ascending-pair, last-ascends; removed-same, removed-other.
+-- Main statements: next-of (the key passed next); stored-next (one key more in the buffer); ascending-passed, not-ascending, last-ascends;
+-- removed-same, removed-other, none-removed.
 use mathlib.Core.Path.{_≡_, refl, sym, ap, _∙_}
 use mathlib.Core.Bool.{true, false}
 use mathlib.Core.List.{List, [], _∷_, _++_}

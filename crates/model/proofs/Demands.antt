@@ -7,10 +7,10 @@ use Prim.Native.Nat.{ℕ, _<_}
 use Rattle.model.specs.declared.Operation.{Operation}
 use Rattle.model.specs.Memory.{formatted, formattedRoot}
 use Rattle.model.specs.Runs.{Call, events}
-use Rattle.model.specs.Book.{emptyBook, bookAgrees, bookAtEnd}
+use Rattle.model.specs.Book.{emptyBook, bookAgrees}
 use Rattle.model.specs.Links.{clockStart, linksFresh}
 use Rattle.model.specs.Progress.{progresses}
-use Rattle.model.specs.Demands.{Sizes, start, Reached, AtRest, ScheduleRight, GrantsRight, RunSingly}
+use Rattle.model.specs.Demands.{Sizes, start, Reached, bookReached, AtRest, ScheduleRight, GrantsRight, RunSingly}
 use Rattle.model.proofs.Laws.Lists.{All}
 use Rattle.model.proofs.Theorems.Calls.{run-answers}
 use Rattle.model.proofs.Theorems.AllSteps.{steps-kept}
@@ -46,7 +46,7 @@ granted-right s cs = grants-right steps-kept s cs
 
 -- From every reachable memory in which nobody is under way, an operation run alone never waits, ends, answers as the yardstick does and leaves the file that the yardstick leaves.
 pub singly-right : (s : Sizes) (cs : List Call) → AtRest (Reached s cs) → (q : ℕ) → q < Reached s cs .root .parties → (o : Operation) (k : ℕ) → RunSingly (Reached s cs) q o k
-singly-right s cs rest q in-row o k = run-singly steps-kept (Reached s cs) (bookAtEnd emptyBook (events (start s) cs)) (reached-inv s cs) rest q in-row o k
+singly-right s cs rest q in-row o k = run-singly steps-kept (Reached s cs) (bookReached s cs) (reached-inv s cs) rest q in-row o k
 
 -- So do operations run singly, one after the other, from formatted memory.
 pub lists-right : (s : Sizes) (xs : List Wanted) → All (λ x. x .party < s .parties) xs → EachSingly (start s) xs

@@ -1,6 +1,6 @@
 -- The set book (document 01, "The set book"): what every answer of a run must be.
 -- It is fed the events of a run, and compares each answer with its note.
--- Main definitions: Book, emptyBook; enter, noteAt (steps 6, 10 and 11), closed; agrees, afterEvent; bookAgrees (over a whole list).
+-- Main definitions: Book, emptyBook; enter; noteAtSix, noteAtTen and noteAtEleven; bookAfter, agrees (one event); bookAgrees, bookAtEnd (over a whole list).
 use mathlib.Core.Bool.{Bool, true, false, cond, _&&_}
 use mathlib.Core.List.{List, [], _∷_}
 use mathlib.Core.Option.{Option, none, some}

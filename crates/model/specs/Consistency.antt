@@ -14,12 +14,13 @@ use Rattle.model.specs.Sizes.{within}
 use Rattle.model.specs.LockWords.{holds, chainWord}
 use Rattle.model.specs.Addresses.{span, hash, chainCount}
 use Rattle.model.specs.Entries.{hasKey}
-use Rattle.model.specs.Pages.{pageOf, linkOf, entriesOf, primaryPage, scratchPage}
+use Rattle.model.specs.Pages.{pageOf, entriesOf, primaryPage, scratchPage}
 use Rattle.model.specs.Chains.{sound, Chain, chainOf, listFrom, entriesOn}
 use Rattle.model.specs.Steps.Locate.{modeOf}
 use Rattle.model.specs.Memory.{Memory, partyAt}
 use Rattle.model.specs.Calls.{stepCall}
 use Rattle.model.specs.Book.{Book, Entered, isIn}
+use Rattle.model.specs.Effects.{scratchLink}
 
 -- ---- P2, the file
 
@@ -66,12 +67,12 @@ pub record SearchEnds (m : Memory) (q : ℕ) : Type 0 where
   pub at-home : HomeLocked m q
   pub current : pageOf (stepCall m q .memory .pages) (scratchPage (m .root) q) ≡ pageOf (m .pages) (primaryPage (partyAt (m .parties) q .chain))
 
--- 9: its chain is locked for reading; scratch and the pages behind it are what was read of the chain, and tell whether the key was in as the book noted it.
+-- 9: its chain is locked for reading; scratch and the pages behind it are what is left to look at, and have the key exactly where the book noted found.
 pub record LeftToWalk (m : Memory) (b : Book) (q : ℕ) : Type 0 where
   pub entered : Entered
   pub entry : b .entries q ≡ some entered
   pub rest : List ℕ
-  pub reads : listFrom (m .root) (m .pages) (linkOf (pageOf (m .pages) (scratchPage (m .root) q))) ≡ sound rest
+  pub reads : listFrom (m .root) (m .pages) (scratchLink m q) ≡ sound rest
   pub note : entered .note
       ≡ some (cond (hasKey (partyAt (m .parties) q .key) (entriesOf (pageOf (m .pages) (scratchPage (m .root) q)) ++ entriesOn (m .pages) rest)) OperationAnswer.Found OperationAnswer.Absent)
   pub locked : holds (getD (m .locks) (chainWord (partyAt (m .parties) q .chain)) 0) q (modeOf (partyAt (m .parties) q)) ≡ true

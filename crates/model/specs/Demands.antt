@@ -1,5 +1,5 @@
 -- Demands 2 and 3 as statements about every list of calls from formatted memory.
--- Main definitions: Reached (a memory that only the index has changed); ScheduleRight (demand 3), GrantsRight and RunSingly (demand 2). The theorems that they hold are in proofs/.
+-- Main definitions: Reached and bookReached (a memory that only the index has changed, and the set book beside it); ScheduleRight (demand 3), GrantsRight and RunSingly (demand 2). The theorems that they hold are in proofs/.
 use mathlib.Core.Path.{_≡_}
 use mathlib.Core.Bool.{true, false}
 use mathlib.Core.List.{List, []}
@@ -12,7 +12,7 @@ use Rattle.model.specs.Records.{rootOfSizes}
 use Rattle.model.specs.Memory.{Memory, formatted}
 use Rattle.model.specs.Calls.{beginCall}
 use Rattle.model.specs.Runs.{Call, events, finalMemory}
-use Rattle.model.specs.Book.{emptyBook, bookAgrees}
+use Rattle.model.specs.Book.{Book, emptyBook, bookAgrees, bookAtEnd}
 use Rattle.model.specs.Links.{clockStart, linksFresh}
 use Rattle.model.specs.Progress.{underWay, progresses}
 use Rattle.model.specs.Holds.{grantsRight}
@@ -34,6 +34,10 @@ start s = formatted (rootOfSizes (s .originals) (s .keys) (s .chains) (s .overfl
 -- The memory after a list of calls from formatted memory.
 abbrev pub Reached : Sizes → List Call → Memory
 Reached s cs = finalMemory (start s) cs
+
+-- The set book beside it.
+abbrev pub bookReached : Sizes → List Call → Book
+bookReached s cs = bookAtEnd emptyBook (events (start s) cs)
 
 -- Demand 3 for one list: every answer is the set book's, no stale link was followed, and somebody can move.
 pub record ScheduleRight (s : Sizes) (cs : List Call) : Type 0 where

@@ -8,12 +8,13 @@ use Prim.Native.Nat.{ℕ, zero, suc, _+_, _≤_, _<_}
 use lib.Dec.{eqb}
 use Rattle.model.specs.declared.Party.{Party}
 use Rattle.model.specs.Sizes.{within}
-use Rattle.model.specs.Pages.{pageOf, linkOf, primaryPage, scratchPage}
+use Rattle.model.specs.Pages.{pageOf, linkOf, primaryPage}
 use Rattle.model.specs.Chains.{Checked, damaged, sound, chainOf, listFrom}
 use Rattle.model.specs.FreeList.{Taken, pagesTaken}
 use Rattle.model.specs.Steps.Change.{isChange}
 use Rattle.model.specs.Memory.{Memory, partyAt}
 use Rattle.model.specs.Links.{pagesIn, pagesListed}
+use Rattle.model.specs.Effects.{scratchLink}
 
 -- How often x is in the list.
 unfoldable pub count : ℕ → List ℕ → ℕ
@@ -37,10 +38,7 @@ chainedFrom m (suc n) c = pagesIn (chainOf (m .root) (m .pages) c) ++ chainedFro
 unfoldable pub handIf : Bool → Memory → ℕ → List ℕ
 handIf t m l = cond t (pagesListed (listFrom (m .root) (m .pages) l)) []
 
--- The links of a party's scratch page and of the primary page of its other chain.
-abbrev pub scratchLinkOf : Memory → ℕ → ℕ
-scratchLinkOf m q = linkOf (pageOf (m .pages) (scratchPage (m .root) q))
-
+-- The link of the primary page of a party's other chain.
 abbrev pub otherLinkOf : Memory → ℕ → ℕ
 otherLinkOf m q = linkOf (pageOf (m .pages) (primaryPage (partyAt (m .parties) q .other)))
 
@@ -55,7 +53,7 @@ hasBuilt p = eqb (p .step) 11 || eqb (p .step) 18 || within 27 28 (p .step)
 unfoldable pub inHand : Memory → ℕ → List ℕ
 inHand m q =
     let p = partyAt (m .parties) q in
-    handIf (owesOld p) m (p .old) ++ (handIf (hasBuilt p) m (scratchLinkOf m q) ++ handIf (eqb (p .step) 18 || eqb (p .step) 29) m (otherLinkOf m q))
+    handIf (owesOld p) m (p .old) ++ (handIf (hasBuilt p) m (scratchLink m q) ++ handIf (eqb (p .step) 18 || eqb (p .step) 29) m (otherLinkOf m q))
 
 -- In hand of the n parties from party q on.
 unfoldable pub inHands : Memory → ℕ → ℕ → List ℕ

@@ -1,5 +1,5 @@
 -- Steps 12 and 13 keep the invariant: an insert or a delete gives up its chain, and requests it again where old pages are left.
--- Main statements: step12-kept, step13-kept.
+-- Main statements: made-is-change; step12-kept, step13-kept.
 use mathlib.Core.Path.{_≡_, refl, ap, _∙_}
 use mathlib.Core.Logic.{_≢_}
 use mathlib.Core.Bool.{true, false, cond, _&&_, _||_}
@@ -34,7 +34,7 @@ use Rattle.model.proofs.Effects.Releases.{claim-less, held-one, given-u
 use Rattle.model.proofs.Effects.Done.{done-listed}
 
 -- The answer of a change made is a change.
-made-is-change : (p : Party) → Made p → isChange (p .answer) ≡ true
+pub made-is-change : (p : Party) → Made p → isChange (p .answer) ≡ true
 unfolding isChange answerNumber
 made-is-change p e = rw e (cond-ind (λ a. (eqb a 1 || eqb a 3) ≡ true) (eqb (p .operation) 2) 1 3 (λ _. refl) (λ _. refl))
 

@@ -42,11 +42,11 @@ use Rattle.model.specs.Steps.Dispatch.{noStep, stepTable, stepOf, wants}
 use Rattle.model.specs.Memory.{Memory, partyAt, viewOf, afterStep}
 use Rattle.model.specs.Refusals.{firstCause, lengthsFit, beginRows, stepRows}
 use Rattle.model.specs.Calls.{Called, called, withBegun, beginCall, stepped, stepCall}
-use Rattle.model.specs.Runs.{Call, replyTo, events}
-use Rattle.model.specs.Book.{Book, emptyBook, bookAtEnd}
+use Rattle.model.specs.Runs.{Call, replyTo}
+use Rattle.model.specs.Book.{Book}
 use Rattle.model.specs.Links.{performs}
 use Rattle.model.specs.Effects.{scratchLink, AltersRecord, AltersScratch, AltersOwn, own-record, own-scratch, StepAlters, WaitsForLock, Begins, BeginAlters}
-use Rattle.model.specs.Demands.{Sizes, start, Reached}
+use Rattle.model.specs.Demands.{Sizes, Reached, bookReached}
 use Rattle.model.proofs.Laws.Lists.{Cmp, same, diff, cmp, cond-ind, All, eqb-true, eqb-same, eqb-false, leb-false, not-true, not-false, among-first, _▸_}
 use Rattle.model.proofs.Laws.Booleans.{and-left, and-right}
 use Rattle.model.proofs.Laws.Pages.{page-same, length-pageOf}
@@ -546,10 +546,6 @@ step-alters m b i q = record { performed = λ y. go (performed-alters m q y); ot
     go : Performed m q → AltersOwn m q
     go (went a) = own-record a
     go (looked in-row is-nine leads e) = own-scratch (scratch-altered m b i q in-row is-nine leads e)
-
--- The set book beside the memory reached.
-abbrev bookReached : Sizes → List Call → Book
-bookReached s cs = bookAtEnd emptyBook (events (start s) cs)
 
 pub run-alters : (s : Sizes) (cs : List Call) (q : ℕ) → StepAlters (Reached s cs) q
 run-alters s cs q = step-alters (Reached s cs) (bookReached s cs) (reached-inv s cs) q

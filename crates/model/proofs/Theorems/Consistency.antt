@@ -20,12 +20,12 @@ use Rattle.model.specs.Chains.{Chain, listFrom}
 use Rattle.model.specs.Outcome.{Outcome, withParty, withScratch}
 use Rattle.model.specs.Memory.{Memory, partyAt, viewOf, afterStep}
 use Rattle.model.specs.Calls.{Called, stepped, stepCall}
-use Rattle.model.specs.Runs.{Call, events}
-use Rattle.model.specs.Book.{Book, emptyBook, bookAtEnd}
+use Rattle.model.specs.Runs.{Call}
+use Rattle.model.specs.Book.{Book}
 use Rattle.model.specs.Effects.{recordAfter}
 use Rattle.model.specs.Steps.Locate.{modeOf, chainLock, chaseOf, arrived, chasing}
 use Rattle.model.specs.Steps.Dispatch.{stepOf, stepTable}
-use Rattle.model.specs.Demands.{Sizes, start, Reached}
+use Rattle.model.specs.Demands.{Sizes, Reached, bookReached}
 use Rattle.model.specs.Consistency.{restructures, chainsWith, Consistent, HomeLocked, SearchEnds, LeftToWalk, SameSet}
 use Rattle.model.proofs.Laws.Lists.{Told, fails, tell, Ord, lt, ge, ord, cond-ind, not-both, le-leb, eqb-true, all-from}
 use Rattle.model.proofs.Laws.Lists as lists
@@ -288,10 +288,6 @@ module _ (m : Memory) (b : Book) (i : Inv m b) (q : ℕ) where
     }
 
 -- ---- Every reachable memory
-
--- The book beside the memory reached.
-abbrev bookReached : Sizes → List Call → Book
-bookReached s cs = bookAtEnd emptyBook (events (start s) cs)
 
 -- P2 (section 4.2), S1 to S4, S3′ and S4′.
 pub always-consistent : (s : Sizes) (cs : List Call) → Consistent (Reached s cs)

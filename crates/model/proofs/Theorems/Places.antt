@@ -13,7 +13,6 @@ use lib.Seq.{take-all}
 use lib.Dec.{eqb}
 use Rattle.model.specs.declared.Party.{Party}
 use Rattle.model.specs.Sizes.{within}
-use Rattle.model.specs.Answers.{answerNumber}
 use Rattle.model.specs.Entries.{Entry}
 use Rattle.model.specs.Pages.{linkOf, linkToFirst}
 use Rattle.model.specs.Chains.{chainOf, listFrom}
@@ -21,12 +20,13 @@ use Rattle.model.specs.Filling.{primaryOf}
 use Rattle.model.specs.Steps.Change.{isChange}
 use Rattle.model.specs.Memory.{Memory, partyAt}
 use Rattle.model.specs.Links.{pagesIn, pagesListed}
-use Rattle.model.specs.Book.{Book, Entered, emptyBook, bookAtEnd}
-use Rattle.model.specs.Runs.{Call, events}
-use Rattle.model.specs.Demands.{Sizes, start, Reached}
+use Rattle.model.specs.Book.{Book, Entered}
+use Rattle.model.specs.Runs.{Call}
+use Rattle.model.specs.Demands.{Sizes, Reached, bookReached}
+use Rattle.model.specs.Effects.{scratchLink}
 use Rattle.model.specs.Consistency.{chainsWith}
-use Rattle.model.specs.PagePlaces.{count, pagesDrawn, freeList, chainedFrom, handIf, scratchLinkOf, otherLinkOf, owesOld, hasBuilt, inHand, inHands, placesOf, PagesPlaced}
-use Rattle.model.proofs.Laws.Lists.{Cmp, same, diff, cmp, Ord, lt, ge, ord, eqb-same, eqb-diff, cond-ind, count-nil, count-append, _▸_}
+use Rattle.model.specs.PagePlaces.{count, pagesDrawn, freeList, chainedFrom, handIf, otherLinkOf, owesOld, hasBuilt, inHand, inHands, placesOf, PagesPlaced}
+use Rattle.model.proofs.Laws.Lists.{Cmp, same, diff, cmp, Ord, lt, ge, ord, eqb-same, eqb-diff, count-nil, count-append, _▸_}
 use Rattle.model.proofs.Laws.Pages.{link-filledPage}
 use Rattle.model.proofs.Laws.Structure.{Linked}
 use Rattle.model.proofs.Laws.Filling.{chain-link, overflow-linked}
@@ -36,6 +36,7 @@ use Rattle.model.proofs.Invariant.Ghost.{Owner, owner, Named, nobody, f
 use Rattle.model.proofs.Invariant.Owners.{owner-diff, kinds-apart, indices-apart, owns-self, owns-diff, owns-nothing, no-repeats}
 use Rattle.model.proofs.Invariant.Statement.{Scene, NothingOld, NoPages, Building, Trash, Leaving, Written, unchanged, made-change, Divided, Joined, Emptying, Facts, factsNone, factTable, PartyOk, resting, working, sceneOf, Inv}
 use Rattle.model.proofs.Effects.BuiltChain.{chain-found}
+use Rattle.model.proofs.Steps.Leave.{made-is-change}
 use Rattle.model.proofs.Theorems.Reached.{reached-inv}
 use Rattle.model.proofs.Theorems.Consistency.{always-consistent, reached-many}
 
@@ -106,7 +107,7 @@ module _ (m : Memory) (b : Book) (i : Inv m b) where
     -- What the party's links lead to is what it has; each of the three lists is in its hand or not.
     record Hand (old built other : Bool) : Type 0 where
       old-is : handIf old m (p .old) ≡ g .held (oldOf q)
-      built-is : handIf built m (scratchLinkOf m q) ≡ g .held (builtBy q)
+      built-is : handIf built m (scratchLink m q) ≡ g .held (builtBy q)
       other-is : (x : ℕ) → count x (handIf other m (otherLinkOf m q)) ≡ count x (g .held (partnerOf q)) + count x (g .held (newBy q))
 
     -- Which are in its hand at step number n.
@@ -126,10 +127,10 @@ module _ (m : Memory) (b : Book) (i : Inv m b) where
     unfolding handIf
     nothing-other e f x = rw (e, f) (omega (arith, count-nil x))
 
-    listed-built : (level : ℕ) (es : List Entry) → Building s q level es → handIf true m (scratchLinkOf m q) ≡ g .held (builtBy q)
+    listed-built : (level : ℕ) (es : List Entry) → Building s q level es → handIf true m (scratchLink m q) ≡ g .held (builtBy q)
     unfolding primaryOf
     listed-built level es h =
-        listed (builtBy q) (scratchLinkOf m q) (ap linkOf (h .scratch-is) ∙ link-filledPage level (take (m .root .keys) es) (linkToFirst (g .held (builtBy q))))
+        listed (builtBy q) (scratchLink m q) (ap linkOf (h .scratch-is) ∙ link-filledPage level (take (m .root .keys) es) (linkToFirst (g .held (builtBy q))))
         (overflow-linked (m .root) (m .pages) (g .held (builtBy q)) (drop (m .root .keys) es) (held-overflow (m .root) (i .pages-ok .owned) (builtBy q)) (h .built))
 
     listed-old : Trash s q p → handIf true m (p .old) ≡ g .held (oldOf q)
@@ -139,7 +140,7 @@ module _ (m : Memory) (b : Book) (i : Inv m b) where
     hand-empty : NoPages s q → Hand false false false
     hand-empty h = record {
       old-is = not-listed (oldOf q) (p .old) (h .nothing-old .no-old);
-      built-is = not-listed (builtBy q) (scratchLinkOf m q) (h .nothing-built .no-built);
+      built-is = not-listed (builtBy q) (scratchLink m q) (h .nothing-built .no-built);
       other-is = nothing-other (h .nothing-old .no-partner) (h .nothing-built .no-new);
     }
 
@@ -147,18 +148,14 @@ module _ (m : Memory) (b : Book) (i : Inv m b) where
     hand-leaving : (e : Entered) → Leaving s q p e → Hand true false false
     hand-leaving e h = record {
       old-is = listed-old (h .trash);
-      built-is = not-listed (builtBy q) (scratchLinkOf m q) (h .nothing-built .no-built);
+      built-is = not-listed (builtBy q) (scratchLink m q) (h .nothing-built .no-built);
       other-is = nothing-other (h .no-partner) (h .nothing-built .no-new);
     }
 
     -- 12: the answer tells whether there was a change.
     hand-written : (e : Entered) → Written s q p e → HandAt 12
-    unfolding isChange answerNumber
     hand-written e (unchanged _ none _ h) = rw none (hand-empty h)
-    hand-written e (made-change h _) = rw change (hand-leaving e h)
-      where
-        change : isChange (p .answer) ≡ true
-        change = rw (h .made) (cond-ind (λ (a : ℕ). isChange a ≡ true) (eqb (p .operation) 2) 1 3 (λ _. refl) (λ _. refl))
+    hand-written e (made-change h _) = rw (made-is-change p (h .made)) (hand-leaving e h)
 
     -- 11, 27 and 28: a chain built.
     hand-built : (level : ℕ) (es : List Entry) → Building s q level es → g .held (newBy q) ≡ [] → NothingOld s q → Hand false true false
@@ -188,7 +185,7 @@ module _ (m : Memory) (b : Book) (i : Inv m b) where
     hand-emptying : (e : Entered) → Emptying s q p e → Hand true false true
     hand-emptying e h = record {
       old-is = listed-old (h .trash);
-      built-is = not-listed (builtBy q) (scratchLinkOf m q) (h .nothing-built .no-built);
+      built-is = not-listed (builtBy q) (scratchLink m q) (h .nothing-built .no-built);
       other-is = λ x. rw (h .nothing-built .no-new, listed (partnerOf q) (otherLinkOf m q) (h .partner-link) (h .partner-linked)) (omega (arith, count-nil x));
     }
 
@@ -226,8 +223,8 @@ module _ (m : Memory) (b : Book) (i : Inv m b) where
         let w = i .pages-ok .owned in
         omega (
           arith,
-          count-append x (handIf (owesOld p) m (p .old)) (handIf (hasBuilt p) m (scratchLinkOf m q) ++ handIf (eqb (p .step) 18 || eqb (p .step) 29) m (otherLinkOf m q)),
-          count-append x (handIf (hasBuilt p) m (scratchLinkOf m q)) (handIf (eqb (p .step) 18 || eqb (p .step) 29) m (otherLinkOf m q)),
+          count-append x (handIf (owesOld p) m (p .old)) (handIf (hasBuilt p) m (scratchLink m q) ++ handIf (eqb (p .step) 18 || eqb (p .step) 29) m (otherLinkOf m q)),
+          count-append x (handIf (hasBuilt p) m (scratchLink m q)) (handIf (eqb (p .step) 18 || eqb (p .step) 29) m (otherLinkOf m q)),
           ap (count x) (h .old-is),
           ap (count x) (h .built-is),
           h .other-is x,
@@ -353,4 +350,4 @@ module _ (m : Memory) (b : Book) (i : Inv m b) where
 -- After every list of calls from formatted memory, the chains of the file being those of always-consistent.
 pub reached-placed : (s : Sizes) (cs : List Call) → PagesPlaced (Reached s cs) (chainsWith (Reached s cs) (always-consistent s cs .split))
 reached-placed s cs =
-    subst (PagesPlaced (Reached s cs)) (reached-many s cs) (pages-placed (Reached s cs) (bookAtEnd emptyBook (events (start s) cs)) (reached-inv s cs))
+    subst (PagesPlaced (Reached s cs)) (reached-many s cs) (pages-placed (Reached s cs) (bookReached s cs) (reached-inv s cs))

@@ -1,9 +1,9 @@
 -- The invariant holds of every reachable memory.
 -- Main statements: formatted-inv, reached-inv.
 use mathlib.Core.List.{List}
-use Rattle.model.specs.Runs.{Call, events}
-use Rattle.model.specs.Book.{emptyBook, bookAtEnd}
-use Rattle.model.specs.Demands.{Sizes, start, Reached}
+use Rattle.model.specs.Runs.{Call}
+use Rattle.model.specs.Book.{emptyBook}
+use Rattle.model.specs.Demands.{Sizes, start, Reached, bookReached}
 use Rattle.model.proofs.Invariant.Statement.{Inv}
 use Rattle.model.proofs.Invariant.Start.{start-inv}
 use Rattle.model.proofs.Theorems.Calls.{run-inv}
@@ -14,5 +14,5 @@ pub formatted-inv : (s : Sizes) → Inv (start s) emptyBook
 formatted-inv s = start-inv (s .originals) (s .keys) (s .chains) (s .overflow) (s .parties) (s .fit)
 
 -- Every reachable memory has the invariant, beside the book that its list of calls makes.
-pub reached-inv : (s : Sizes) (cs : List Call) → Inv (Reached s cs) (bookAtEnd emptyBook (events (start s) cs))
+pub reached-inv : (s : Sizes) (cs : List Call) → Inv (Reached s cs) (bookReached s cs)
 reached-inv s cs = run-inv steps-kept (start s) emptyBook (formatted-inv s) cs
