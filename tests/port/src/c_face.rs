@@ -1,0 +1,131 @@
+//! The C face: the three calls over pointers and lengths. The only unsafe code of the port, which makes slices of them.
+#![allow(unsafe_code)]
+
+use crate::calls;
+use crate::damage::Unnamed;
+use crate::memory::{Page, Party, Root, PAGE_WORDS};
+use crate::reply::{Outcome, Refusal};
+
+/// The reply of a step: outcome 0 waiting, 1 moved, 2 done.
+#[repr(C)]
+#[derive(Clone, Copy, Debug, Default, PartialEq, Eq)]
+pub struct BeadReply {
+    pub refusal: u32,
+    pub outcome: u32,
+    pub answer: u32,
+    pub restructuring: u32,
+}
+
+impl BeadReply {
+    #[inline]
+    pub fn of<D>(result: Result<Outcome, Refusal<D>>) -> BeadReply {
+        match result {
+            Err(refusal) => BeadReply {
+                refusal: refusal.number(),
+                ..BeadReply::default()
+            },
+            Ok(Outcome::Waiting) => BeadReply::default(),
+            Ok(Outcome::Moved) => BeadReply {
+                outcome: 1,
+                ..BeadReply::default()
+            },
+            Ok(Outcome::Done(answer, made)) => BeadReply {
+                refusal: 0,
+                outcome: 2,
+                answer,
+                restructuring: made as u32,
+            },
+        }
+    }
+}
+
+/// 0 for ok, else the refusal's number.
+#[inline]
+pub fn code_of<D>(result: Result<(), Refusal<D>>) -> u32 {
+    result.map_or_else(Refusal::number, |()| 0)
+}
+
+/// Words as the whole pages that they make.
+#[inline]
+pub fn pages_of(words: &mut [u32]) -> &mut [Page] {
+    let count = words.len() / PAGE_WORDS;
+    // SAFETY: a page is sixteen words without padding, and so many pages lie within the words.
+    unsafe { std::slice::from_raw_parts_mut(words.as_mut_ptr().cast::<Page>(), count) }
+}
+
+/// # Safety
+/// Each pointer is valid for its length: nine words at `root`, nine for each of `np` records, `nl` lock words, `ng` page words; none overlap.
+#[no_mangle]
+pub unsafe extern "C" fn bead_format(
+    root: *mut Root,
+    parties: *mut Party,
+    np: usize,
+    locks: *mut u32,
+    nl: usize,
+    pages: *mut u32,
+    ng: usize,
+    n: u32,
+    b: u32,
+    p: u32,
+    v: u32,
+    q: u32,
+) -> u32 {
+    let parties = std::slice::from_raw_parts_mut(parties, np);
+    let locks = std::slice::from_raw_parts_mut(locks, nl);
+    let pages = pages_of(std::slice::from_raw_parts_mut(pages, ng));
+    code_of(calls::format::<Unnamed>(
+        &mut *root,
+        parties,
+        locks,
+        pages,
+        ng,
+        [n, b, p, v, q],
+    ))
+}
+
+/// 255 for an operation outside 1 to 3.
+/// # Safety
+/// As for `bead_format`.
+#[no_mangle]
+pub unsafe extern "C" fn bead_begin(
+    root: *mut Root,
+    parties: *mut Party,
+    np: usize,
+    locks: *mut u32,
+    nl: usize,
+    _pages: *mut u32,
+    ng: usize,
+    party: u32,
+    operation: u32,
+    key: u32,
+) -> u32 {
+    if !(1..=3).contains(&operation) {
+        return 255;
+    }
+    let parties = std::slice::from_raw_parts_mut(parties, np);
+    let locks = std::slice::from_raw_parts(locks, nl);
+    code_of(calls::begin::<Unnamed>(
+        &*root, parties, locks, ng, party, operation, key,
+    ))
+}
+
+/// # Safety
+/// As for `bead_format`.
+#[no_mangle]
+pub unsafe extern "C" fn bead_step(
+    root: *mut Root,
+    parties: *mut Party,
+    np: usize,
+    locks: *mut u32,
+    nl: usize,
+    pages: *mut u32,
+    ng: usize,
+    party: u32,
+) -> BeadReply {
+    let parties = std::slice::from_raw_parts_mut(parties, np);
+    let locks = std::slice::from_raw_parts_mut(locks, nl);
+    let pages = pages_of(std::slice::from_raw_parts_mut(pages, ng));
+    BeadReply::of(calls::step::<Unnamed>(
+        &mut *root, parties, locks, pages, ng, party,
+    ))
+}

@@ -1,0 +1,87 @@
+//! A call, its reply, and the port as one that answers calls.
+
+use crate::image::Image;
+use bead_port::c_face::{code_of, pages_of, BeadReply};
+use bead_port::calls;
+use bead_port::damage::Cause;
+use bead_port::memory::{Party, Root};
+use bead_port::reply::Refusal;
+
+#[derive(Clone, Copy, Debug, PartialEq, Eq)]
+pub enum Call {
+    Format([u32; 5]),
+    Begin(u32, u32, u32),
+    Step(u32),
+}
+
+/// The four words of a step's reply; a format or begin has its number in the first and zeros.
+pub type Reply = [u32; 4];
+
+pub fn code_reply(code: u32) -> Reply {
+    [code, 0, 0, 0]
+}
+
+pub fn step_reply(reply: BeadReply) -> Reply {
+    [
+        reply.refusal,
+        reply.outcome,
+        reply.answer,
+        reply.restructuring,
+    ]
+}
+
+/// Whatever answers calls on lent memory.
+pub trait Callee {
+    fn call(&mut self, image: &mut Image, call: Call) -> Reply;
+}
+
+/// The port, called from within; it remembers the cause of the last refusal 6.
+#[derive(Default)]
+pub struct Port {
+    pub cause: Option<Cause>,
+}
+
+impl Callee for Port {
+    fn call(&mut self, image: &mut Image, call: Call) -> Reply {
+        self.cause = None;
+        let mut root = image.root_record();
+        let mut parties: Vec<Party> = (0..image.party_count())
+            .map(|number| image.party(number as u32))
+            .collect();
+        let reply = self.call_on(&mut root, &mut parties, image, call);
+        image.set_root(root);
+        for (number, party) in (0..).zip(parties) {
+            image.set_party(number, party);
+        }
+        reply
+    }
+}
+
+impl Port {
+    fn call_on(
+        &mut self,
+        root: &mut Root,
+        parties: &mut [Party],
+        image: &mut Image,
+        call: Call,
+    ) -> Reply {
+        let (words, locks) = (image.pages.len(), &mut image.locks[..]);
+        let pages = pages_of(&mut image.pages);
+        match call {
+            Call::Format(sizes) => code_reply(code_of(calls::format::<Cause>(
+                root, parties, locks, pages, words, sizes,
+            ))),
+            Call::Begin(_, operation, _) if !(1..=3).contains(&operation) => code_reply(255),
+            Call::Begin(party, operation, key) => code_reply(code_of(calls::begin::<Cause>(
+                root, parties, locks, words, party, operation, key,
+            ))),
+            Call::Step(party) => {
+                let result = calls::step::<Cause>(root, parties, locks, pages, words, party);
+                if let Err(Refusal::Damaged(cause)) = result {
+                    self.cause = Some(cause);
+                }
+                step_reply(BeadReply::of(result))
+            }
+        }
+    }
+}

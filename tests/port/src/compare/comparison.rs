@@ -1,0 +1,169 @@
+//! Makes each call on both sides, on equal memory, and compares the reply and every word.
+
+use crate::callee::{Call, Callee, Port, Reply};
+use crate::coverage::Coverage;
+use crate::image::{Image, PART_NAMES};
+use crate::library::Library;
+use crate::random::Random;
+
+/// The two sides, their memory, and what was met.
+pub struct Comparison {
+    library: Library,
+    port: Port,
+    ours: Image,
+    theirs: Image,
+    before: Image,
+    pub coverage: Coverage,
+    pub calls: u64,
+    spoil: Option<Spoil>,
+}
+
+/// Where to put a wrong word into the port's result: a part's place, 4 for the reply.
+pub struct Spoil {
+    part: usize,
+    random: Random,
+}
+
+impl Spoil {
+    /// From a part's name, or "reply".
+    pub fn new(name: &str, seed: u64) -> Option<Spoil> {
+        let part = [
+            PART_NAMES[0],
+            PART_NAMES[1],
+            PART_NAMES[2],
+            PART_NAMES[3],
+            "reply",
+        ];
+        let part = part.iter().position(|known| *known == name)?;
+        Some(Spoil {
+            part,
+            random: Random::new(seed),
+        })
+    }
+
+    /// Now and then turns one bit.
+    fn apply(&mut self, image: &mut Image, reply: &mut Reply) {
+        let words: &mut [u32] = match image.parts_mut().into_iter().nth(self.part) {
+            Some(part) => part,
+            None => reply,
+        };
+        if !words.is_empty() && self.random.one_in(1000) {
+            words[self.random.below(words.len() as u32) as usize] ^= 1 << self.random.below(32);
+        }
+    }
+}
+
+/// What was found to differ, in words.
+pub type Outcome<T> = Result<T, String>;
+
+impl Comparison {
+    pub fn new(library: Library, spoil: Option<Spoil>) -> Comparison {
+        let empty = Image::zero(0, 0, 0);
+        let (port, coverage) = (Port::default(), Coverage::new());
+        let (ours, theirs, before) = (empty.clone(), empty.clone(), empty);
+        Comparison {
+            library,
+            port,
+            ours,
+            theirs,
+            before,
+            coverage,
+            calls: 0,
+            spoil,
+        }
+    }
+
+    /// The memory, which both sides have alike.
+    pub fn memory(&self) -> &Image {
+        &self.ours
+    }
+
+    /// Lends both sides this memory.
+    pub fn lend(&mut self, image: &Image) {
+        self.ours.copy_from(image);
+        self.theirs.copy_from(image);
+    }
+
+    /// One call on both sides.
+    pub fn call(&mut self, call: Call) -> Outcome<Reply> {
+        self.calls += 1;
+        self.before.copy_from(&self.ours);
+        let mut reply = self.port.call(&mut self.ours, call);
+        self.count(call, reply);
+        if let Some(spoil) = &mut self.spoil {
+            spoil.apply(&mut self.ours, &mut reply);
+        }
+        let theirs = self.library.call(&mut self.theirs, call);
+        if reply != theirs {
+            return Err(format!(
+                "{call:?}: reply: port {reply:?}, library {theirs:?}{}",
+                self.told()
+            ));
+        }
+        match self.first_difference() {
+            Some(difference) => Err(format!("{call:?}: {difference}{}", self.told())),
+            None => self.test_unchanged(call, reply),
+        }
+    }
+
+    fn count(&mut self, call: Call, reply: Reply) {
+        self.coverage
+            .count(call, self.step_before(call), reply, self.port.cause);
+        if let (Call::Step(party), [0, 1 | 2, ..]) = (call, reply) {
+            self.coverage
+                .situations
+                .count(&self.before, &self.ours, party);
+        }
+    }
+
+    /// The step number that the called party's record held before the call.
+    fn step_before(&self, call: Call) -> u32 {
+        match call {
+            Call::Step(party) => self
+                .before
+                .parties
+                .get(9 * party as usize + 2)
+                .copied()
+                .unwrap_or(0),
+            _ => 0,
+        }
+    }
+
+    fn first_difference(&self) -> Option<String> {
+        let parts = self
+            .ours
+            .parts()
+            .into_iter()
+            .zip(self.theirs.parts())
+            .zip(PART_NAMES);
+        parts
+            .filter_map(|((ours, theirs), name)| {
+                let (place, ours, theirs) = ours.first_difference(theirs)?;
+                Some(format!(
+                    "{name} word {place}: port {ours}, library {theirs}"
+                ))
+            })
+            .next()
+    }
+
+    /// "Left as it was: all lent memory" where refused; "waiting (no word changes)".
+    fn test_unchanged(&self, call: Call, reply: Reply) -> Outcome<Reply> {
+        let waiting = matches!(call, Call::Step(_)) && reply == [0, 0, 0, 0];
+        if (reply[0] != 0 || waiting) && self.ours != self.before {
+            return Err(format!(
+                "{call:?}: memory changed by a call refused or waiting{}",
+                self.told()
+            ));
+        }
+        Ok(reply)
+    }
+
+    /// The records before the call.
+    fn told(&self) -> String {
+        let records: Vec<&[u32]> = self.before.parties.chunks(9).collect();
+        format!(
+            "\n  before: root {:?}, parties {records:?}",
+            &self.before.root[..]
+        )
+    }
+}

@@ -1,0 +1,162 @@
+//! What the compared calls have met: steps performed, waits, answers, refusals, and each cause of refusal 6 where it can arise.
+
+use crate::callee::{Call, Reply};
+use crate::situations::Situations;
+use bead_port::damage::{Cause, CAUSES};
+
+const STEPS: usize = 31;
+
+/// The steps that request a lock, and so can wait.
+const REQUESTING: [usize; 9] = [1, 4, 7, 13, 15, 16, 23, 24, 25];
+
+/// The ends an operation can come to: an answer and a restructuring, with the words for them.
+const ANSWERS: [(&str, usize); 6] = [
+    ("inserted", 1),
+    ("present", 2),
+    ("deleted", 3),
+    ("absent", 4),
+    ("no page", 5),
+    ("found", 6),
+];
+const RESTRUCTURINGS: [(&str, usize); 5] = [
+    ("none", 0),
+    ("split", 1),
+    ("split skipped", 2),
+    ("merged", 3),
+    ("merge skipped", 4),
+];
+
+pub struct Coverage {
+    performed: [u64; STEPS],
+    waited: [u64; STEPS],
+    ended: [u64; STEPS],
+    answers: [u64; 7],
+    restructurings: [u64; 5],
+    /// Refusals of format, begin and step, by number; the last place is 255.
+    refusals: [[u64; 8]; 3],
+    causes: Vec<[u64; STEPS]>,
+    pub situations: Situations,
+}
+
+/// A row of the table: what, and how often.
+pub type Row = (String, u64);
+
+impl Coverage {
+    pub fn new() -> Coverage {
+        Coverage {
+            performed: [0; STEPS],
+            waited: [0; STEPS],
+            ended: [0; STEPS],
+            answers: [0; 7],
+            restructurings: [0; 5],
+            refusals: [[0; 8]; 3],
+            causes: vec![[0; STEPS]; CAUSES.len()],
+            situations: Situations::new(),
+        }
+    }
+
+    /// Counts one call: the step number that the record held, the reply, and the cause where it was refused 6.
+    pub fn count(&mut self, call: Call, step: u32, reply: Reply, cause: Option<Cause>) {
+        let step = (step as usize).min(STEPS - 1);
+        match (call, reply) {
+            (Call::Format(_), [code, ..]) => self.refusals[0][place(code)] += 1,
+            (Call::Begin(..), [code, ..]) => self.refusals[1][place(code)] += 1,
+            (Call::Step(_), [0, outcome, answer, restructuring]) => {
+                self.refusals[2][0] += 1;
+                self.count_outcome(step, outcome, answer as usize, restructuring as usize);
+            }
+            (Call::Step(_), [code, ..]) => self.refusals[2][place(code)] += 1,
+        }
+        if let Some(cause) = cause {
+            self.causes[cause as usize][step] += 1;
+        }
+    }
+
+    fn count_outcome(&mut self, step: usize, outcome: u32, answer: usize, restructuring: usize) {
+        self.performed[step] += u64::from(outcome != 0);
+        match outcome {
+            0 => self.waited[step] += 1,
+            1 => {}
+            _ => {
+                self.ended[step] += 1;
+                self.answers[answer] += 1;
+                self.restructurings[restructuring] += 1;
+            }
+        }
+    }
+
+    /// Every row that must have been met.
+    pub fn rows(&self) -> Vec<Row> {
+        let steps = (1..STEPS).map(|step| (format!("step {step} performed"), self.performed[step]));
+        let waits = REQUESTING.map(|step| (format!("step {step} waiting"), self.waited[step]));
+        let ends = ENDING.map(|step| (format!("step {step} done"), self.ended[step]));
+        let answers =
+            ANSWERS.map(|(words, place)| (format!("answer {words}"), self.answers[place]));
+        let made = RESTRUCTURINGS
+            .map(|(words, place)| (format!("restructuring {words}"), self.restructurings[place]));
+        let refusals = REFUSALS.map(|(call, number)| {
+            let words = format!("{} refused {number}", CALLS[call]);
+            (words, self.refusals[call][place(number)])
+        });
+        let causes = CAUSES
+            .iter()
+            .flat_map(|(cause, words)| self.cause_rows(*cause, words));
+        let ends = ends.into_iter().chain(answers).chain(made);
+        let all = steps.chain(waits).chain(ends).chain(refusals).chain(causes);
+        all.chain(self.situations.rows()).collect()
+    }
+
+    /// A cause in all, then at each step where it must have been met.
+    fn cause_rows(&self, cause: Cause, words: &str) -> Vec<Row> {
+        let counts = &self.causes[cause as usize];
+        let total = (format!("refused 6: {words}"), counts.iter().sum());
+        let steps = steps_of(cause).iter();
+        let at_steps = steps.map(|&step| (format!("  at step {step}"), counts[step]));
+        std::iter::once(total).chain(at_steps).collect()
+    }
+}
+
+const CALLS: [&str; 3] = ["format", "begin", "step"];
+
+/// The steps that can end an operation.
+const ENDING: [usize; 9] = [9, 12, 14, 16, 17, 22, 24, 26, 30];
+
+/// The refusals that each call can give, the call by its place in `CALLS`.
+const REFUSALS: [(usize, u32); 12] = [
+    (0, 1),
+    (0, 2),
+    (1, 1),
+    (1, 2),
+    (1, 3),
+    (1, 4),
+    (1, 255),
+    (2, 1),
+    (2, 2),
+    (2, 3),
+    (2, 5),
+    (2, 6),
+];
+
+fn place(code: u32) -> usize {
+    code.min(7) as usize
+}
+
+/// The steps at which a cause must have been met; none are named where every step tests it.
+fn steps_of(cause: Cause) -> &'static [usize] {
+    match cause {
+        Cause::CountAbovePage | Cause::LocalLevelAbove9 | Cause::LinkAstray => {
+            &[6, 9, 10, 11, 14, 17, 18, 26, 28, 29]
+        }
+        Cause::ChainTooLong => &[10, 14, 17, 26, 29],
+        Cause::FreeListEnds | Cause::FreeListTwice | Cause::FreeListAstray => &[10, 17, 26],
+        Cause::RootLockNotHeld => &[5, 16, 17, 22, 24, 26, 30],
+        Cause::ChainLockNotHeld => &[9, 12, 14, 17, 19, 26, 30],
+        Cause::OtherLockNotHeld => &[8, 26, 30],
+        Cause::AddressNotBelow => &[3, 6],
+        Cause::OldLinkZero => &[13, 14],
+        Cause::OldLinkAstray => &[13, 14, 29],
+        Cause::KeysNotAscending => &[10, 17, 26],
+        Cause::FreeCountOverfull => &[14, 29],
+        _ => &[],
+    }
+}

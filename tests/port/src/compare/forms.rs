@@ -1,0 +1,130 @@
+//! The bracketed forms of the turns program: reading a line, and printing the answer to a call.
+
+use crate::callee::{Call, Reply};
+
+const OPERATIONS: [&str; 3] = ["find", "insert", "delete"];
+const ANSWERS: [&str; 7] = [
+    "", "inserted", "present", "deleted", "absent", "no-page", "found",
+];
+const RESTRUCTURINGS: [&str; 5] = ["none", "split", "split-skipped", "merged", "merge-skipped"];
+
+/// Reads one line without its newline: one of the five forms, single spaces, nothing before or after.
+pub fn read(line: &str) -> Option<Call> {
+    let inside = line.strip_prefix('(')?.strip_suffix(')')?;
+    let (name, rest) = inside.split_once(' ')?;
+    match name {
+        "format" => {
+            let sizes: Option<Vec<u32>> = rest.split(' ').map(number).collect();
+            Some(Call::Format(sizes?.try_into().ok()?))
+        }
+        "begin" => {
+            let (party, operation) = rest.split_once(' ')?;
+            let (name, key) = operation
+                .strip_prefix('(')?
+                .strip_suffix(')')?
+                .split_once(' ')?;
+            let operation = OPERATIONS.iter().position(|known| *known == name)? as u32 + 1;
+            Some(Call::Begin(number(party)?, operation, number(key)?))
+        }
+        "step" => Some(Call::Step(number(rest)?)),
+        _ => None,
+    }
+}
+
+/// "A number is one to ten digits, leading zeros read", up to 4294967295.
+fn number(text: &str) -> Option<u32> {
+    let digits = (1..=10).contains(&text.len()) && text.bytes().all(|byte| byte.is_ascii_digit());
+    if digits {
+        text.parse().ok()
+    } else {
+        None
+    }
+}
+
+/// The line that answers a call.
+pub fn answer(call: Call, reply: Reply) -> String {
+    match call {
+        Call::Format(_) => format!("(format {})", code(reply[0], "ok")),
+        Call::Begin(party, _, _) => format!("(begin {party} {})", code(reply[0], "ok")),
+        Call::Step(party) => format!("(step {party} {})", code(reply[0], &outcome(reply))),
+    }
+}
+
+fn code(number: u32, otherwise: &str) -> String {
+    if number == 0 {
+        otherwise.to_string()
+    } else {
+        format!("(refused {number})")
+    }
+}
+
+fn outcome([_, outcome, answer, restructuring]: Reply) -> String {
+    let word = |words: &[&str], place: u32| {
+        words
+            .get(place as usize)
+            .copied()
+            .unwrap_or("?")
+            .to_string()
+    };
+    match outcome {
+        0 => "waiting".to_string(),
+        1 => "moved".to_string(),
+        2 => format!(
+            "(done {} {})",
+            word(&ANSWERS, answer),
+            word(&RESTRUCTURINGS, restructuring)
+        ),
+        _ => "?".to_string(),
+    }
+}
+
+#[cfg(test)]
+mod tests {
+    use super::*;
+
+    #[test]
+    fn forms_are_read() {
+        assert_eq!(
+            read("(format 1 1 2 0 1)"),
+            Some(Call::Format([1, 1, 2, 0, 1]))
+        );
+        assert_eq!(read("(begin 0 (find 7))"), Some(Call::Begin(0, 1, 7)));
+        assert_eq!(
+            read("(begin 3 (delete 4294967295))"),
+            Some(Call::Begin(3, 3, u32::MAX))
+        );
+        assert_eq!(read("(step 007)"), Some(Call::Step(7)));
+    }
+
+    #[test]
+    fn other_lines_are_not() {
+        let lines = [
+            "",
+            "(step)",
+            "(step 0) ",
+            " (step 0)",
+            "(step  0)",
+            "(Step 0)",
+            "(step +1)",
+            "(step 0)\r",
+            "step 0",
+        ];
+        assert!(lines.iter().all(|line| read(line).is_none()));
+        let lines = [
+            "(format 1 1 2 0)",
+            "(format 1 1 2 0 1 1)",
+            "(step 4294967296)",
+            "(step 00000000001)",
+            "(step 1)x",
+        ];
+        assert!(lines.iter().all(|line| read(line).is_none()));
+        let lines = [
+            "(begin 0 find 7)",
+            "(begin 0 (find))",
+            "(begin 0 (look 7))",
+            "(begin (find 7))",
+            "(begin 0 (find 7)) ",
+        ];
+        assert!(lines.iter().all(|line| read(line).is_none()));
+    }
+}

@@ -1,0 +1,11 @@
+//! A plain port of the index: the lent memory, the three calls and the thirty steps, with the C face of the compiled library.
+#![deny(unsafe_code)]
+
+pub mod c_face;
+pub mod calls;
+pub mod chains;
+pub mod damage;
+pub mod locks;
+pub mod memory;
+pub mod reply;
+mod steps;

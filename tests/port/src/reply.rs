@@ -1,0 +1,59 @@
+//! What the calls return: refusals, and what a step that was not refused answers.
+
+/// The causes of the refusal table.
+#[derive(Clone, Copy, Debug, PartialEq, Eq)]
+pub enum Refusal<D> {
+    Length,
+    Size,
+    PartyNumber,
+    NotIdle,
+    Idle,
+    Damaged(D),
+}
+
+impl<D> Refusal<D> {
+    #[inline]
+    pub fn number(self) -> u32 {
+        match self {
+            Refusal::Length => 1,
+            Refusal::Size => 2,
+            Refusal::PartyNumber => 3,
+            Refusal::NotIdle => 4,
+            Refusal::Idle => 5,
+            Refusal::Damaged(_) => 6,
+        }
+    }
+}
+
+impl<D> From<D> for Refusal<D> {
+    #[inline]
+    fn from(damage: D) -> Refusal<D> {
+        Refusal::Damaged(damage)
+    }
+}
+
+/// Answers as numbers: those of a party's record, and found.
+pub const INSERTED: u32 = 1;
+pub const PRESENT: u32 = 2;
+pub const DELETED: u32 = 3;
+pub const ABSENT: u32 = 4;
+pub const NO_PAGE: u32 = 5;
+pub const FOUND: u32 = 6;
+
+/// The restructuring that "done" carries.
+#[derive(Clone, Copy, Debug, PartialEq, Eq)]
+pub enum Restructuring {
+    None = 0,
+    Split = 1,
+    SplitSkipped = 2,
+    Merged = 3,
+    MergeSkipped = 4,
+}
+
+/// "One call performs one step and answers waiting (no word changes), moved, or done with the answer."
+#[derive(Clone, Copy, Debug, PartialEq, Eq)]
+pub enum Outcome {
+    Waiting,
+    Moved,
+    Done(u32, Restructuring),
+}

@@ -1,0 +1,157 @@
+//! Steps 23 to 30: merging the last chain into its target.
+
+use super::{chain_lock, Result, ROOT_LOCK};
+use crate::calls::Lent;
+use crate::chains::overflow_needed;
+use crate::damage::{Cause, Damage};
+use crate::locks::{self, Mode};
+use crate::memory::{EMPTY_PAGE, LINK, LOCAL_LEVEL};
+use crate::reply::{Outcome, Restructuring};
+
+/// "24 if n = N give up root, done, merge skipped. The partner is chain n − 1; the target is next − 1, or
+/// N × 2^(level−1) − 1 if next is 0. Request exclusive on the target."
+#[inline(never)]
+pub fn request_target<D: Damage>(lent: &mut Lent<D>) -> Result<D> {
+    let chains = lent.root.chains();
+    if chains == lent.root.first_chains {
+        lent.test_held(ROOT_LOCK, Mode::Exclusive, Cause::RootLockNotHeld)?;
+        lent.give_up(ROOT_LOCK, Mode::Exclusive);
+        return lent.done(lent.party.answer, Restructuring::MergeSkipped);
+    }
+    let after_target = if lent.root.next == 0 {
+        lent.root.level_chains() / 2
+    } else {
+        lent.root.next
+    };
+    let target = after_target - 1;
+    if !locks::request(
+        &mut lent.locks[chain_lock(target)],
+        Mode::Exclusive,
+        lent.number,
+    ) {
+        return Ok(Outcome::Waiting);
+    }
+    lent.party.chain = target;
+    lent.party.other = chains - 1;
+    lent.move_to(25)
+}
+
+/// "25 on the partner."
+#[inline]
+pub fn request_partner<D: Damage>(lent: &mut Lent<D>) -> Result<D> {
+    lent.request(chain_lock(lent.party.other), Mode::Exclusive, 26)
+}
+
+/// "26 join both key lists in new pages, primary page in scratch at the target's local level, and set the old link to the target's."
+#[inline(never)]
+pub fn join<D: Damage>(lent: &mut Lent<D>) -> Result<D> {
+    lent.refuse_if(
+        lent.root.chains() == lent.root.first_chains,
+        Cause::NothingToMergeAt26,
+    )?;
+    let target = lent.chain_keys(lent.party.chain)?;
+    let partner = lent.chain_keys(lent.party.other)?;
+    let keys = joined(&target.keys, &partner.keys)?;
+    let wanted = overflow_needed(keys.len(), lent.root.page_keys);
+    if lent.root.free_count < wanted {
+        give_up_three(lent, Mode::Exclusive)?;
+        return lent.done(lent.party.answer, Restructuring::MergeSkipped);
+    }
+    lent.test_free_list(wanted)?;
+    let primary = &lent.pages[lent.party.chain as usize];
+    let (local_level, old_link) = (primary[LOCAL_LEVEL], primary[LINK]);
+    *lent.scratch() = lent.take_and_fill(&keys, local_level);
+    lent.party.old_link = old_link;
+    lent.move_to(27)
+}
+
+/// Two ascending key lists as one; "a key in both halves of a merge" is damage.
+fn joined<D: Damage>(target: &[u32], partner: &[u32]) -> std::result::Result<Vec<u32>, D> {
+    let mut keys = Vec::with_capacity(target.len() + partner.len());
+    let (mut target, mut partner) = (target, partner);
+    while let ([first, target_rest @ ..], [second, partner_rest @ ..]) = (target, partner) {
+        if first == second {
+            return Err(D::of(Cause::KeyInBothHalves));
+        }
+        if first < second {
+            keys.push(*first);
+            target = target_rest;
+        } else {
+            keys.push(*second);
+            partner = partner_rest;
+        }
+    }
+    keys.extend_from_slice(target);
+    keys.extend_from_slice(partner);
+    Ok(keys)
+}
+
+/// Gives up the root, in the mode given, and both chains; every lock is tested before the first is given up.
+#[inline(always)]
+fn give_up_three<D: Damage>(lent: &mut Lent<D>, root_mode: Mode) -> std::result::Result<(), D> {
+    let (chain, other) = (chain_lock(lent.party.chain), chain_lock(lent.party.other));
+    lent.test_held(ROOT_LOCK, root_mode, Cause::RootLockNotHeld)?;
+    lent.test_held(chain, Mode::Exclusive, Cause::ChainLockNotHeld)?;
+    lent.test_held(other, Mode::Exclusive, Cause::OtherLockNotHeld)?;
+    lent.give_up(ROOT_LOCK, root_mode);
+    lent.give_up(chain, Mode::Exclusive);
+    lent.give_up(other, Mode::Exclusive);
+    Ok(())
+}
+
+/// "27 if next was 0, lower level; next becomes the target's number; exclusive on root becomes selective."
+#[inline]
+pub fn lower_next<D: Damage>(lent: &mut Lent<D>) -> Result<D> {
+    lent.refuse_if(
+        lent.root.chains() == lent.root.first_chains,
+        Cause::NothingToMergeAt27,
+    )?;
+    lent.test_held(ROOT_LOCK, Mode::Exclusive, Cause::TurnedLockNotHeld)?;
+    locks::turn_selective(&mut lent.locks[ROOT_LOCK], lent.number);
+    if lent.root.next == 0 {
+        lent.root.level -= 1;
+    }
+    lent.root.next = lent.party.chain;
+    lent.move_to(28)
+}
+
+/// "28 write the target's primary page from scratch, local level lowered by one."
+#[inline]
+pub fn write_target<D: Damage>(lent: &mut Lent<D>) -> Result<D> {
+    let mut page = *lent.scratch();
+    lent.test_page(&page)?;
+    lent.refuse_if(page[LOCAL_LEVEL] == 0, Cause::LocalLevel0At28)?;
+    page[LOCAL_LEVEL] -= 1;
+    lent.pages[lent.party.chain as usize] = page;
+    lent.move_to(29)
+}
+
+/// "29 give back the target's old pages, then the partner's; zero the partner's primary page."
+#[inline(never)]
+pub fn give_back_both<D: Damage>(lent: &mut Lent<D>) -> Result<D> {
+    let (old_link, other) = (lent.party.old_link, lent.party.other as usize);
+    lent.refuse_if(
+        old_link != 0 && !lent.root.links_overflow(old_link),
+        Cause::OldLinkAstray,
+    )?;
+    let mut list = Vec::new();
+    let length = lent.walk_list(old_link, |link| list.push(link))?;
+    lent.test_page(&lent.pages[other])?;
+    let total = length + lent.walk_list(lent.pages[other][LINK], |link| list.push(link))?;
+    lent.refuse_if(
+        lent.root.free_count + total > lent.root.overflow_pages,
+        Cause::FreeCountOverfull,
+    )?;
+    for link in list {
+        lent.give_back(link);
+    }
+    lent.pages[other] = EMPTY_PAGE;
+    lent.move_to(30)
+}
+
+/// "30 give up all, done."
+#[inline]
+pub fn give_up_all<D: Damage>(lent: &mut Lent<D>) -> Result<D> {
+    give_up_three(lent, Mode::Selective)?;
+    lent.done(lent.party.answer, Restructuring::Merged)
+}
