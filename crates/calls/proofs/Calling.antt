@@ -2,37 +2,64 @@
 -- Main statements: format-refused, format-formatted; begin-refused, begin-begun; step-refused, step-stepped.
 use mathlib.Core.Path.{_≡_, refl, sym, ap, _∙_}
 use mathlib.Core.Logic.{_≢_}
+use mathlib.Core.Bool.{Bool, true, false}
 use mathlib.Core.List.{List, [], _∷_}
-use Prim.Native.Nat.{ℕ, zero, suc}
-use lib.ListN.{length, getD, set, replicate}
-use borrow.Author.Tests.{ne-eqb}
+use Prim.Native.Nat.{ℕ, zero, suc, _<_}
+use native.Mathlib.Omega.{arith}
+use lib.ListN.{length, set, replicate}
+use lib.Dec.{ltb}
+use borrow.Author.Tests.{ne-eqb, ltb-true, ltb-false}
 use Rattle.model.specs.declared.Root.{Root}
 use Rattle.model.specs.declared.Party.{Party}
 use Rattle.model.specs.declared.Operation.{Operation}
-use Rattle.model.specs.declared.Stepped.{Stepped}
+use Rattle.model.specs.declared.StepAnswer.{StepAnswer}
 use Rattle.model.specs.declared.StepAnswer.the-variants as StepAnswer
 use Rattle.model.specs.declared.BeginAnswer.the-variants as BeginAnswer
 use Rattle.model.specs.declared.FormatAnswer.the-variants as FormatAnswer
 use Rattle.model.specs.Records.{rootOfSizes, idle, begun}
 use Rattle.model.specs.Answers.{operationNumber}
-use Rattle.model.specs.Outcome.{Outcome}
-use Rattle.model.specs.Ready.{viewing, leftBy}
+use Rattle.model.specs.Outcome.{Outcome, outcome}
+use Rattle.model.specs.Ready.{viewing}
 use Rattle.model.specs.Memory.{Memory, partyAt, afterStep, formatted}
-use Rattle.model.specs.Refusals.{firstCause, formatRows, beginRows, stepRows}
+use Rattle.model.specs.Refusals.{firstCause, busyRow, idleRow, damageRow, formatRows, beginRows, stepRows}
 use Rattle.model.specs.Steps.Dispatch.{stepOf}
 use Rattle.model.specs.Calls.{called, formatCall, beginCall, stepCall, stepped, withBegun}
-use Rattle.gates.specs.Causes.{formatCause, beginCause, stepCause}
-use Rattle.gates.proofs.Accepted.{format-cause-is, begin-cause-is, step-cause-is}
-use Rattle.calls.specs.Lent.{lent, leftByStep}
+use Rattle.gates.specs.Causes.{placeRows, formatCause, placeCause, beginCause, stepCause}
+use Rattle.gates.proofs.Accepted.{format-cause-is, begin-cause-is, step-cause-is, past-row-refused, number-below, place-of-step}
+use Rattle.gates.proofs.Causes.{earlier-stands}
+use Rattle.calls.specs.Lent.{lent}
 
 -- A record put back where it stood; past the row's end none is written.
-put-back : (row : List Party) (q : ℕ) (p : Party) → partyAt row q ≡ p → set row q p ≡ row
-put-back row q p e = ap (set row q) (sym e) ∙ go row q
-  where
-    go : (row : List Party) (q : ℕ) → set row q (getD row q idle) ≡ row
-    go [] q = refl
-    go (x ∷ row) zero = refl
-    go (x ∷ row) (suc q) = ap (λ (r : List Party). x ∷ r) (go row q)
+put-back : (row : List Party) (q : ℕ) (p : Party) → (q < length row → partyAt row q ≡ p) → set row q p ≡ row
+put-back [] q p here = refl
+put-back (x ∷ row) zero p here = ap (λ (y : Party). y ∷ row) (sym (here (omega arith)))
+put-back (x ∷ row) (suc q) p here = ap (λ (r : List Party). x ∷ r) (put-back row q p (λ h. here (omega (arith, h))))
+
+-- Past the row's end the cause is decided before a record is looked at.
+module _ (r : Root) (p p′ : Party) (parties locks pages q : ℕ) (same : q < parties → p ≡ p′) where
+  inside-same : {A : Type 0} (f : Party → A) → (q < parties → f p ≡ f p′)
+  inside-same f h = ap f (same h)
+
+  by-place : (f : Party → ℕ) → (q < parties → f p ≡ f p′) → (placeCause r parties locks pages q ≢ 0 → f p ≡ f p′) → f p ≡ f p′
+  by-place f inside past = go (ltb q parties) refl
+    where
+      go : (b : Bool) → b ≡ ltb q parties → f p ≡ f p′
+      go true e = inside (ltb-true q parties (sym e))
+      go false e = past (past-row-refused r parties locks pages q (ltb-false q parties (sym e)))
+
+  begin-same : beginCause r p parties locks pages q ≡ beginCause r p′ parties locks pages q
+  unfolding beginCause placeCause
+  begin-same =
+      let rows = placeRows r parties locks pages q in
+      by-place (λ x. beginCause r x parties locks pages q) (inside-same (λ x. beginCause r x parties locks pages q))
+      (λ ne. sym (earlier-stands rows (busyRow p ∷ []) ne) ∙ earlier-stands rows (busyRow p′ ∷ []) ne)
+
+  step-same : stepCause r p parties locks pages q ≡ stepCause r p′ parties locks pages q
+  unfolding stepCause placeCause
+  step-same =
+      let rows = placeRows r parties locks pages q in
+      by-place (λ x. stepCause r x parties locks pages q) (inside-same (λ x. stepCause r x parties locks pages q))
+      (λ ne. sym (earlier-stands rows (idleRow p ∷ (damageRow r p ∷ [])) ne) ∙ earlier-stands rows (idleRow p′ ∷ (damageRow r p′ ∷ [])) ne)
 
 module _ (r : Root) (row : List Party) (ls ps : List ℕ) (parties : ℕ) (many : length row ≡ parties) where
   abbrev m : Memory
@@ -57,13 +84,13 @@ module _ (r : Root) (row : List Party) (ls ps : List ℕ) (parties : ℕ) (many 
 
   -- ---- Begin and step
 
-  module _ (q c : ℕ) (p : Party) (here : partyAt row q ≡ p) where
+  module _ (q c : ℕ) (p : Party) (here : q < parties → partyAt row q ≡ p) where
     left-alone : lent r (set row q p) ls ps ≡ m
-    left-alone = ap (λ (x : List Party). lent r x ls ps) (put-back row q p here)
+    left-alone = ap (λ (x : List Party). lent r x ls ps) (put-back row q p (λ h. here (omega (arith, h, many))))
 
     module _ (o : Operation) (k locks pages : ℕ) (el : length ls ≡ locks) (ep : length ps ≡ pages) (cause : c ≡ beginCause r p parties locks pages q) where
       first-of-begin : firstCause (beginRows m q) ≡ c
-      first-of-begin = sym (begin-cause-is m q) ∙ rw (here, many, el, ep) (sym cause)
+      first-of-begin = sym (begin-cause-is m q) ∙ rw (many, el, ep) (begin-same r (partyAt row q) p parties locks pages q here ∙ sym cause)
 
       pub begin-refused : c ≢ 0 → called (BeginAnswer.Refused c) (lent r (set row q p) ls ps) ≡ beginCall (lent r row ls ps) q o k
       unfolding beginCall
@@ -75,16 +102,20 @@ module _ (r : Root) (row : List Party) (ls ps : List ℕ) (parties : ℕ) (many 
 
     module _ (cause : c ≡ stepCause r p parties (length ls) (length ps) q) where
       first-of-step : firstCause (stepRows m q) ≡ c
-      first-of-step = sym (step-cause-is m q) ∙ rw (here, many) (sym cause)
+      first-of-step = sym (step-cause-is m q) ∙ rw many (step-same r (partyAt row q) p parties (length ls) (length ps) q here ∙ sym cause)
 
       pub step-refused : c ≢ 0 → called (StepAnswer.Refused c) (lent r (set row q p) ls ps) ≡ stepCall (lent r row ls ps) q
       unfolding stepCall
       step-refused ne = ap (called (StepAnswer.Refused c)) left-alone ∙ rw (first-of-step, ne-eqb c 0 ne) refl
 
-      pub step-stepped : c ≡ 0 → (s : Stepped) (ls′ ps′ : List ℕ) → leftBy s q ls′ ps′ ≡ stepOf (p .step) (viewing r p q ls ps)
-          → leftByStep s row q ls′ ps′ ≡ stepCall (lent r row ls ps) q
+      -- The party's record is the one that the row has: a step that meets no cause has its party in the row.
+      in-row : c ≡ 0 → partyAt row q ≡ p
+      in-row none = here (number-below r parties (length ls) (length ps) q (place-of-step r p parties (length ls) (length ps) q (sym cause ∙ none)))
+
+      pub step-stepped : c ≡ 0 → {a : StepAnswer} {r′ : Root} {p′ : Party} {ls′ ps′ : List ℕ} → outcome a (viewing r′ p′ q ls′ ps′) ≡ stepOf (p .step) (viewing r p q ls ps)
+          → called a (lent r′ (set row q p′) ls′ ps′) ≡ stepCall (lent r row ls ps) q
       unfolding stepCall stepped
-      step-stepped none s ls′ ps′ e =
-          let as-outcome : leftByStep s row q ls′ ps′ ≡ called (stepOf (p .step) (viewing r p q ls ps) .answer) (afterStep m (stepOf (p .step) (viewing r p q ls ps) .after))
+      step-stepped none {a} {r′} {p′} {ls′} {ps′} e =
+          let as-outcome : called a (lent r′ (set row q p′) ls′ ps′) ≡ called (stepOf (p .step) (viewing r p q ls ps) .answer) (afterStep m (stepOf (p .step) (viewing r p q ls ps) .after))
           = ap (λ (o : Outcome). called (o .answer) (afterStep m (o .after))) e in
-          as-outcome ∙ rw (first-of-step, none, here) refl
+          as-outcome ∙ rw (first-of-step, none, in-row none) refl

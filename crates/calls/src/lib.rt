@@ -4,11 +4,12 @@
 
 ghost use mathlib.Core.Path.{_≡_};
 ghost use mathlib.Core.List.{List};
-ghost use Prim.Native.Nat.{ℕ};
-ghost use lib.ListN.{length};
+ghost use Prim.Native.Nat.{ℕ, _<_};
+ghost use lib.ListN.{length, set};
 ghost use Rattle.model.specs.declared.Party.{Party};
 ghost use Rattle.model.specs.Memory.{partyAt};
-ghost use Rattle.model.specs.Calls.{formatCall, beginCall, stepCall};
+ghost use Rattle.model.specs.Calls.{called, formatCall, beginCall, stepCall};
+ghost use Rattle.records.specs.Words.{recordWords, rootIn, partyIn};
 ghost use Rattle.calls.specs.Lent.{lent, leftByFormat, leftByBegin, leftByStep};
 use model::BeginAnswer;
 use model::FormatAnswer;
@@ -69,7 +70,7 @@ pub fn begin(
     operation: Operation,
     key: u32,
 ) -> Begun
-    ensures { λ r. ⌜ ((row : List Party) (ls ps : List ℕ) → length row ≡ parties → length ls ≡ locks → length ps ≡ pages → partyAt row q ≡ party → leftByBegin r root row q ls ps ≡ beginCall (lent root row ls ps) q operation key) ⌝ }
+    ensures { λ r. ⌜ ((row : List Party) (ls ps : List ℕ) → length row ≡ parties → length ls ≡ locks → length ps ≡ pages → (q < parties → partyAt row q ≡ party) → leftByBegin r root row q ls ps ≡ beginCall (lent root row ls ps) q operation key) ⌝ }
 {
     let cause = gates::begin_cause(root, party, parties, locks, pages, q);
     if cause != gates::NO_CAUSE {
@@ -78,11 +79,32 @@ pub fn begin(
             answer: BeginAnswer::Refused(cause),
         };
     }
-    let next = new_records::begun(operation, key);
+    let next = records::begun(operation, key);
     Begun {
         party: next,
         answer: BeginAnswer::Begun,
     }
+}
+
+// One step on the core's own words of both records: refused by the table, or the step that the party's record names.
+fn step_in_place(
+    root: &mut [u32],
+    party: &mut [u32],
+    parties: usize,
+    q: u32,
+    locks: &mut [u32],
+    pages: &mut [u32],
+) -> StepAnswer
+    requires { ⌜ (length (now root) ≡ recordWords) × (length (now party) ≡ recordWords) ⌝ }
+    ensures { λ a. ⌜ ((row : List Party) → length row ≡ parties → (q < parties → partyAt row q ≡ partyIn (now (party .entry))) → called a (lent (rootIn (now (root .exit))) (set row q (partyIn (now (party .exit)))) (now (locks .exit)) (now (pages .exit))) ≡ stepCall (lent (rootIn (now (root .entry))) row (now (locks .entry)) (now (pages .entry))) q) ⌝ }
+{
+    let r = records::root_of(&root[..]);
+    let p = records::party_of(&party[..]);
+    let cause = gates::step_cause(r, p, parties, locks.len(), pages.len(), q);
+    if cause != gates::NO_CAUSE {
+        return StepAnswer::Refused(cause);
+    }
+    dispatch::step_by_number(root, party, q, locks, pages)
 }
 
 // One step for party q, one of `parties`, whose record is `party`; past the row's end no record is looked at.
@@ -94,15 +116,14 @@ pub fn step(
     locks: &mut [u32],
     pages: &mut [u32],
 ) -> Stepped
-    ensures { λ r. ⌜ ((row : List Party) → length row ≡ parties → partyAt row q ≡ party → leftByStep r row q (now (locks .exit)) (now (pages .exit)) ≡ stepCall (lent root row (now (locks .entry)) (now (pages .entry))) q) ⌝ }
+    ensures { λ r. ⌜ ((row : List Party) → length row ≡ parties → (q < parties → partyAt row q ≡ party) → leftByStep r row q (now (locks .exit)) (now (pages .exit)) ≡ stepCall (lent root row (now (locks .entry)) (now (pages .entry))) q) ⌝ }
 {
-    let cause = gates::step_cause(root, party, parties, locks.len(), pages.len(), q);
-    if cause != gates::NO_CAUSE {
-        return Stepped {
-            root,
-            party,
-            answer: StepAnswer::Refused(cause),
-        };
+    let mut r = records::words_of_root(root);
+    let mut p = records::words_of_party(party);
+    let answer = step_in_place(&mut r[..], &mut p[..], parties, q, locks, pages);
+    Stepped {
+        root: records::root_of(&r[..]),
+        party: records::party_of(&p[..]),
+        answer: answer,
     }
-    step_numbers::step_by_number(root, party, q, locks, pages)
 }

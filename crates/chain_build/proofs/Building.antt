@@ -1,26 +1,24 @@
 -- A new chain by its cases: the pages do not pass their tests, or they are taken and written.
--- Main statements: ready-can-build; overflow-fillable (overflow pages can be filled); damaged-refused, taken-built.
+-- Main statements: ready-can-build; overflow-fillable (overflow pages can be filled); damaged-unwritten, taken-built.
 use mathlib.Core.Path.{_≡_, refl}
 use mathlib.Core.List.{List, [], _∷_}
-use Prim.Native.Nat.{ℕ, zero, suc, _-_, _<_}
+use Prim.Native.Nat.{ℕ, zero, suc, _<_}
 use native.Mathlib.Omega.{arith}
 use lib.ListN.{length, getD}
 use Rattle.model.specs.declared.Root.{Root}
-use Rattle.model.specs.declared.Party.{Party}
-use Rattle.model.specs.Records.{withFreeList}
 use Rattle.model.specs.Entries.{Entry}
 use Rattle.model.specs.Pages.{withPage, scratchPage}
 use Rattle.model.specs.Chains.{damaged, sound}
 use Rattle.model.specs.Filling.{pagesFor, primaryOf, overflowWritten}
 use Rattle.model.specs.FreeList.{Taken, pagesTaken}
-use Rattle.model.specs.Outcome.{View, refuse, damage, moved}
-use Rattle.model.specs.Ready.{Ready, viewing}
-use Rattle.model.specs.Steps.Change.{rootAfterTaking}
+use Rattle.model.specs.Outcome.{View}
+use Rattle.model.specs.Ready.{Ready}
 use Rattle.model.proofs.Laws.Lists.{All}
 use Rattle.model.proofs.Laws.Filling.{IsOverflow}
+use Rattle.free_list.specs.declared.Drawn.the-variants as Drawn
 use Rattle.page_fill.specs.Fills.{Fillable}
 use Rattle.endings.proofs.Scratching.{ready-has-scratch}
-use Rattle.chain_build.specs.Building.{CanBuild, builtChain}
+use Rattle.chain_build.specs.Building.{CanBuild, chained, builtChain}
 
 pub ready-can-build : (v : View) → Ready v → CanBuild (v .root) (v .number) (v .pages)
 ready-can-build v ready = record {
@@ -46,13 +44,13 @@ overflow-fillable r q ps xs can a = record {
 
 -- ---- The cases
 
-module _ (r : Root) (p : Party) (q : ℕ) (ls ps : List ℕ) (level : ℕ) (es : List Entry) (p′ : Party) (k : ℕ) (many : k ≡ pagesFor (r .keys) es) where
-  pub damaged-refused : pagesTaken r ps k ≡ damaged → refuse damage (viewing r p q ls ps) ≡ builtChain (viewing r p q ls ps) level es p′
+module _ (r : Root) (q : ℕ) (ps : List ℕ) (level : ℕ) (es : List Entry) (k : ℕ) (many : k ≡ pagesFor (r .keys) es) where
+  pub damaged-unwritten : pagesTaken r ps k ≡ damaged → chained Drawn.Damaged ps ≡ builtChain r q ps level es
   unfolding builtChain
-  damaged-refused e = rw (← many, e) refl
+  damaged-unwritten e = rw (← many, e) refl
 
-  pub taken-built : (t : Taken) {r′ : Root} {ps′ : List ℕ} → pagesTaken r ps k ≡ sound t → r′ ≡ withFreeList (t .head) (r .free - k) r
+  pub taken-built : (t : Taken) {ps′ : List ℕ} → pagesTaken r ps k ≡ sound t
       → ps′ ≡ withPage (overflowWritten (r .keys) ps (t .pages) es) (scratchPage r q) (primaryOf (r .keys) level es (t .pages))
-      → moved (viewing r′ p′ q ls ps′) ≡ builtChain (viewing r p q ls ps) level es p′
-  unfolding builtChain rootAfterTaking
-  taken-built t e er ep = rw (er, ep, ← many, e) refl
+      → chained (Drawn.Head (t .head)) ps′ ≡ builtChain r q ps level es
+  unfolding builtChain
+  taken-built t e ep = rw (ep, ← many, e) refl

@@ -1,15 +1,16 @@
--- A new chain built beside the file, whatever step builds it.
--- Main definitions: CanBuild (what holds of every view that is Ready), builtChain (what steps 10 and 26 do once the pages are enough).
+-- A new chain built beside the file.
+-- Main definitions: CanBuild (what holds of every view that is Ready), Chained and builtChain (what building answers, and the page words then).
 use mathlib.Core.List.{List}
 use Prim.Native.Nat.{ℕ, _≤_}
 use Rattle.model.specs.declared.Root.{Root}
-use Rattle.model.specs.declared.Party.{Party}
 use Rattle.model.specs.Sizes.{mostKeys}
 use Rattle.model.specs.Entries.{Entry}
+use Rattle.model.specs.Pages.{withPage, scratchPage}
+use Rattle.model.specs.Chains.{Checked, damaged, sound}
 use Rattle.model.specs.Filling.{pagesFor, primaryOf, overflowWritten}
-use Rattle.model.specs.FreeList.{pagesTaken}
-use Rattle.model.specs.Outcome.{View, Outcome, withRoot, withParty, withPages, withScratch, moved, checked}
-use Rattle.model.specs.Steps.Change.{rootAfterTaking}
+use Rattle.model.specs.FreeList.{Taken, pagesTaken}
+use Rattle.free_list.specs.declared.Drawn.{Drawn}
+use Rattle.free_list.specs.declared.Drawn.the-variants as Drawn
 use Rattle.endings.specs.Scratch.{HasScratch}
 
 -- The sizes are within their limits, and the page memory has party q's scratch page.
@@ -20,10 +21,21 @@ pub record CanBuild (r : Root) (q : ℕ) (ps : List ℕ) : Type 0 where
   pub free-fits : r .free ≤ r .overflow
   pub scratch : HasScratch r q ps
 
--- The records es in new pages, the primary page in scratch at this local level, and p as the party's record.
-unfoldable pub builtChain : View → ℕ → List Entry → Party → Outcome
-builtChain v level es p =
-    let b = v .root .keys in
-    let k = pagesFor b es in
-    checked v (pagesTaken (v .root) (v .pages) k)
-    (λ t. moved (withParty p (withRoot (rootAfterTaking t k (v .root)) (withScratch (primaryOf b level es (t .pages)) (withPages (overflowWritten b (v .pages) (t .pages) es) v)))))
+-- The free list's head after building, or damage; and the page words then.
+pub record Chained : Type 0 where
+  pub drawn : Drawn
+  pub pages : List ℕ
+
+abbrev pub chained : Drawn → List ℕ → Chained
+chained d ps = record { drawn = d; pages = ps }
+
+-- Pages taken are written; damage changes no word.
+abbrev pub chainedOn : List ℕ → Checked Taken → (Taken → List ℕ) → Chained
+chainedOn ps damaged f = chained Drawn.Damaged ps
+chainedOn ps (sound t) f = chained (Drawn.Head (t .head)) (f t)
+
+-- The records es in new pages, the primary page in scratch at this local level.
+unfoldable pub builtChain : Root → ℕ → List ℕ → ℕ → List Entry → Chained
+builtChain r q ps level es =
+    let b = r .keys in
+    chainedOn ps (pagesTaken r ps (pagesFor b es)) (λ t. withPage (overflowWritten b ps (t .pages) es) (scratchPage r q) (primaryOf b level es (t .pages)))

@@ -2,11 +2,11 @@
 -- Main statements: key-copied (one turn), keys-copied (the end).
 use mathlib.Core.Path.{_≡_, sym, ap, _∙_}
 use mathlib.Core.List.{List, [], _∷_, _++_, append-assoc}
-use Prim.Native.Nat.{ℕ, _+_, _<_}
+use Prim.Native.Nat.{ℕ, _+_, _≤_, _<_}
 use native.Mathlib.Numerals.{add-one}
 use native.Mathlib.Omega.{arith}
 use lib.ListN.{length, getD, set, take, drop, length-drop}
-use lib.Seq.{getD-drop, take-suc, take-suc-set}
+use lib.Seq.{length-take-le, getD-drop, take-append-add, take-suc, take-suc-set, take-take}
 use Rattle.model.specs.Pages.{countOf, entriesOf}
 
 module _ (keys₀ keys w : List ℕ) (at i : ℕ) (copied : take (at + i) keys ≡ take at keys₀ ++ take i (drop 3 w)) where
@@ -23,6 +23,12 @@ module _ (keys₀ keys w : List ℕ) (at i : ℕ) (copied : take (at + i) keys �
       ∙ append-assoc (take at keys₀) (take i (drop 3 w)) (x ∷ [])
       ∙ ap (λ (l : List ℕ). take at keys₀ ++ l) next
 
-  pub keys-copied : i ≡ countOf w → take (at + i) keys ≡ take at keys₀ ++ entriesOf w
+  -- The words past the page's keys are left out.
+  pub keys-copied : at ≤ length keys₀ → countOf w ≤ i → take (at + countOf w) keys ≡ take at keys₀ ++ entriesOf w
   unfolding entriesOf
-  keys-copied e = copied ∙ ap (λ (n : ℕ). take at keys₀ ++ take n (drop 3 w)) e
+  keys-copied h k =
+      let n = countOf w in
+      let long : length (take at keys₀) ≡ at = length-take-le at keys₀ h in
+      let front : take (at + n) (take at keys₀ ++ take i (drop 3 w)) ≡ take at keys₀ ++ take n (take i (drop 3 w))
+      = rw long at (take-append-add (take at keys₀) (take i (drop 3 w)) n) in
+      sym (take-take (at + n) (at + i) keys (omega arith)) ∙ ap (take (at + n)) copied ∙ front ∙ ap (λ (l : List ℕ). take at keys₀ ++ l) (take-take n i (drop 3 w) k)

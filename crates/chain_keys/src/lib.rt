@@ -37,14 +37,17 @@ pub fn walk(root: Root, chain: ChainAddress, pages: &[u32]) -> Walked
     }
 }
 
-// A page's keys go into the buffer from `at` on: where the next would go.
+// The most keys of a page.
+const MOST_KEYS: usize = 12;
+
+// A page's keys go into the buffer from `at` on: where the next would go. All its key words are copied, and those past its keys count for nothing.
 fn copy_keys(w: [u32; 16], keys: &mut [u32], at: usize) -> usize
-    requires { ⌜ (countOf w ≤ mostKeys) × (at + countOf w ≤ length (now keys)) ⌝ }
+    requires { ⌜ (countOf w ≤ mostKeys) × (at + mostKeys ≤ length (now keys)) ⌝ }
     ensures { λ r. ⌜ (r ≡ at + countOf w) × (take r (now (keys .exit)) ≡ take at (now (keys .entry)) ++ entriesOf w) ⌝ }
 {
     let n = chains::count_of(w) as usize;
     let mut i = 0;
-    while i < n {
+    while i < MOST_KEYS {
         keys[at + i] = w[3 + i];
         i += 1;
     }

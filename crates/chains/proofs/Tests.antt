@@ -1,14 +1,17 @@
 -- The tests of links and pages: what each means once it holds, and what makes it fail.
--- Main statements: named-within (where a link that names an overflow page points), sound-page-links, sound-page-counts, sound-page-levels (of a sound page).
+-- Main statements: named-within (where a link that names an overflow page points), sound-link-fits (its page stands in the memory); overfull-unsound, high-unsound,
+-- link-decides (of the three words); words-of-page; sound-page-links, sound-page-counts, sound-page-levels (of a sound page).
 use mathlib.Core.Path.{_≡_, refl, sym, _∙_}
 use mathlib.Core.Bool.{Bool, true, false, _&&_, _||_}
 use mathlib.Core.List.{List}
-use Prim.Native.Nat.{ℕ, _+_, _≤_, _<_}
+use Prim.Native.Nat.{ℕ, _+_, _-_, _*_, _≤_, _<_}
 use native.Mathlib.Omega.{arith}
 use lib.Dec.{ltb, leb, eqb}
 use borrow.Author.Tests.{ltb-true, leb-true, le-leb, lt-leb, lt-ltb, le-ltb, eq-eqb, ne-eqb}
 use Rattle.model.specs.declared.Root.{Root}
+use Rattle.model.specs.Sizes.{pageWords}
 use Rattle.model.specs.Pages.{levelOf, countOf, linkOf, namesOverflow, linkSound, pageSound, mostLevel}
+use Rattle.chains.specs.Walks.{wordsSound}
 
 pub and-true : (a b : Bool) → (a && b) ≡ true → (a ≡ true) × (b ≡ true)
 and-true true b e = (refl, e)
@@ -55,21 +58,32 @@ module _ (r : Root) (l : ℕ) where
   pub sound-named : (l ≡ 0 → ⊥) → linkSound r l ≡ true → namesOverflow r l ≡ true
   sound-named h e = sym (naming-decides h) ∙ e
 
+  -- The page that a sound link names stands in a memory that has all overflow pages.
+  pub sound-link-fits : (n : ℕ) → (l ≡ 0 → ⊥) → linkSound r l ≡ true → pageWords * (r .chains + r .overflow) ≤ n → (l - 1) * pageWords + pageWords ≤ n
+  sound-link-fits n h e fits = let named = named-within (sound-named h e) in omega arith
+
+-- ---- Words
+
+module _ (r : Root) (level count link : ℕ) where
+  pub overfull-unsound : r .keys < count → wordsSound r level count link ≡ false
+  unfolding wordsSound
+  overfull-unsound h = rw (lt-leb count (r .keys) h) refl
+
+  pub high-unsound : count ≤ r .keys → mostLevel < level → wordsSound r level count link ≡ false
+  unfolding wordsSound
+  high-unsound h k = rw (le-leb count (r .keys) h, lt-leb level mostLevel k) refl
+
+  -- Where count and level pass, the link decides.
+  pub link-decides : count ≤ r .keys → level ≤ mostLevel → wordsSound r level count link ≡ linkSound r link
+  unfolding wordsSound
+  link-decides h k = rw (le-leb count (r .keys) h, le-leb level mostLevel k) refl
+
 -- ---- Pages
 
 module _ (r : Root) (w : List ℕ) where
-  pub overfull-unsound : r .keys < countOf w → pageSound r w ≡ false
-  unfolding pageSound
-  overfull-unsound h = rw (lt-leb (countOf w) (r .keys) h) refl
-
-  pub high-unsound : countOf w ≤ r .keys → mostLevel < levelOf w → pageSound r w ≡ false
-  unfolding pageSound
-  high-unsound h k = rw (le-leb (countOf w) (r .keys) h, lt-leb (levelOf w) mostLevel k) refl
-
-  -- Where count and level pass, the link decides.
-  pub link-decides : countOf w ≤ r .keys → levelOf w ≤ mostLevel → pageSound r w ≡ linkSound r (linkOf w)
-  unfolding pageSound
-  link-decides h k = rw (le-leb (countOf w) (r .keys) h, le-leb (levelOf w) mostLevel k) refl
+  pub words-of-page : wordsSound r (levelOf w) (countOf w) (linkOf w) ≡ pageSound r w
+  unfolding wordsSound pageSound
+  words-of-page = refl
 
   pub sound-page-links : pageSound r w ≡ true → linkSound r (linkOf w) ≡ true
   unfolding pageSound

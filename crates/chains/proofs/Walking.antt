@@ -1,18 +1,23 @@
--- A list walked page by page: one turn, over the model's overflowFrom.
--- Main statements: walk-ends, walk-too-long, walk-unsound, walk-goes-on (what the count is at each turn).
-use mathlib.Core.Path.{_≡_, refl, ap, _∙_}
+-- A list walked page by page: the words read of a page, and one turn over the model's overflowFrom.
+-- Main statements: level-at, count-at, link-at (a page's words where they stand in the memory), words-at (their test is the page's);
+-- walk-ends, walk-too-long, walk-unsound, walk-goes-on (what the count is at each turn).
+use mathlib.Core.Path.{_≡_, refl, sym, ap, _∙_}
 use mathlib.Core.Bool.{true, false}
 use mathlib.Core.List.{List, _∷_}
-use Prim.Native.Nat.{ℕ, zero, suc, _+_, _-_, _<_}
+use Prim.Native.Nat.{ℕ, zero, suc, _+_, _-_, _*_, _<_}
+use native.Mathlib.Nat.{add-zero}
 use native.Mathlib.Omega.{arith}
-use lib.ListN.{length}
+use lib.ListN.{length, getD}
+use lib.Seq.{getD-take, getD-drop}
 use borrow.Author.Tests.{eq-eqb, ne-eqb}
 use Rattle.model.specs.declared.Root.{Root}
-use Rattle.model.specs.Pages.{pageOf, linkOf, pageSound}
+use Rattle.model.specs.Sizes.{pageWords}
+use Rattle.model.specs.Pages.{pageOf, levelOf, countOf, linkOf, pageSound}
 use Rattle.model.specs.Chains.{Checked, damaged, sound, andThen, overflowFrom}
-use Rattle.chains.specs.Walks.{counted}
+use Rattle.chains.specs.Walks.{wordsSound, counted}
 use Rattle.chains.specs.declared.Walked.{Walked}
 use Rattle.chains.specs.declared.Walked.the-variants as Walked
+use Rattle.chains.proofs.Tests.{words-of-page}
 
 -- The count once n pages were passed and the rest of the list is still to be walked.
 abbrev pub countedAfter : ℕ → Checked (List ℕ) → Walked
@@ -22,6 +27,33 @@ countedAfter n (sound xs) = Walked.Pages (n + length xs)
 pub none-passed : (x : Checked (List ℕ)) → counted x ≡ countedAfter 0 x
 none-passed damaged = refl
 none-passed (sound xs) = ap Walked.Pages (omega arith)
+
+-- ---- The words of page p
+
+module _ (ps : List ℕ) (p : ℕ) where
+  -- Word i.
+  word-at : (i : ℕ) → i < pageWords → getD ps (p * pageWords + i) 0 ≡ getD (pageOf ps p) i 0
+  unfolding pageOf
+  word-at i h = rw (getD-take, getD-drop)
+
+  pub level-at : getD ps (p * pageWords) 0 ≡ levelOf (pageOf ps p)
+  unfolding levelOf
+  level-at = ap (λ (k : ℕ). getD ps k 0) (sym (add-zero (p * pageWords))) ∙ word-at 0 (omega arith)
+
+  pub count-at : getD ps (p * pageWords + 1) 0 ≡ countOf (pageOf ps p)
+  unfolding countOf
+  count-at = word-at 1 (omega arith)
+
+  pub link-at : getD ps (p * pageWords + 2) 0 ≡ linkOf (pageOf ps p)
+  unfolding linkOf
+  link-at = word-at 2 (omega arith)
+
+  -- The test over the three words is the test of the page.
+  pub words-at : (r : Root)
+      → wordsSound r (getD ps (p * pageWords) 0) (getD ps (p * pageWords + 1) 0) (getD ps (p * pageWords + 2) 0) ≡ pageSound r (pageOf ps p)
+  words-at r = rw (level-at, count-at, link-at) (words-of-page r (pageOf ps p))
+
+-- ---- One turn
 
 module _ (r : Root) (ps : List ℕ) (n l : ℕ) where
   pub walk-ends : (k : ℕ) → l ≡ 0 → countedAfter n (overflowFrom r ps k l) ≡ Walked.Pages n

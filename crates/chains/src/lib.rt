@@ -1,5 +1,6 @@
 // Pages followed by their links, with the tests of damage (document 01, "Refused calls").
-// Main statements: names_overflow, link_sound and page_sound are the model's tests, for every word; count_pages is listFrom, counted.
+// Main statements: names_overflow, link_sound and page_sound are the model's tests, for every word; words_sound is the test of a page over its first three words;
+// count_pages is listFrom, counted.
 
 ghost use mathlib.Core.Path.{_≡_};
 ghost use mathlib.Core.Bool.{true};
@@ -8,8 +9,7 @@ ghost use lib.ListN.{length};
 ghost use Rattle.model.specs.Sizes.{pageWords};
 ghost use Rattle.model.specs.Pages as Pages;
 ghost use Rattle.model.specs.Chains.{listFrom};
-ghost use Rattle.chains.specs.Walks.{counted};
-use model::PageAddress;
+ghost use Rattle.chains.specs.Walks.{wordsSound, counted};
 use model::Root;
 
 // A list that was walked: how many pages it has, or that it is damaged.
@@ -62,17 +62,24 @@ pub fn link_sound(root: Root, l: u32) -> bool
     names_overflow(root, l)
 }
 
-// "on a page the step follows, count above b, local level above 9 ... or a link to no overflow page" is damage.
+// "on a page the step follows, count above b, local level above 9 ... or a link to no overflow page" is damage: the three words that are tested.
+pub fn words_sound(root: Root, level: u32, count: u32, link: u32) -> bool
+    ensures { λ r. ⌜ r ≡ wordsSound root level count link ⌝ }
+{
+    if root.keys < count {
+        return false;
+    }
+    if 9 < level {
+        return false;
+    }
+    link_sound(root, link)
+}
+
+// The same test of a page.
 pub fn page_sound(root: Root, w: [u32; 16]) -> bool
     ensures { λ r. ⌜ r ≡ Pages.pageSound root w ⌝ }
 {
-    if root.keys < count_of(w) {
-        return false;
-    }
-    if 9 < level_of(w) {
-        return false;
-    }
-    link_sound(root, link_of(w))
+    words_sound(root, level_of(w), count_of(w), link_of(w))
 }
 
 // How many pages the link leads to: each is tested, and "a chain of more than V overflow pages" is damage.
@@ -86,13 +93,15 @@ pub fn count_pages(root: Root, pages: &[u32], first: u32) -> Walked
         if n == root.overflow {
             return Walked::Damaged;
         }
-        let w = page_io::load(pages, PageAddress(l - 1));
-        if page_sound(root, w) {
-            l = link_of(w);
-            n += 1;
-        } else {
+        let at = (l - 1) as usize * 16;
+        let level = pages[at];
+        let count = pages[at + 1];
+        let link = pages[at + 2];
+        if !words_sound(root, level, count, link) {
             return Walked::Damaged;
         }
+        l = link;
+        n += 1;
     }
     Walked::Pages(n)
 }

@@ -1,23 +1,25 @@
-// How a step ends without a word changed, and how an operation ends (document 01, "The thirty steps" and "Refused calls").
-// Main statements: refused, moved, done and finished are the model's, whatever the lock words are; scratch_page is the model's scratchPage.
+// How an operation ends (document 01, "The thirty steps"): its answer, its restructuring, its record and scratch page zeroed.
+// Main statements: done and finished are the model's, whatever the lock words are; answer_of, restructuring_of and scratch_page are the model's.
 
 ghost use mathlib.Core.Path.{_≡_};
 ghost use mathlib.Core.List.{List};
 ghost use Prim.Native.Nat.{ℕ, _^_, _<_};
+ghost use lib.ListN.{length};
 ghost use Rattle.model.specs.declared.Party.{Party};
 ghost use Rattle.model.specs.Pages.{scratchPage};
 ghost use Rattle.model.specs.Answers.{answerOf, restructuringOf};
 ghost use Rattle.model.specs.Outcome as Outcome;
-ghost use Rattle.model.specs.Ready.{viewing, leftBy};
+ghost use Rattle.model.specs.Ready.{viewing};
 ghost use Rattle.model.specs.Steps.Change as Change;
+ghost use Rattle.records.specs.Words.{recordWords, seen, left};
 ghost use Rattle.endings.specs.Scratch.{HasScratch};
 use model::OperationAnswer;
 use model::PageAddress;
-use model::Party;
 use model::Restructuring;
 use model::Root;
 use model::StepAnswer;
-use model::Stepped;
+use records::ANSWER;
+use records::OWED;
 
 // "answer so far (0 none, 1 inserted, 2 present, 3 deleted, 4 absent, 5 no page)".
 pub fn answer_of(n: u32) -> OperationAnswer
@@ -43,28 +45,6 @@ pub fn restructuring_of(owed: u32) -> Restructuring
     }
 }
 
-// The refusal of a damaged number: all lent memory is left as it was.
-pub fn refused(root: Root, party: Party) -> Stepped
-    ensures { λ r. ⌜ ((q : ℕ) (ls ps : List ℕ) → leftBy r q ls ps ≡ Outcome.refuse Outcome.damage (viewing root party q ls ps)) ⌝ }
-{
-    Stepped {
-        root: root,
-        party: party,
-        answer: StepAnswer::Refused(6),
-    }
-}
-
-// A step that moved, with the records as it leaves them.
-pub fn moved(root: Root, party: Party) -> Stepped
-    ensures { λ r. ⌜ ((q : ℕ) (ls ps : List ℕ) → leftBy r q ls ps ≡ Outcome.moved (viewing root party q ls ps)) ⌝ }
-{
-    Stepped {
-        root: root,
-        party: party,
-        answer: StepAnswer::Moved,
-    }
-}
-
 // "then one scratch page a party": that of party q.
 pub fn scratch_page(root: Root, q: u32) -> PageAddress
     requires { ⌜ scratchPage root q < 2 ^ 32 ⌝ }
@@ -76,28 +56,26 @@ pub fn scratch_page(root: Root, q: u32) -> PageAddress
 // "'Done' carries the answer ... and the restructuring ..., and zeroes the party's record and scratch page."
 pub fn done(
     root: Root,
+    party: &mut [u32],
     q: u32,
     pages: &mut [u32],
     answer: OperationAnswer,
     made: Restructuring,
-) -> Stepped
-    requires { ⌜ HasScratch root q (now pages) ⌝ }
-    ensures { λ r. ⌜ ((p : Party) (ls : List ℕ) → leftBy r q ls (now (pages .exit)) ≡ Outcome.done answer made (viewing root p q ls (now (pages .entry)))) ⌝ }
+) -> StepAnswer
+    requires { ⌜ (length (now party) ≡ recordWords) × HasScratch root q (now pages) ⌝ }
+    ensures { λ a. ⌜ ((p : Party) (ls : List ℕ) → left a root (now (party .exit)) q ls (now (pages .exit)) ≡ Outcome.done answer made (viewing root p q ls (now (pages .entry)))) ⌝ }
 {
     page_io::store(pages, scratch_page(root, q), [0; 16]);
-    Stepped {
-        root: root,
-        party: new_records::idle(),
-        answer: StepAnswer::Done(answer, made),
-    }
+    page_io::zero(party);
+    StepAnswer::Done(answer, made)
 }
 
 // Done with the answer and the restructuring of the party's record.
-pub fn finished(root: Root, party: Party, q: u32, pages: &mut [u32]) -> Stepped
-    requires { ⌜ HasScratch root q (now pages) ⌝ }
-    ensures { λ r. ⌜ ((ls : List ℕ) → leftBy r q ls (now (pages .exit)) ≡ Change.finished (viewing root party q ls (now (pages .entry)))) ⌝ }
+pub fn finished(root: Root, party: &mut [u32], q: u32, pages: &mut [u32]) -> StepAnswer
+    requires { ⌜ (length (now party) ≡ recordWords) × HasScratch root q (now pages) ⌝ }
+    ensures { λ a. ⌜ ((ls : List ℕ) → left a root (now (party .exit)) q ls (now (pages .exit)) ≡ Change.finished (seen root (now (party .entry)) q ls (now (pages .entry)))) ⌝ }
 {
-    let answer = answer_of(party.answer);
-    let made = restructuring_of(party.owed);
-    done(root, q, pages, answer, made)
+    let answer = answer_of(party[ANSWER]);
+    let made = restructuring_of(party[OWED]);
+    done(root, party, q, pages, answer, made)
 }

@@ -2,3 +2,4 @@
 pub mod Accepted
 pub mod Causes
 pub mod StepRanges
+pub mod Sound

@@ -1,11 +1,11 @@
 -- Which operation has which steps, by the ranges of step numbers in which the answer is the same.
--- Main statements: every-operation-locates, find-has-nine, insert-and-delete-change, insert-splits, delete-merges; none-below, none-above.
+-- Main statements: every-operation-locates, find-has-nine, insert-and-delete-change, insert-splits, delete-merges; none-below, none-above, none-other.
 use mathlib.Core.Path.{_≡_}
 use mathlib.Core.Bool.{Bool, true, false, _&&_, _||_, and-true, and-false, or-false}
 use Prim.Native.Nat.{ℕ, _≤_, _<_}
 use native.Mathlib.Omega.{arith}
 use lib.Dec.{leb, eqb}
-use borrow.Author.Tests.{le-leb, lt-leb}
+use borrow.Author.Tests.{le-leb, lt-leb, ne-eqb}
 use Rattle.model.specs.Sizes.{within}
 use Rattle.model.specs.Steps.Dispatch.{hasStep}
 
@@ -64,3 +64,8 @@ module _ (o k : ℕ) where
   none-above h =
       rw (by-ranges o k (above 1 9 k (omega arith)) (above 1 8 k (omega arith)) (above 10 22 k (omega arith)) (above 10 14 k (omega arith)) (above 23 30 k h))
       (simp and-false)
+
+  -- No other operation has a step.
+  pub none-other : 3 < o → false ≡ hasStep o k
+  unfolding hasStep
+  none-other h = rw (ne-eqb o 1 (omega arith), ne-eqb o 2 (omega arith), ne-eqb o 3 (omega arith))

@@ -4,7 +4,6 @@
 
 ghost use mathlib.Core.Path.{_≡_};
 ghost use Prim.Native.Nat.{_^_, _≤_, _<_};
-ghost use Rattle.model.specs.Sizes as Sizes;
 ghost use Rattle.model.specs.Sizes.{withinLimits};
 ghost use Rattle.model.specs.Addresses as Addresses;
 ghost use Rattle.model.specs.Records.{rootOfSizes};
@@ -29,22 +28,51 @@ pub const DAMAGE: u32 = 6;
 
 pub const NO_CAUSE: u32 = 0;
 
-// x is from a to e.
-fn within(a: u32, e: u32, x: u32) -> bool
-    ensures { λ r. ⌜ r ≡ Sizes.within a e x ⌝ }
-{
-    (a <= x) & (x <= e)
-}
+// "P chains at most, 1 to 256."
+pub const MOST_CHAINS: u32 = 256;
+
+// "V overflow pages, 0 to 752."
+pub const MOST_OVERFLOW: u32 = 752;
+
+// "Q parties, 1 to 16."
+pub const MOST_PARTIES: u32 = 16;
+
+// "b keys a page, 1 to 12."
+pub const MOST_KEYS: u32 = 12;
+
+// The operations by their numbers in a party's record; 0 is none.
+pub const FIND: u32 = 1;
+
+pub const INSERT: u32 = 2;
+
+pub const DELETE: u32 = 3;
 
 // "N original chains, 1 to P. P chains at most, 1 to 256. V overflow pages, 0 to 752. Q parties, 1 to 16. b keys a page, 1 to 12."
 pub fn within_limits(root: Root) -> bool
     ensures { λ r. ⌜ r ≡ withinLimits root ⌝ }
 {
-    within(1, root.chains, root.originals)
-        & within(1, 256, root.chains)
-        & (root.overflow <= 752)
-        & within(1, 16, root.parties)
-        & within(1, 12, root.keys)
+    if root.chains < root.originals {
+        return false;
+    }
+    if root.originals == 0 {
+        return false;
+    }
+    if MOST_CHAINS < root.chains {
+        return false;
+    }
+    if MOST_OVERFLOW < root.overflow {
+        return false;
+    }
+    if root.parties == 0 {
+        return false;
+    }
+    if MOST_PARTIES < root.parties {
+        return false;
+    }
+    if root.keys == 0 {
+        return false;
+    }
+    root.keys <= MOST_KEYS
 }
 
 // "Q records, P+1 lock words or 16 × (P+V+Q) page words".
@@ -54,7 +82,13 @@ pub fn lengths_fit(root: Root, parties: usize, locks: usize, pages: usize) -> bo
     let p = root.chains as usize;
     let v = root.overflow as usize;
     let q = root.parties as usize;
-    (parties == q) & (locks == p + 1) & (pages == 16 * (p + v + q))
+    if parties != q {
+        return false;
+    }
+    if locks != p + 1 {
+        return false;
+    }
+    pages == 16 * (p + v + q)
 }
 
 // N × 2^level.
@@ -74,7 +108,13 @@ pub fn root_sound(root: Root) -> bool
     }
     let size = span(root.originals, root.level);
     let next = root.next as u64;
-    (next < size) & (size + next <= root.chains as u64) & (root.free <= root.overflow)
+    if size <= next {
+        return false;
+    }
+    if (root.chains as u64) < size + next {
+        return false;
+    }
+    root.free <= root.overflow
 }
 
 // "find has 1 to 9, insert 1 to 8 and 10 to 22, delete 1 to 8, 10 to 14 and 23 to 30".
@@ -82,39 +122,49 @@ pub fn has_step(operation: u32, step: u32) -> bool
     ensures { λ r. ⌜ r ≡ hasStep operation step ⌝ }
 {
     match step {
-        1..=8 => (operation == 1) | (operation == 2) | (operation == 3),
-        9 => operation == 1,
-        10..=14 => (operation == 2) | (operation == 3),
-        15..=22 => operation == 2,
-        23..=30 => operation == 3,
+        1..=8 => (operation == FIND) | (operation == INSERT) | (operation == DELETE),
+        9 => operation == FIND,
+        10..=14 => (operation == INSERT) | (operation == DELETE),
+        15..=22 => operation == INSERT,
+        23..=30 => operation == DELETE,
         _ => false,
     }
 }
 
 // "operation above 3; a step the operation lacks; lev above 9; owed above 3; an answer above 5, or 0 from step 12 on; a chain or other chain at or above P" is damage.
+// An operation above 3 has no step.
 pub fn party_sound(root: Root, party: Party) -> bool
     ensures { λ r. ⌜ r ≡ partySound root party ⌝ }
 {
-    (party.operation <= 3)
-        & has_step(party.operation, party.step)
-        & (party.lev <= 9)
-        & (party.owed <= 3)
-        & (party.answer <= 5)
-        & ((party.step < 12) | (party.answer != 0))
-        & (party.chain < root.chains)
-        & (party.other < root.chains)
+    if 9 < party.lev {
+        return false;
+    }
+    if 3 < party.owed {
+        return false;
+    }
+    if 5 < party.answer {
+        return false;
+    }
+    if root.chains <= party.chain {
+        return false;
+    }
+    if (12 <= party.step) & (party.answer == 0) {
+        return false;
+    }
+    if root.chains <= party.other {
+        return false;
+    }
+    has_step(party.operation, party.step)
 }
 
 // The rows that every call has: sizes, then lengths.
 fn file_cause(root: Root, parties: usize, locks: usize, pages: usize) -> u32
     ensures { λ r. ⌜ r ≡ formatCause root parties locks pages ⌝ }
 {
-    let sizes = within_limits(root);
-    let lengths = lengths_fit(root, parties, locks, pages);
-    if !sizes {
+    if !within_limits(root) {
         return SIZE;
     }
-    if !lengths {
+    if !lengths_fit(root, parties, locks, pages) {
         return LENGTH;
     }
     NO_CAUSE
@@ -133,7 +183,7 @@ pub fn format_cause(
 ) -> u32
     ensures { λ r. ⌜ r ≡ formatCause (rootOfSizes n b p v q) parties locks pages ⌝ }
 {
-    let sizes = new_records::root_of_sizes(n, b, p, v, q);
+    let sizes = records::root_of_sizes(n, b, p, v, q);
     file_cause(sizes, parties, locks, pages)
 }
 
@@ -190,7 +240,10 @@ pub fn step_cause(
     if party.operation == 0 {
         return IDLE;
     }
-    if !(root_sound(root) & party_sound(root, party)) {
+    if !root_sound(root) {
+        return DAMAGE;
+    }
+    if !party_sound(root, party) {
         return DAMAGE;
     }
     NO_CAUSE

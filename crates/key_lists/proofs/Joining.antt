@@ -1,5 +1,5 @@
 -- Two ascending lists joined by taking the smaller first key each time: what that makes of the model's joined and sharesKey.
--- Main statements: first-joined, second-joined (the smaller key comes first, and is in the other list nowhere), both-shared (an equal key is in both lists);
+-- Main statements: below-rest, ascending-first, ascending-rest (an ascending list by its first key); first-joined, second-joined (the smaller key comes first, and is in the other list nowhere), both-shared (an equal key is in both lists);
 -- Joining (what a turn keeps), none-joined, joining-first, joining-second, all-joined.
 use mathlib.Core.Path.{_≡_, refl, sym, ap, _∙_}
 use mathlib.Core.Bool.{Bool, true, false, cond, not, _||_}
@@ -11,19 +11,20 @@ use lib.Dec.{ltb, eqb}
 use borrow.Author.Tests.{ltb-true, ltb-false, lt-ltb, le-ltb, eq-eqb, ne-eqb}
 use Rattle.model.specs.Entries.{hasKey, belowFirst, ascending, insertedInto, joined, sharesKey}
 use Rattle.model.proofs.Laws.Lists.{and-both}
+use Rattle.model.proofs.Laws.Joins.{below-absent}
 use Rattle.key_lists.specs.declared.Side.the-variants.{First, Second, Both}
 use Rattle.key_lists.specs.Sides.{sideOf}
 use Rattle.key_lists.proofs.Scanning.{next-of, stored-next}
 
--- ---- A number below the first key of an ascending list
+-- ---- A number that is not above the first key of an ascending list
 
 -- It is below the second.
-below-rest : (y x : ℕ) (xs : List ℕ) → y < x → ascending (x ∷ xs) ≡ true → belowFirst y xs ≡ true
+pub below-rest : (y x : ℕ) (xs : List ℕ) → y ≤ x → ascending (x ∷ xs) ≡ true → belowFirst y xs ≡ true
 unfolding belowFirst ascending
 below-rest y x [] h a = refl
 below-rest y x (z ∷ zs) h a = let d = and-both (ltb x z) (ascending (z ∷ zs)) a in let k = ltb-true x z (d .0) in lt-ltb y z (omega arith)
 
-below-cons : (y x : ℕ) (xs : List ℕ) → belowFirst y (x ∷ xs) ≡ true → y < x
+pub below-cons : (y x : ℕ) (xs : List ℕ) → belowFirst y (x ∷ xs) ≡ true → y < x
 unfolding belowFirst
 below-cons y x xs b = ltb-true y x b
 
@@ -31,17 +32,9 @@ pub ascending-rest : (x : ℕ) (xs : List ℕ) → ascending (x ∷ xs) ≡ true
 unfolding ascending
 ascending-rest x xs a = and-both (belowFirst x xs) (ascending xs) a .1
 
-ascending-first : (x : ℕ) (xs : List ℕ) → ascending (x ∷ xs) ≡ true → belowFirst x xs ≡ true
+pub ascending-first : (x : ℕ) (xs : List ℕ) → ascending (x ∷ xs) ≡ true → belowFirst x xs ≡ true
 unfolding ascending
 ascending-first x xs a = and-both (belowFirst x xs) (ascending xs) a .0
-
--- It is no key of the list.
-below-absent : (y : ℕ) (xs : List ℕ) → ascending xs ≡ true → belowFirst y xs ≡ true → hasKey y xs ≡ false
-unfolding hasKey
-below-absent y [] a b = refl
-below-absent y (x ∷ xs) a b =
-    let h = below-cons y x xs b in
-    rw (ne-eqb x y (λ e. omega (arith, e))) (below-absent y xs (ascending-rest x xs a) (below-rest y x xs h a))
 
 -- ---- The smaller key comes first
 
@@ -64,7 +57,7 @@ unfolding joined
 below-joined y [] ys a b d = d
 below-joined y (x ∷ xs) ys a b d =
     let h = below-cons y x xs b in
-    below-inserted y x (joined xs ys) h (below-joined y xs ys (ascending-rest x xs a) (below-rest y x xs h a) d)
+    below-inserted y x (joined xs ys) h (below-joined y xs ys (ascending-rest x xs a) (below-rest y x xs (omega arith) a) d)
 
 module _ (x : ℕ) (xs ys : List ℕ) (a : ascending (x ∷ xs) ≡ true) (d : ascending ys ≡ true) (b : belowFirst x ys ≡ true) where
   first-joined : joined (x ∷ xs) ys ≡ x ∷ joined xs ys
@@ -84,14 +77,14 @@ unfolding joined
 second-joined y [] ys a b = refl
 second-joined y (x ∷ xs) ys a b =
     let h = below-cons y x xs b in
-    ap (insertedInto x) (second-joined y xs ys (ascending-rest x xs a) (below-rest y x xs h a)) ∙ inserted-later y x (joined xs ys) h
+    ap (insertedInto x) (second-joined y xs ys (ascending-rest x xs a) (below-rest y x xs (omega arith) a)) ∙ inserted-later y x (joined xs ys) h
 
 second-unshared : (y : ℕ) (xs ys : List ℕ) → ascending xs ≡ true → belowFirst y xs ≡ true → sharesKey xs (y ∷ ys) ≡ sharesKey xs ys
 unfolding sharesKey hasKey
 second-unshared y [] ys a b = refl
 second-unshared y (x ∷ xs) ys a b =
     let h = below-cons y x xs b in
-    rw (ne-eqb y x (λ e. omega (arith, e)), second-unshared y xs ys (ascending-rest x xs a) (below-rest y x xs h a)) refl
+    rw (ne-eqb y x (λ e. omega (arith, e)), second-unshared y xs ys (ascending-rest x xs a) (below-rest y x xs (omega arith) a)) refl
 
 -- ---- What the side tells
 

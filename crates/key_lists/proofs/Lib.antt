@@ -2,3 +2,5 @@
 pub mod Scanning
 pub mod Joining
 pub mod Dividing
+pub mod Moving
+pub mod Places

@@ -1,16 +1,18 @@
 -- Lists of keys passed from the front, key by key, and the buffer that the keys kept go into.
--- Main statements: next-of (the key passed next); stored-next (one key more in the buffer); ascending-passed, not-ascending, last-ascends;
+-- Main statements: next-of (the key passed next); stored-next (one key more in the buffer); ascending-passed, last-ascends;
 -- removed-same, removed-other, none-removed.
 use mathlib.Core.Path.{_≡_, refl, sym, ap, _∙_}
-use mathlib.Core.Bool.{true, false}
+use mathlib.Core.Bool.{Bool, true, false, not, _&&_, _||_}
 use mathlib.Core.List.{List, [], _∷_, _++_}
 use Prim.Native.Nat.{ℕ, _+_, _-_, _≤_, _<_}
 use native.Mathlib.Numerals.{add-one}
 use native.Mathlib.Omega.{arith}
 use lib.ListN.{length, getD, set, take, drop, length-drop, drop-of-length-le}
 use lib.Seq.{drop-cons, append-snoc, take-suc-set}
-use borrow.Author.Tests.{lt-ltb, le-ltb, eq-eqb, ne-eqb}
+use lib.Dec.{ltb, leb}
+use borrow.Author.Tests.{le-leb, lt-leb, eq-eqb, ne-eqb}
 use Rattle.model.specs.Entries.{ascending, belowFirst, removedFrom}
+use Rattle.model.proofs.Laws.Lists.{Ord, lt, ge, ord}
 
 pub next-of : (es : List ℕ) (i : ℕ) → i < length es → drop i es ≡ getD es i 0 ∷ drop (i + 1) es
 next-of es i h = rw add-one (drop-cons es i 0 h)
@@ -33,14 +35,22 @@ module _ (es : List ℕ) (i : ℕ) (some : 1 ≤ i) where
       let q : i - 1 + 1 ≡ i = omega arith in
       next-of es (i - 1) (omega arith) ∙ ap (λ (l : List ℕ). getD es (i - 1) 0 ∷ l) (ap (λ (j : ℕ). drop j es) q ∙ next-of es i h)
 
-  -- Two neighbours that ascend decide nothing.
-  pub ascending-passed : i < length es → getD es (i - 1) 0 < getD es i 0 → ascending (drop (i - 1) es) ≡ ascending (drop i es)
+  -- One pair of neighbours more, and whether a pair before it falls.
+  pub ascending-passed : i < length es → (falls : Bool)
+      → (not falls && ascending (drop (i - 1) es)) ≡ (not (falls || leb (getD es i 0) (getD es (i - 1) 0)) && ascending (drop i es))
   unfolding ascending belowFirst
-  ascending-passed h k = ap ascending (before-next h) ∙ rw (lt-ltb (getD es (i - 1) 0) (getD es i 0) k) (ap ascending (sym (next-of es i h)))
+  ascending-passed h true = refl
+  ascending-passed h false = ap ascending (before-next h) ∙ go (ord x y) ∙ ap (λ (l : List ℕ). not (leb y x) && ascending l) (sym (next-of es i h))
+    where
+      x : ℕ
+      x = getD es (i - 1) 0
 
-  pub not-ascending : i < length es → getD es i 0 ≤ getD es (i - 1) 0 → ascending (drop (i - 1) es) ≡ false
-  unfolding ascending belowFirst
-  not-ascending h k = ap ascending (before-next h) ∙ rw (le-ltb (getD es (i - 1) 0) (getD es i 0) k) refl
+      y : ℕ
+      y = getD es i 0
+
+      go : Ord x y → (ltb x y && ascending (y ∷ drop (i + 1) es)) ≡ (not (leb y x) && ascending (y ∷ drop (i + 1) es))
+      go (lt k t) = rw (t, lt-leb y x k) refl
+      go (ge k t) = rw (t, le-leb y x k) refl
 
   -- The last key alone, or none.
   pub last-ascends : length es ≤ i → ascending (drop (i - 1) es) ≡ true

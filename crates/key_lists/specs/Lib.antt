@@ -1,2 +1,3 @@
 -- What the functions of this crate are stated with.
 pub mod Sides
+pub mod Places

@@ -8,17 +8,20 @@ ghost use Prim.Native.Nat.{_<_};
 ghost use lib.ListN.{length, getD};
 ghost use Rattle.model.specs.LockWords as LockWords;
 ghost use Rattle.model.specs.LockWords.{claim, rootWord};
-ghost use Rattle.model.specs.Ready.{Ready, viewing, leftBy};
+ghost use Rattle.records.specs.Words.{partyIn, seen, left, AtHand};
 ghost use Rattle.model.specs.Steps.Change.{chainSelective};
 ghost use Rattle.model.specs.Steps.Split.{rootSelective, endedWith};
 ghost use Rattle.model.specs.Steps.Merge.{mergeLocks};
+use lock_requests::ROOT_WORD;
 use model::ChainAddress;
 use model::Mode;
-use model::Party;
 use model::Restructuring;
 use model::Root;
-use model::Stepped;
-use step_paths::ROOT_WORD;
+use model::StepAnswer;
+use records::ANSWER;
+use records::CHAIN;
+use records::DAMAGE;
+use records::OTHER;
 
 // Whether party q holds the lock of a word.
 fn held(locks: &[u32], word: u32, q: u32, mode: Mode) -> bool
@@ -31,73 +34,76 @@ fn held(locks: &[u32], word: u32, q: u32, mode: Mode) -> bool
 // The root's lock is given up, and the operation is done with this restructuring. "a lock given up ... that is not held" is damage.
 pub fn ended_with_root(
     root: Root,
-    party: Party,
+    party: &mut [u32],
     q: u32,
     locks: &mut [u32],
     pages: &mut [u32],
     mode: Mode,
     made: Restructuring,
-) -> Stepped
-    requires { ⌜ Ready (viewing root party q (now locks) (now pages)) ⌝ }
-    ensures { λ r. ⌜ leftBy r q (now (locks .exit)) (now (pages .exit)) ≡ endedWith (viewing root party q (now (locks .entry)) (now (pages .entry))) (claim rootWord mode ∷ []) made ⌝ }
+) -> StepAnswer
+    requires { ⌜ AtHand root (now party) q (now locks) (now pages) ⌝ }
+    ensures { λ a. ⌜ left a root (now (party .exit)) q (now (locks .exit)) (now (pages .exit)) ≡ endedWith (seen root (now (party .entry)) q (now (locks .entry)) (now (pages .entry))) (claim rootWord mode ∷ []) made ⌝ }
 {
     if !held(&locks[..], ROOT_WORD, q, mode) {
-        return endings::refused(root, party);
+        return StepAnswer::Refused(DAMAGE);
     }
     lock_words::release(locks, ROOT_WORD as usize, q, mode);
-    endings::done(root, q, pages, endings::answer_of(party.answer), made)
+    let answer = endings::answer_of(party[ANSWER]);
+    endings::done(root, party, q, pages, answer, made)
 }
 
 // The selective locks of root and chain are given up, and the operation is done with this restructuring: "give up both locks".
 pub fn ended_with_split(
     root: Root,
-    party: Party,
+    party: &mut [u32],
     q: u32,
     locks: &mut [u32],
     pages: &mut [u32],
     made: Restructuring,
-) -> Stepped
-    requires { ⌜ Ready (viewing root party q (now locks) (now pages)) ⌝ }
-    ensures { λ r. ⌜ leftBy r q (now (locks .exit)) (now (pages .exit)) ≡ endedWith (viewing root party q (now (locks .entry)) (now (pages .entry))) (rootSelective ∷ (chainSelective party ∷ [])) made ⌝ }
+) -> StepAnswer
+    requires { ⌜ AtHand root (now party) q (now locks) (now pages) ⌝ }
+    ensures { λ a. ⌜ left a root (now (party .exit)) q (now (locks .exit)) (now (pages .exit)) ≡ endedWith (seen root (now (party .entry)) q (now (locks .entry)) (now (pages .entry))) (rootSelective ∷ (chainSelective (partyIn (now (party .entry))) ∷ [])) made ⌝ }
 {
-    let chain = step_paths::chain_word(ChainAddress(party.chain));
+    let chain = lock_requests::chain_word(ChainAddress(party[CHAIN]));
     if !held(&locks[..], ROOT_WORD, q, Mode::Selective) {
-        return endings::refused(root, party);
+        return StepAnswer::Refused(DAMAGE);
     }
     if !held(&locks[..], chain, q, Mode::Selective) {
-        return endings::refused(root, party);
+        return StepAnswer::Refused(DAMAGE);
     }
     lock_words::release(locks, ROOT_WORD as usize, q, Mode::Selective);
     lock_words::release(locks, chain as usize, q, Mode::Selective);
-    endings::done(root, q, pages, endings::answer_of(party.answer), made)
+    let answer = endings::answer_of(party[ANSWER]);
+    endings::done(root, party, q, pages, answer, made)
 }
 
 // The root's lock and the exclusive locks of chain and other chain are given up, and the operation is done with this restructuring: "give up all".
 pub fn ended_with_merge(
     root: Root,
-    party: Party,
+    party: &mut [u32],
     q: u32,
     locks: &mut [u32],
     pages: &mut [u32],
     mode: Mode,
     made: Restructuring,
-) -> Stepped
-    requires { ⌜ Ready (viewing root party q (now locks) (now pages)) ⌝ }
-    ensures { λ r. ⌜ leftBy r q (now (locks .exit)) (now (pages .exit)) ≡ endedWith (viewing root party q (now (locks .entry)) (now (pages .entry))) (mergeLocks (claim rootWord mode) party) made ⌝ }
+) -> StepAnswer
+    requires { ⌜ AtHand root (now party) q (now locks) (now pages) ⌝ }
+    ensures { λ a. ⌜ left a root (now (party .exit)) q (now (locks .exit)) (now (pages .exit)) ≡ endedWith (seen root (now (party .entry)) q (now (locks .entry)) (now (pages .entry))) (mergeLocks (claim rootWord mode) (partyIn (now (party .entry)))) made ⌝ }
 {
-    let chain = step_paths::chain_word(ChainAddress(party.chain));
-    let other = step_paths::chain_word(ChainAddress(party.other));
+    let chain = lock_requests::chain_word(ChainAddress(party[CHAIN]));
+    let other = lock_requests::chain_word(ChainAddress(party[OTHER]));
     if !held(&locks[..], ROOT_WORD, q, mode) {
-        return endings::refused(root, party);
+        return StepAnswer::Refused(DAMAGE);
     }
     if !held(&locks[..], chain, q, Mode::Exclusive) {
-        return endings::refused(root, party);
+        return StepAnswer::Refused(DAMAGE);
     }
     if !held(&locks[..], other, q, Mode::Exclusive) {
-        return endings::refused(root, party);
+        return StepAnswer::Refused(DAMAGE);
     }
     lock_words::release(locks, ROOT_WORD as usize, q, mode);
     lock_words::release(locks, chain as usize, q, Mode::Exclusive);
     lock_words::release(locks, other as usize, q, Mode::Exclusive);
-    endings::done(root, q, pages, endings::answer_of(party.answer), made)
+    let answer = endings::answer_of(party[ANSWER]);
+    endings::done(root, party, q, pages, answer, made)
 }

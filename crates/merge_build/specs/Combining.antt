@@ -1,34 +1,62 @@
--- Step 26 in its parts: what each part needs of the memory and of the buffers.
--- Main definitions: CanCombineWith, CanCombine, CanMerge.
+-- Step 26 in its parts: what each part needs of the memory and of the buffers, and what it comes to.
+-- Main definitions: endingAs (what the step then leaves), joinedWith and joinedBoth (the model's step once a merge is not barred); CanCombine, CanMerge, BothWalked, JoinedFrom.
 use mathlib.Core.Path.{_≡_}
-use mathlib.Core.Bool.{false}
+use mathlib.Core.Bool.{true, false}
 use mathlib.Core.List.{List}
 use Prim.Native.Nat.{ℕ, _^_, _≤_, _<_}
 use lib.ListN.{length}
 use Rattle.model.specs.declared.Root.{Root}
 use Rattle.model.specs.declared.Party.{Party}
-use Rattle.model.specs.Ready.{Ready, viewing}
-use Rattle.model.specs.Steps.Merge.{mergeStops}
+use Rattle.model.specs.declared.Restructuring.the-variants as Restructuring
+use Rattle.model.specs.Records.{atStep, withOld, withFreeList}
+use Rattle.model.specs.Chains.{Checked, damaged}
+use Rattle.model.specs.Outcome.{View, Outcome, withRoot, withParty, refuse, damage, moved, checked}
+use Rattle.model.specs.Steps.Split.{endedWith}
+use Rattle.model.specs.Steps.Merge.{Pair, pairOf, mergeLocks, rootExclusive, combineWith}
 use Rattle.chains.specs.Walks.{counted}
 use Rattle.chains.specs.declared.Walked.the-variants as Walked
-use Rattle.chain_keys.specs.Gathering.{overflowOf}
-use Rattle.chain_join.specs.Joining.{CanJoin}
+use Rattle.chain_keys.specs.Gathering.{overflowOf, CanWalk}
+use Rattle.chain_build.specs.Building.{CanBuild}
+use Rattle.chain_join.specs.declared.Joined.{Joined}
+use Rattle.chain_join.specs.Joining.{JoinedPair}
+use Rattle.merge_build.specs.declared.Combined.{Combined}
+use Rattle.merge_build.specs.declared.Combined.the-variants as Combined
 
--- The view is Ready, and the buffer has room for every overflow page.
-pub record CanCombineWith (r : Root) (p : Party) (q : ℕ) (ls ps keys taken : List ℕ) : Type 0 where
-  pub ready : Ready (viewing r p q ls ps)
-  pub few : length keys < 2 ^ 32
+-- What the step leaves once joining came to this and left the memory so.
+abbrev pub endingAs : Combined → View → Outcome
+endingAs Combined.Damaged v = refuse damage v
+endingAs Combined.Skipped v = endedWith v (mergeLocks rootExclusive (v .party)) Restructuring.MergeSkipped
+endingAs (Combined.Made head free link) v = moved (withParty (atStep 27 (withOld link (v .party))) (withRoot (withFreeList head free (v .root)) v))
+
+-- The model's step on two chains that were looked through.
+abbrev pub joinedWith : View → Checked Pair → Outcome
+joinedWith v x = checked v x (λ m. combineWith v m)
+
+-- The same on target and partner.
+abbrev pub joinedBoth : View → Outcome
+joinedBoth v = joinedWith v (pairOf (v .root) (v .pages) (v .party .chain) (v .party .other))
+
+-- The sizes are within their limits, the keys joined stand in the buffer, and there is room for every overflow page.
+pub record CanCombine (r : Root) (q : ℕ) (j : Joined) (ps out taken : List ℕ) : Type 0 where
+  pub can-build : CanBuild r q ps
+  pub some-key : 1 ≤ r .keys
+  pub fits : j .ok ≡ true → j .count ≤ length out
+  pub few : length out < 2 ^ 32
   pub taken-room : 752 ≤ length taken
 
--- A chain can be merged away, both can be joined, and there is room for the pages.
-pub record CanCombine (r : Root) (p : Party) (q n m : ℕ) (ls ps a b out taken : List ℕ) : Type 0 where
-  pub can-combine-with : CanCombineWith r p q ls ps out taken
-  pub not-barred : mergeStops r ≡ false
-  pub can-join : CanJoin r p n m ps a b out
+-- What was joined is what was found of the two chains x.
+pub record JoinedFrom (x : Checked Pair) (j : Joined) (out : List ℕ) : Type 0 where
+  pub unsound : j .ok ≡ false → x ≡ damaged
+  pub joined : j .ok ≡ true → JoinedPair x j out
 
--- A chain can be merged away, and the overflow pages of target and partner were walked.
-pub record CanMerge (r : Root) (p : Party) (q n m : ℕ) (ls ps : List ℕ) : Type 0 where
-  pub ready : Ready (viewing r p q ls ps)
-  pub not-barred : mergeStops r ≡ false
+-- The sizes are within their limits, and target and partner are chains.
+pub record CanMerge (r : Root) (p : Party) (q : ℕ) (ps : List ℕ) : Type 0 where
+  pub can-build : CanBuild r q ps
+  pub some-key : 1 ≤ r .keys
+  pub target : CanWalk r ps (p .chain)
+  pub partner : CanWalk r ps (p .other)
+
+-- The overflow pages of target and partner were walked, n and m of them.
+pub record BothWalked (r : Root) (p : Party) (n m : ℕ) (ps : List ℕ) : Type 0 where
   pub target-walked : counted (overflowOf r ps (p .chain)) ≡ Walked.Pages n
   pub partner-walked : counted (overflowOf r ps (p .other)) ≡ Walked.Pages m

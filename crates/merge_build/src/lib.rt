@@ -2,170 +2,185 @@
 // Main statement: step_26 is the model's step26, for every word that the memory may hold.
 
 ghost use mathlib.Core.Path.{_≡_};
-ghost use Prim.Native.Nat.{_+_, _<_};
-ghost use Rattle.model.specs.Records.{atStep, withOld};
-ghost use Rattle.model.specs.Ready.{Ready, viewing, leftBy};
+ghost use mathlib.Core.List.{List};
+ghost use Prim.Native.Nat.{ℕ, _+_, _<_};
+ghost use lib.ListN.{length};
+ghost use Rattle.model.specs.declared.Party.{Party};
+ghost use Rattle.model.specs.Chains.{Checked};
+ghost use Rattle.model.specs.Ready.{viewing};
 ghost use Rattle.model.specs.Steps.Merge as Merge;
-ghost use Rattle.merge_build.specs.Combining.{CanCombineWith, CanCombine, CanMerge};
+ghost use Rattle.records.specs.Words.{recordWords, rootIn, seen, left, AtHand};
+ghost use Rattle.merge_build.specs.Combining.{endingAs, joinedWith, joinedBoth, CanCombine, CanMerge, BothWalked, JoinedFrom};
+use chain_join::Joined;
 use chains::Walked;
+use free_list::Drawn;
+use gates::MOST_CHAINS;
+use gates::MOST_KEYS;
+use gates::MOST_OVERFLOW;
 use model::ChainAddress;
 use model::Mode;
 use model::Party;
 use model::Restructuring;
 use model::Root;
-use model::Stepped;
+use model::StepAnswer;
+use records::DAMAGE;
+use records::FREE;
+use records::HEAD;
+use records::OLD;
 
-// The record after the merge: "set the old link to the target's".
-fn combined(party: Party, link: u32) -> Party
-    ensures { λ r. ⌜ r ≡ atStep 27 (withOld link party) ⌝ }
-{
-    let mut next = party;
-    next.old = link;
-    next.step = 27;
-    next
+// What joining both chains comes to: damage, too few free pages, or a new chain; with it, the free list's head and count, and the target's old link.
+enum Combined {
+    Damaged,
+    Skipped,
+    Made(u32, u32, u32),
 }
 
-// The joined keys in new pages, at the target's local level. "too few free: take none, give up all, done, merge skipped".
+// The keys joined at the front of `out` go into new pages, at the target's local level. "too few free: take none".
 fn combine_with(
     root: Root,
-    party: Party,
     q: u32,
-    level: u32,
-    link: u32,
-    keys: &[u32],
-    locks: &mut [u32],
+    j: Joined,
+    out: &[u32],
     pages: &mut [u32],
     taken: &mut [u32],
-) -> Stepped
-    requires { ⌜ CanCombineWith root party q (now locks) (now pages) (now keys) (now taken) ⌝ }
-    ensures { λ r. ⌜ ((m : Merge.Pair) → level ≡ m .target .level → link ≡ m .target .link → now (keys .entry) ≡ Merge.joinedEntries m → leftBy r q (now (locks .exit)) (now (pages .exit)) ≡ Merge.combineWith (viewing root party q (now (locks .entry)) (now (pages .entry))) m) ⌝ }
+) -> Combined
+    requires { ⌜ CanCombine root q j (now pages) (now out) (now taken) ⌝ }
+    ensures { λ r. ⌜ ((p : Party) (ls : List ℕ) (x : Checked Merge.Pair) → JoinedFrom x j (now (out .entry)) → endingAs r (viewing root p q ls (now (pages .exit))) ≡ joinedWith (viewing root p q ls (now (pages .entry))) x) ⌝ }
 {
-    let k = page_fill::pages_for(root.keys, keys.len());
+    if !j.ok {
+        return Combined::Damaged;
+    }
+    let total = j.count;
+    let k = page_fill::pages_for(root.keys, total);
     if (root.free as usize) < k {
-        let made = Restructuring::MergeSkipped;
-        return last_locks::ended_with_merge(root, party, q, locks, pages, Mode::Exclusive, made);
+        return Combined::Skipped;
     }
-    let next = combined(party, link);
-    chain_build::build_chain(root, party, next, q, level, keys, k, pages, taken)
+    match chain_build::build_chain(root, q, j.level, &out[0..total], k, pages, taken) {
+        Drawn::Damaged => Combined::Damaged,
+        Drawn::Head(head) => {
+            let left = root.free - k as u32;
+            Combined::Made(head, left, j.link)
+        }
+    }
 }
 
-// Step 26 once the n overflow pages of the target and the m of the partner were walked. All keys are gathered before a word is written.
-fn combine(
-    root: Root,
-    party: Party,
-    q: u32,
-    n: u32,
-    m: u32,
-    locks: &mut [u32],
-    pages: &mut [u32],
-    a: &mut [u32],
-    b: &mut [u32],
-    out: &mut [u32],
-    taken: &mut [u32],
-) -> Stepped
-    requires { ⌜ CanCombine root party q n m (now locks) (now pages) (now a) (now b) (now out) (now taken) ⌝ }
-    ensures { λ r. ⌜ leftBy r q (now (locks .exit)) (now (pages .exit)) ≡ Merge.step26 (viewing root party q (now (locks .entry)) (now (pages .entry))) ⌝ }
-{
-    let j = chain_join::join_chains(root, party, n, m, &pages[..], a, b, out);
-    if j.ok {
-        let total = j.count;
-        return combine_with(
-            root,
-            party,
-            q,
-            j.level,
-            j.link,
-            &out[0..total],
-            locks,
-            pages,
-            taken,
-        );
-    }
-    endings::refused(root, party)
-}
-
-// Step 26 on two chains of few pages: at most nine pages of twelve keys each.
-fn combine_few(
-    root: Root,
-    party: Party,
-    q: u32,
-    n: u32,
-    m: u32,
-    locks: &mut [u32],
-    pages: &mut [u32],
-) -> Stepped
-    requires { ⌜ CanMerge root party q n m (now locks) (now pages) × (n + m < 9) ⌝ }
-    ensures { λ r. ⌜ leftBy r q (now (locks .exit)) (now (pages .exit)) ≡ Merge.step26 (viewing root party q (now (locks .entry)) (now (pages .entry))) ⌝ }
+// Step 26 on two chains of few pages: at most nine pages of twelve keys each. All keys are gathered before a word is written.
+fn combine_few(root: Root, party: Party, q: u32, n: u32, m: u32, pages: &mut [u32]) -> Combined
+    requires { ⌜ (CanMerge root party q (now pages)) × (BothWalked root party n m (now pages)) × (n + m < 9) ⌝ }
+    ensures { λ r. ⌜ ((ls : List ℕ) → endingAs r (viewing root party q ls (now (pages .exit))) ≡ joinedBoth (viewing root party q ls (now (pages .entry)))) ⌝ }
 {
     let mut taken = [0u32; 752];
     let mut a = [0u32; 128];
     let mut b = [0u32; 128];
     let mut out = [0u32; 256];
-    combine(
+    let j = chain_join::join_chains(
         root,
         party,
-        q,
         n,
         m,
-        locks,
-        pages,
+        &pages[..],
         &mut a[..],
         &mut b[..],
         &mut out[..],
-        &mut taken[..],
-    )
+    );
+    combine_with(root, q, j, &out[..], pages, &mut taken[..])
 }
 
-// Step 26 where a merge is not barred and both chains were walked. The buffers go by the pages walked, as at 10 and 17.
-fn combine_walked(
-    root: Root,
-    party: Party,
-    q: u32,
-    n: u32,
-    m: u32,
-    locks: &mut [u32],
-    pages: &mut [u32],
-) -> Stepped
-    requires { ⌜ CanMerge root party q n m (now locks) (now pages) ⌝ }
-    ensures { λ r. ⌜ leftBy r q (now (locks .exit)) (now (pages .exit)) ≡ Merge.step26 (viewing root party q (now (locks .entry)) (now (pages .entry))) ⌝ }
+// Step 26 on two chains that were walked. The buffers go by the pages walked.
+fn combine_walked(root: Root, party: Party, q: u32, n: u32, m: u32, pages: &mut [u32]) -> Combined
+    requires { ⌜ (CanMerge root party q (now pages)) × (BothWalked root party n m (now pages)) ⌝ }
+    ensures { λ r. ⌜ ((ls : List ℕ) → endingAs r (viewing root party q ls (now (pages .exit))) ≡ joinedBoth (viewing root party q ls (now (pages .entry)))) ⌝ }
 {
     if n + m < 9 {
-        return combine_few(root, party, q, n, m, locks, pages);
+        return combine_few(root, party, q, n, m, pages);
     }
     let mut taken = [0u32; 752];
     let mut a = [0u32; 9040];
     let mut b = [0u32; 9040];
     let mut out = [0u32; 18080];
-    combine(
+    let j = chain_join::join_chains(
         root,
         party,
-        q,
         n,
         m,
-        locks,
-        pages,
+        &pages[..],
         &mut a[..],
         &mut b[..],
         &mut out[..],
-        &mut taken[..],
-    )
+    );
+    combine_with(root, q, j, &out[..], pages, &mut taken[..])
 }
 
-// "26 join both key lists in new pages". "n = N at 26" is damage.
-pub fn step_26(root: Root, party: Party, q: u32, locks: &mut [u32], pages: &mut [u32]) -> Stepped
-    requires { ⌜ Ready (viewing root party q (now locks) (now pages)) ⌝ }
-    ensures { λ r. ⌜ leftBy r q (now (locks .exit)) (now (pages .exit)) ≡ Merge.step26 (viewing root party q (now (locks .entry)) (now (pages .entry))) ⌝ }
+// Both chains are walked to their ends, and their keys joined in new pages.
+fn combine_both(root: Root, party: Party, q: u32, pages: &mut [u32]) -> Combined
+    requires { ⌜ CanMerge root party q (now pages) ⌝ }
+    ensures { λ r. ⌜ ((ls : List ℕ) → endingAs r (viewing root party q ls (now (pages .exit))) ≡ joinedBoth (viewing root party q ls (now (pages .entry)))) ⌝ }
 {
-    if addressing::merge_barred(root) {
-        return endings::refused(root, party);
-    }
     match chain_keys::walk(root, ChainAddress(party.chain), &pages[..]) {
-        Walked::Damaged => endings::refused(root, party),
-        Walked::Pages(n) => {
-            match chain_keys::walk(root, ChainAddress(party.other), &pages[..]) {
-                Walked::Damaged => endings::refused(root, party),
-                Walked::Pages(m) => combine_walked(root, party, q, n, m, locks, pages),
-            }
+        Walked::Damaged => Combined::Damaged,
+        Walked::Pages(n) => match chain_keys::walk(root, ChainAddress(party.other), &pages[..]) {
+            Walked::Damaged => Combined::Damaged,
+            Walked::Pages(m) => combine_walked(root, party, q, n, m, pages),
+        },
+    }
+}
+
+// The same, behind tests that never fail: they tell the compiler that what follows is rare, so that its buffers stand in a frame of their own
+// and in no other call's. What stands for their failing is never answered; it is the case that the caller shares with step 30.
+fn combine(root: Root, party: Party, q: u32, pages: &mut [u32]) -> Combined
+    requires { ⌜ CanMerge root party q (now pages) ⌝ }
+    ensures { λ r. ⌜ ((ls : List ℕ) → endingAs r (viewing root party q ls (now (pages .exit))) ≡ joinedBoth (viewing root party q ls (now (pages .entry)))) ⌝ }
+{
+    if MOST_CHAINS < root.chains {
+        return Combined::Skipped;
+    }
+    if MOST_OVERFLOW < root.overflow {
+        return Combined::Skipped;
+    }
+    if MOST_KEYS < root.keys {
+        return Combined::Skipped;
+    }
+    if root.overflow < root.free {
+        return Combined::Skipped;
+    }
+    if root.chains <= party.chain {
+        return Combined::Skipped;
+    }
+    if root.chains <= party.other {
+        return Combined::Skipped;
+    }
+    combine_both(root, party, q, pages)
+}
+
+// "26 join both key lists in new pages, ... and set the old link to the target's; too few free: take none, give up all, done, merge skipped."
+// "n = N at 26" is damage.
+pub fn step_26(
+    root: &mut [u32],
+    party: &mut [u32],
+    q: u32,
+    locks: &mut [u32],
+    pages: &mut [u32],
+) -> StepAnswer
+    requires { ⌜ (length (now root) ≡ recordWords) × AtHand (rootIn (now root)) (now party) q (now locks) (now pages) ⌝ }
+    ensures { λ a. ⌜ left a (rootIn (now (root .exit))) (now (party .exit)) q (now (locks .exit)) (now (pages .exit)) ≡ Merge.step26 (seen (rootIn (now (root .entry))) (now (party .entry)) q (now (locks .entry)) (now (pages .entry))) ⌝ }
+{
+    let r = records::root_of(&root[..]);
+    if addressing::merge_barred(r) {
+        return StepAnswer::Refused(DAMAGE);
+    }
+    let p = records::party_of(&party[..]);
+    match combine(r, p, q, pages) {
+        Combined::Damaged => StepAnswer::Refused(DAMAGE),
+        Combined::Skipped => {
+            let made = Restructuring::MergeSkipped;
+            last_locks::ended_with_merge(r, party, q, locks, pages, Mode::Exclusive, made)
+        }
+        Combined::Made(head, free, link) => {
+            root[HEAD] = head;
+            root[FREE] = free;
+            party[OLD] = link;
+            records::at_step(party, 27);
+            StepAnswer::Moved
         }
     }
 }

@@ -2,85 +2,77 @@
 // Main statements: each step_NN is the model's stepNN, for every word that the memory may hold.
 
 ghost use mathlib.Core.Path.{_≡_};
-ghost use mathlib.Core.Bool.{false};
-ghost use Rattle.model.specs.Ready.{Ready, viewing, leftBy};
+ghost use mathlib.Core.List.{List};
+ghost use Prim.Native.Nat.{ℕ};
+ghost use Rattle.model.specs.declared.Root.{Root};
 ghost use Rattle.model.specs.Steps.Merge as Merge;
-ghost use Rattle.addressing.specs.Fits.{RootFits};
+ghost use Rattle.records.specs.Words.{seen, left, AtHand};
+ghost use Rattle.lock_requests.specs.Words.{CanLock};
+use lock_requests::ROOT_WORD;
 use model::ChainAddress;
 use model::Mode;
-use model::Party;
 use model::Restructuring;
 use model::Root;
-use model::Stepped;
-use step_paths::ROOT_WORD;
+use model::StepAnswer;
+use records::CHAIN;
+use records::OTHER;
 
 // "23 request exclusive on root."
-pub fn step_23(root: Root, party: Party, q: u32, locks: &mut [u32], pages: &mut [u32]) -> Stepped
-    requires { ⌜ Ready (viewing root party q (now locks) (now pages)) ⌝ }
-    ensures { λ r. ⌜ leftBy r q (now (locks .exit)) (now (pages .exit)) ≡ Merge.step23 (viewing root party q (now (locks .entry)) (now (pages .entry))) ⌝ }
+pub fn step_23(party: &mut [u32], q: u32, locks: &mut [u32]) -> StepAnswer
+    requires { ⌜ CanLock (now party) q (now locks) ⌝ }
+    ensures { λ a. ⌜ ((r : Root) (ps : List ℕ) → left a r (now (party .exit)) q (now (locks .exit)) ps ≡ Merge.step23 (seen r (now (party .entry)) q (now (locks .entry)) ps)) ⌝ }
 {
-    let next = step_paths::at_step(party, 24);
-    step_paths::request_step(
-        root,
-        party,
-        q,
-        locks,
-        pages,
-        ROOT_WORD,
-        Mode::Exclusive,
-        next,
-    )
+    let mode = Mode::Exclusive;
+    lock_requests::request_step(party, q, locks, ROOT_WORD, mode, 24)
 }
 
-// The record once the target is granted: "Grants at 16 and 24 set chain and other chain".
-fn merging(root: Root, party: Party) -> Party
-    requires { ⌜ (RootFits root) × (Merge.mergeStops root ≡ false) ⌝ }
-    ensures { λ r. ⌜ r ≡ Merge.merging root party ⌝ }
-{
-    let target = addressing::merge_target(root);
-    let partner = addressing::merge_partner(root);
-    let mut granted = party;
-    granted.chain = target.0;
-    granted.other = partner.0;
-    step_paths::at_step(granted, 25)
-}
-
-// "24 if n = N give up root, done, merge skipped. ... Request exclusive on the target."
-pub fn step_24(root: Root, party: Party, q: u32, locks: &mut [u32], pages: &mut [u32]) -> Stepped
-    requires { ⌜ Ready (viewing root party q (now locks) (now pages)) ⌝ }
-    ensures { λ r. ⌜ leftBy r q (now (locks .exit)) (now (pages .exit)) ≡ Merge.step24 (viewing root party q (now (locks .entry)) (now (pages .entry))) ⌝ }
+// "24 if n = N give up root, done, merge skipped. ... Request exclusive on the target." "Grants at 16 and 24 set chain and other chain".
+pub fn step_24(
+    root: Root,
+    party: &mut [u32],
+    q: u32,
+    locks: &mut [u32],
+    pages: &mut [u32],
+) -> StepAnswer
+    requires { ⌜ AtHand root (now party) q (now locks) (now pages) ⌝ }
+    ensures { λ a. ⌜ left a root (now (party .exit)) q (now (locks .exit)) (now (pages .exit)) ≡ Merge.step24 (seen root (now (party .entry)) q (now (locks .entry)) (now (pages .entry))) ⌝ }
 {
     if addressing::merge_barred(root) {
         let made = Restructuring::MergeSkipped;
         return last_locks::ended_with_root(root, party, q, locks, pages, Mode::Exclusive, made);
     }
-    let next = merging(root, party);
-    let word = step_paths::chain_word(addressing::merge_target(root));
-    step_paths::request_step(root, party, q, locks, pages, word, Mode::Exclusive, next)
+    let target = addressing::merge_target(root);
+    let partner = addressing::merge_partner(root);
+    let word = lock_requests::chain_word(target) as usize;
+    if !lock_words::request(locks, word, q, Mode::Exclusive) {
+        return StepAnswer::Waiting;
+    }
+    party[CHAIN] = target.0;
+    party[OTHER] = partner.0;
+    records::at_step(party, 25);
+    StepAnswer::Moved
 }
 
 // "25 on the partner."
-pub fn step_25(root: Root, party: Party, q: u32, locks: &mut [u32], pages: &mut [u32]) -> Stepped
-    requires { ⌜ Ready (viewing root party q (now locks) (now pages)) ⌝ }
-    ensures { λ r. ⌜ leftBy r q (now (locks .exit)) (now (pages .exit)) ≡ Merge.step25 (viewing root party q (now (locks .entry)) (now (pages .entry))) ⌝ }
+pub fn step_25(party: &mut [u32], q: u32, locks: &mut [u32]) -> StepAnswer
+    requires { ⌜ CanLock (now party) q (now locks) ⌝ }
+    ensures { λ a. ⌜ ((r : Root) (ps : List ℕ) → left a r (now (party .exit)) q (now (locks .exit)) ps ≡ Merge.step25 (seen r (now (party .entry)) q (now (locks .entry)) ps)) ⌝ }
 {
-    let next = step_paths::at_step(party, 26);
-    let word = step_paths::chain_word(ChainAddress(party.other));
-    step_paths::request_step(root, party, q, locks, pages, word, Mode::Exclusive, next)
+    let word = lock_requests::chain_word(ChainAddress(party[OTHER]));
+    lock_requests::request_step(party, q, locks, word, Mode::Exclusive, 26)
 }
 
 // "30 give up all, done."
-pub fn step_30(root: Root, party: Party, q: u32, locks: &mut [u32], pages: &mut [u32]) -> Stepped
-    requires { ⌜ Ready (viewing root party q (now locks) (now pages)) ⌝ }
-    ensures { λ r. ⌜ leftBy r q (now (locks .exit)) (now (pages .exit)) ≡ Merge.step30 (viewing root party q (now (locks .entry)) (now (pages .entry))) ⌝ }
+pub fn step_30(
+    root: Root,
+    party: &mut [u32],
+    q: u32,
+    locks: &mut [u32],
+    pages: &mut [u32],
+) -> StepAnswer
+    requires { ⌜ AtHand root (now party) q (now locks) (now pages) ⌝ }
+    ensures { λ a. ⌜ left a root (now (party .exit)) q (now (locks .exit)) (now (pages .exit)) ≡ Merge.step30 (seen root (now (party .entry)) q (now (locks .entry)) (now (pages .entry))) ⌝ }
 {
-    last_locks::ended_with_merge(
-        root,
-        party,
-        q,
-        locks,
-        pages,
-        Mode::Selective,
-        Restructuring::Merged,
-    )
+    let made = Restructuring::Merged;
+    last_locks::ended_with_merge(root, party, q, locks, pages, Mode::Selective, made)
 }

@@ -1,5 +1,5 @@
--- What a step's code may take for granted, and how its result and the lent words make an outcome.
--- Main definitions: viewing, leftBy (the two sides of a step function's equation); Ready (what holds once no row of the refusal table is met).
+-- What a step's code may take for granted, and the view that it is lent.
+-- Main definitions: viewing (root, record, number and words as a view); Ready (what holds once no row of the refusal table is met).
 use mathlib.Core.Path.{_≡_}
 use mathlib.Core.Bool.{true}
 use mathlib.Core.List.{List}
@@ -7,19 +7,14 @@ use Prim.Native.Nat.{ℕ, _≤_, _<_}
 use lib.ListN.{length}
 use Rattle.model.specs.declared.Root.{Root}
 use Rattle.model.specs.declared.Party.{Party}
-use Rattle.model.specs.declared.Stepped.{Stepped}
 use Rattle.model.specs.Sizes.{mostKeys, lockWords, allPageWords}
 use Rattle.model.specs.Addresses.{span, chainCount}
 use Rattle.model.specs.Steps.Dispatch.{hasStep}
-use Rattle.model.specs.Outcome.{View, Outcome, outcome}
+use Rattle.model.specs.Outcome.{View}
 
 -- The view that a step function is lent: root and party by value, the party's number, lock words and page words.
 abbrev pub viewing : Root → Party → ℕ → List ℕ → List ℕ → View
 viewing r p q ls ps = record { root = r; party = p; number = q; locks = ls; pages = ps }
-
--- The outcome that its result and the words it left make.
-abbrev pub leftBy : Stepped → ℕ → List ℕ → List ℕ → Outcome
-leftBy s q ls ps = outcome (s .answer) (viewing (s .root) (s .party) q ls ps)
 
 -- What holds of a view once the sizes, the lengths, the party's number and the records have passed their tests.
 pub record Ready (v : View) : Type 0 where

@@ -1,3 +1,4 @@
 -- Laws that the proofs of this crate share.
 pub mod Recorded
-pub mod Returned
+pub mod Given
+pub mod Turns

@@ -1,100 +1,137 @@
--- A list of pages recorded in a buffer, page by page, and what a list that was walked is.
--- Main statements: next-page, recorded-more, recorded-all (the loop); Walk and list-walk (a list that was walked can be followed, has these pages, and they are overflow pages);
--- walked-at-most (it has at most V pages).
+-- What a list of pages that was walked is.
+-- Main definitions: Walk (a link leads to n pages that were walked), NextPage (its first page, and the list after it).
+-- Main statements: next-page, no-page, all-overflow (its pages are overflow pages), walked-at-most (it has at most V pages).
 use mathlib.Core.Path.{_≡_, refl, sym, ap, _∙_}
 use mathlib.Core.Bool.{Bool, true, false, cond}
-use mathlib.Core.List.{List, [], _∷_, _++_, append-nil, append-assoc}
-use Prim.Native.Nat.{ℕ, zero, suc, _+_, _-_, _*_, _≤_, _<_}
-use native.Mathlib.Numerals.{add-one}
+use mathlib.Core.List.{List, [], _∷_}
+use Prim.Native.Nat.{ℕ, zero, suc, _+_, _-_, _≤_, _<_}
 use native.Mathlib.Omega.{arith}
-use lib.ListN.{length, getD, take, set}
-use lib.Seq.{take-suc-set}
+use lib.ListN.{length}
 use lib.Dec.{eqb}
+use borrow.Author.Tests.{eqb-false}
 use Rattle.model.specs.declared.Root.{Root}
-use Rattle.model.specs.Sizes.{pageWords}
 use Rattle.model.specs.Pages.{pageOf, linkOf, linkSound, pageSound}
 use Rattle.model.specs.Chains.{Checked, damaged, sound, soundIf, andThen, overflowFrom, listFrom}
+use Rattle.model.proofs.Laws.Lists.{All}
+use Rattle.model.proofs.Laws.Filling.{IsOverflow}
 use Rattle.chains.specs.Walks.{counted}
 use Rattle.chains.specs.declared.Walked.the-variants as Walked
-use Rattle.chains.proofs.Tests.{named-within}
-use Rattle.chains.proofs.Lists.{LeadsTo, ends, goes-on, walked-leads}
+use Rattle.chains.proofs.Tests.{named-within, sound-named, sound-page-links}
+use Rattle.chains.proofs.Lists.{LeadsTo, ends, goes-on, Apart, walked-leads, later-apart}
 use Rattle.free_list.specs.Giving.{listed}
-use Rattle.page_lists.specs.Recording.{pagesFrom, CanFollow, none, one-more}
+use Rattle.free_list.proofs.Giving.{listed-length}
 
--- ---- The loop
+-- Link l leads to n pages, and they were walked without damage.
+pub record Walk (r : Root) (ps : List ℕ) (l n : ℕ) : Type 0 where
+  pub links : linkSound r l ≡ true
+  pub walked : counted (listFrom r ps l) ≡ Walked.Pages n
 
--- What is known of the next page.
-pub record NextPage (ps : List ℕ) (n l : ℕ) : Type 0 where
-  pub linked : 1 ≤ l
-  pub fits : (l - 1) * pageWords + pageWords ≤ length ps
-  pub rest : CanFollow ps (n - 1) (linkOf (pageOf ps (l - 1)))
+-- The first page of such a list is an overflow page, and the others are a list from its link on, which does not have it.
+pub record NextPage (r : Root) (ps : List ℕ) (l n : ℕ) : Type 0 where
+  pub above : r .chains < l
+  pub below : l ≤ r .chains + r .overflow
+  pub rest : Walk r ps (linkOf (pageOf ps (l - 1))) (n - 1)
+  pub pages : listed (listFrom r ps l) ≡ (l - 1) ∷ listed (listFrom r ps (linkOf (pageOf ps (l - 1))))
+  pub apart : Apart (l - 1) (listed (listFrom r ps (linkOf (pageOf ps (l - 1)))))
 
-pub next-page : (ps : List ℕ) {n l : ℕ} → 0 < n → CanFollow ps n l → NextPage ps n l
-next-page ps more none = absurd (omega arith)
-next-page ps more (one-more {n} linked fits rest) = let e : suc n - 1 ≡ n = omega arith in record { linked = linked; fits = fits; rest = rw e rest }
+module _ (r : Root) (ps : List ℕ) where
+  -- ---- Page by page
 
--- One page more is recorded.
-pub recorded-more : (ps list whole : List ℕ) (i left l : ℕ) → i < length list → 0 < left → take i list ++ pagesFrom ps left l ≡ whole
-    → take (i + 1) (set list i (l - 1)) ++ pagesFrom ps (left - 1) (linkOf (pageOf ps (l - 1))) ≡ whole
-unfolding pagesFrom
-recorded-more ps list whole i left l room more e =
-    let q : left ≡ suc (left - 1) = omega arith in
-    let rest = pagesFrom ps (left - 1) (linkOf (pageOf ps (l - 1))) in
-    let here : pagesFrom ps left l ≡ (l - 1) ∷ rest = ap (λ (n : ℕ). pagesFrom ps n l) q in
-    rw add-one
-    (ap (λ (xs : List ℕ). xs ++ rest) (take-suc-set list i (l - 1) room)
-    ∙ append-assoc (take i list) ((l - 1) ∷ []) rest
-    ∙ ap (λ (xs : List ℕ). take i list ++ xs) (sym here)
-    ∙ e)
+  -- A walk that may go further finds the same pages.
+  longer-walk : (n l : ℕ) (xs : List ℕ) → overflowFrom r ps n l ≡ sound xs → overflowFrom r ps (suc n) l ≡ sound xs
+  unfolding overflowFrom
+  longer-walk zero l xs e = go (eqb l 0) _ e
+    where
+      go : (b : Bool) (more : Checked (List ℕ)) → soundIf b [] ≡ sound xs → cond b (sound []) more ≡ sound xs
+      go true more e = e
+      go false more e = absurd (let z : _≡_ {A = ℕ} 0 1 = cc in omega arith)
+  longer-walk (suc n) l xs e =
+      go (λ ys. longer-walk n (linkOf (pageOf ps (l - 1))) ys) (eqb l 0) (pageSound r (pageOf ps (l - 1))) (overflowFrom r ps n (linkOf (pageOf ps (l - 1)))) refl e
+    where
+      go : ((ys : List ℕ) → overflowFrom r ps n (linkOf (pageOf ps (l - 1))) ≡ sound ys → overflowFrom r ps (suc n) (linkOf (pageOf ps (l - 1))) ≡ sound ys)
+          → (b g : Bool) (rest : Checked (List ℕ)) → rest ≡ overflowFrom r ps n (linkOf (pageOf ps (l - 1)))
+          → cond b (sound []) (cond g (andThen rest (λ ys. sound ((l - 1) ∷ ys))) damaged) ≡ sound xs
+          → cond b (sound []) (cond g (andThen (overflowFrom r ps (suc n) (linkOf (pageOf ps (l - 1)))) (λ ys. sound ((l - 1) ∷ ys))) damaged) ≡ sound xs
+      go next true g rest er e = e
+      go next false false rest er e = e
+      go next false true damaged er e = absurd (let z : _≡_ {A = ℕ} 0 1 = cc in omega arith)
+      go next false true (sound ys) er e = rw (next ys (sym er)) e
 
-pub recorded-all : (ps list whole : List ℕ) (i left l : ℕ) → left ≤ 0 → take i list ++ pagesFrom ps left l ≡ whole → take i list ≡ whole
-unfolding pagesFrom
-recorded-all ps list whole i left l done e =
-    let z : left ≡ 0 = omega arith in
-    sym (ap (λ (n : ℕ). take i list ++ pagesFrom ps n l) z ∙ append-nil (take i list)) ∙ e
+  -- A walk that found xs, which are some: the first is where l leads, and the others are found from its link on.
+  record Found (k l : ℕ) (xs : List ℕ) : Type 0 where
+    other : l ≡ 0 → ⊥
+    next : linkSound r (linkOf (pageOf ps (l - 1))) ≡ true
+    later : List ℕ
+    rest : overflowFrom r ps k (linkOf (pageOf ps (l - 1))) ≡ sound later
+    same : xs ≡ (l - 1) ∷ later
 
--- ---- A list that was walked
-
--- The pages xs are what n pages from link l on are, they can be followed, and they are overflow pages.
-pub record Walk (r : Root) (ps : List ℕ) (l n : ℕ) (xs : List ℕ) : Type 0 where
-  pub count : length xs ≡ n
-  pub followed : CanFollow ps n l
-  pub pages : pagesFrom ps n l ≡ xs
-  pub within : (k : ℕ) → k < length xs → getD xs k 0 < r .chains + r .overflow
-
-module _ (r : Root) (ps : List ℕ) (fits : pageWords * (r .chains + r .overflow) ≤ length ps) where
-  leads-walk : {l : ℕ} {xs : List ℕ} → LeadsTo r ps l xs → Walk r ps l (length xs) xs
-  unfolding pagesFrom
-  leads-walk ends = record { count = refl; followed = none; pages = refl; within = λ k h. absurd (omega arith) }
-  leads-walk (goes-on {l} {xs} named u) =
-      let w = named-within r l named in
-      let rest = leads-walk u in
-      let here : l - 1 < r .chains + r .overflow = omega (arith, w .0, w .1) in
-      record {
-        count = refl;
-        followed = one-more {l = l} (omega (arith, w .0)) (omega (arith, w .0, w .1)) (rest .followed);
-        pages = ap (λ (ys : List ℕ). (l - 1) ∷ ys) (rest .pages);
-        within = also (l - 1) xs here (rest .within);
+  found : (k l : ℕ) (xs : List ℕ) → 0 < length xs → overflowFrom r ps k l ≡ sound xs → Found k l xs
+  unfolding overflowFrom
+  found zero l xs some e = go (eqb l 0) e
+    where
+      go : (b : Bool) → soundIf b [] ≡ sound xs → Found zero l xs
+      go true e = absurd (let q : xs ≡ [] = cc in omega (arith, ap length q))
+      go false e = absurd (let z : _≡_ {A = ℕ} 0 1 = cc in omega arith)
+  found (suc k) l xs some e = go (eqb l 0) (pageSound r (pageOf ps (l - 1))) (overflowFrom r ps k (linkOf (pageOf ps (l - 1)))) refl refl refl e
+    where
+      go : (b g : Bool) (rest : Checked (List ℕ)) → b ≡ eqb l 0 → g ≡ pageSound r (pageOf ps (l - 1)) → rest ≡ overflowFrom r ps k (linkOf (pageOf ps (l - 1)))
+          → cond b (sound []) (cond g (andThen rest (λ ys. sound ((l - 1) ∷ ys))) damaged) ≡ sound xs → Found (suc k) l xs
+      go true g rest eb eg er e = absurd (let q : xs ≡ [] = cc in omega (arith, ap length q))
+      go false false rest eb eg er e = absurd (let z : _≡_ {A = ℕ} 0 1 = cc in omega arith)
+      go false true damaged eb eg er e = absurd (let z : _≡_ {A = ℕ} 0 1 = cc in omega arith)
+      go false true (sound ys) eb eg er e = record {
+        other = eqb-false _ _ (sym eb);
+        next = sound-page-links r (pageOf ps (l - 1)) (sym eg);
+        later = ys;
+        rest = longer-walk k (linkOf (pageOf ps (l - 1))) ys (sym er);
+        same = cc;
       }
-    where
-      also : (x : ℕ) (xs : List ℕ) → x < r .chains + r .overflow → ((k : ℕ) → k < length xs → getD xs k 0 < r .chains + r .overflow)
-          → (k : ℕ) → k < length (x ∷ xs) → getD (x ∷ xs) k 0 < r .chains + r .overflow
-      also x xs here rest zero h = here
-      also x xs here rest (suc k) h = rest k (omega arith)
 
-  pub list-walk : (l n : ℕ) → linkSound r l ≡ true → counted (listFrom r ps l) ≡ Walked.Pages n → Walk r ps l n (listed (listFrom r ps l))
+  pub next-page : {l n : ℕ} → 0 < n → Walk r ps l n → NextPage r ps l n
   unfolding listFrom
-  list-walk l n s e = go (listFrom r ps l) refl e
+  next-page {l} {n} some w = go (listFrom r ps l) refl (w .walked)
     where
-      go : (x : Checked (List ℕ)) → x ≡ listFrom r ps l → counted x ≡ Walked.Pages n → Walk r ps l n (listed x)
+      go : (x : Checked (List ℕ)) → x ≡ listFrom r ps l → counted x ≡ Walked.Pages n → NextPage r ps l n
       go damaged ex e = absurd (let z : _≡_ {A = ℕ} 0 1 = cc in omega arith)
       go (sound xs) ex e =
           let count : length xs ≡ n = cc in
-          rw (← count) (leads-walk (walked-leads r ps (r .overflow) l xs s (sym ex)))
+          let f = found (r .overflow) l xs (omega arith) (sym ex) in
+          let named = sound-named r l (f .other) (w .links) in
+          let long : length xs ≡ suc (length (f .later)) = ap length (f .same) in
+          let fewer : length (f .later) ≡ n - 1 = omega arith in
+          let here = walked-leads r ps (r .overflow) l xs (w .links) (sym ex) in
+          let further = walked-leads r ps (r .overflow) (linkOf (pageOf ps (l - 1))) (f .later) (f .next) (f .rest) in
+          record {
+            above = named-within r l named .0;
+            below = named-within r l named .1;
+            rest = record { links = f .next; walked = ap counted (f .rest) ∙ ap Walked.Pages fewer };
+            pages = ap listed (sym ex) ∙ f .same ∙ ap (λ (ys : Checked (List ℕ)). (l - 1) ∷ listed ys) (sym (f .rest));
+            apart = rw (f .rest) (later-apart r ps named here further (omega arith));
+          }
 
--- ---- How long a list can be
+  pub no-page : {l n : ℕ} → n ≤ 0 → Walk r ps l n → listed (listFrom r ps l) ≡ []
+  no-page {l} {n} none w = go (listed (listFrom r ps l)) (listed-length (listFrom r ps l) n (w .walked))
+    where
+      go : (xs : List ℕ) → length xs ≡ n → xs ≡ []
+      go [] e = refl
+      go (x ∷ xs) e = absurd (omega arith)
 
-module _ (r : Root) (ps : List ℕ) where
+  leads-overflow : {l : ℕ} {xs : List ℕ} → LeadsTo r ps l xs → All (IsOverflow r) xs
+  leads-overflow ends = tt
+  leads-overflow (goes-on {l} named u) =
+      let w = named-within r l named in
+      (record { above = omega (arith, w .0); below = omega (arith, w .0, w .1) }, leads-overflow u)
+
+  pub all-overflow : {l n : ℕ} → Walk r ps l n → All (IsOverflow r) (listed (listFrom r ps l))
+  unfolding listFrom
+  all-overflow {l} w = go (listFrom r ps l) refl
+    where
+      go : (x : Checked (List ℕ)) → x ≡ listFrom r ps l → All (IsOverflow r) (listed x)
+      go damaged ex = tt
+      go (sound xs) ex = leads-overflow (walked-leads r ps (r .overflow) l xs (w .links) (sym ex))
+
+  -- ---- How long a list can be
+
   walk-at-most : (n l : ℕ) (xs : List ℕ) → overflowFrom r ps n l ≡ sound xs → length xs ≤ n
   unfolding overflowFrom
   walk-at-most zero l xs e = go (eqb l 0) e

@@ -4,14 +4,16 @@
 ghost use mathlib.Core.Path.{_≡_};
 ghost use mathlib.Core.List.{List};
 ghost use Prim.Native.Nat.{ℕ, _<_};
+ghost use lib.ListN.{length};
 ghost use Rattle.model.specs.Pages.{pageOf, scratchPage};
-ghost use Rattle.model.specs.Ready.{viewing, leftBy};
 ghost use Rattle.model.specs.Steps.Change as Change;
+ghost use Rattle.records.specs.Words.{recordWords, partyIn, seen, left};
 ghost use Rattle.endings.specs.Scratch.{HasScratch};
 use model::PageAddress;
-use model::Party;
 use model::Root;
-use model::Stepped;
+use model::StepAnswer;
+use records::CHAIN;
+use records::DAMAGE;
 
 // The sixteen words of party q's scratch page.
 pub fn scratch_of(root: Root, q: u32, pages: &[u32]) -> [u32; 16]
@@ -21,16 +23,22 @@ pub fn scratch_of(root: Root, q: u32, pages: &[u32]) -> [u32; 16]
     page_io::load(pages, endings::scratch_page(root, q))
 }
 
-// "11 write the primary page", "18 write the old chain's primary page": "The scratch page counts as followed where it is read".
-pub fn primary_written(root: Root, party: Party, q: u32, pages: &mut [u32], next: u32) -> Stepped
-    requires { ⌜ (HasScratch root q (now pages)) × (party .chain < root .chains) ⌝ }
-    ensures { λ r. ⌜ ((ls : List ℕ) → leftBy r q ls (now (pages .exit)) ≡ Change.primaryWritten (viewing root party q ls (now (pages .entry))) next) ⌝ }
+// "11 write the primary page", "18 write the old chain's primary page": "The scratch page counts as followed where it is read". The party is then at step `next`.
+pub fn primary_written(
+    root: Root,
+    party: &mut [u32],
+    q: u32,
+    pages: &mut [u32],
+    next: u32,
+) -> StepAnswer
+    requires { ⌜ (length (now party) ≡ recordWords) × (HasScratch root q (now pages)) × (partyIn (now party) .chain < root .chains) ⌝ }
+    ensures { λ a. ⌜ ((ls : List ℕ) → left a root (now (party .exit)) q ls (now (pages .exit)) ≡ Change.primaryWritten (seen root (now (party .entry)) q ls (now (pages .entry))) next) ⌝ }
 {
     let w = scratch_of(root, q, &pages[..]);
-    if chains::page_sound(root, w) {
-        page_io::store(pages, PageAddress(party.chain), w);
-        endings::moved(root, step_paths::at_step(party, next))
-    } else {
-        endings::refused(root, party)
+    if !chains::page_sound(root, w) {
+        return StepAnswer::Refused(DAMAGE);
     }
+    page_io::store(pages, PageAddress(party[CHAIN]), w);
+    records::at_step(party, next);
+    StepAnswer::Moved
 }

@@ -1,2 +1,6 @@
 -- Laws that the proofs of this crate share.
-pub mod Halves
+pub mod Looking
+pub mod Halving
+pub mod HalvesWritten
+pub mod Cases
+pub mod Divided

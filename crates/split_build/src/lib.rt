@@ -1,129 +1,155 @@
-// Step 17, inside an insert (document 01, "The thirty steps"): the keys of a chain are divided over it and the new chain.
-// Main statement: step_17 is the model's step17, for every word that the memory may hold.
+// Step 17, inside an insert (document 01, "The thirty steps"): the keys of a chain are divided over it and the new chain, read where they stand.
+// Main statements: division_of counts both halves; write_halves is bothWritten of them; step_17 is the model's step17, for every word that the memory may hold.
 
 ghost use mathlib.Core.Path.{_≡_};
-ghost use Prim.Native.Nat.{_<_};
-ghost use Rattle.model.specs.Ready.{Ready, viewing, leftBy};
+ghost use Prim.Native.Nat.{_+_};
+ghost use lib.ListN.{length};
 ghost use Rattle.model.specs.Steps.Split as Split;
-ghost use Rattle.split_build.specs.Dividing.{CanDivide, CanSplit};
-use chains::Walked;
+ghost use Rattle.records.specs.Words.{recordWords, rootIn, seen, left, AtHand};
+ghost use Rattle.key_source.specs.Sources.{keysOf};
+ghost use Rattle.chain_writer.specs.Writing.{linkedPages};
+ghost use Rattle.split_build.specs.Dividing.{recordsOf, halved, stayingFrom, goingFrom, Divides, CanDivide, firstNeed, bothNeed, both, CanWriteHalves, bothWritten, CanSplit};
+use chain_scan::Looked;
+use chain_scan::Scan;
+use chain_writer::Planned;
+use chain_writer::Rest;
+use free_list::Drawn;
+use key_source::Choice;
+use key_source::Halving;
+use key_source::Place;
+use key_source::Source;
 use model::ChainAddress;
-use model::Party;
+use model::PageAddress;
+use model::Restructuring;
 use model::Root;
-use model::Stepped;
+use model::StepAnswer;
+use records::CHAIN;
+use records::DAMAGE;
+use records::FREE;
+use records::HEAD;
+use records::OLD;
+use records::OTHER;
 
-// Step 17 once the n overflow pages of the chain were walked. All keys are gathered before a word is written.
+// A chain to be divided: how, from where, and how many of its keys stay and go.
+struct Division {
+    halving: Halving,
+    place: Place,
+    staying: u32,
+    going: u32,
+}
+
+// The division of a chain that was looked through.
+fn division_of(root: Root, chain: ChainAddress, l: Looked, pages: &[u32]) -> Division
+    requires { ⌜ CanDivide root (now pages) (chain .0) l ⌝ }
+    ensures { λ d. ⌜ Divides (now (pages .entry)) (halved root (chain .0) (recordsOf (now (pages .entry)) (chain .0) (l .pages))) d ⌝ }
+{
+    let halving = Halving {
+        originals: root.originals,
+        level: root.level + 1,
+        chain: chain,
+    };
+    let place = key_source::first_place(pages, PageAddress(chain.0), l.pages);
+    let kept = Source {
+        choice: Choice::Staying(halving),
+        place: place,
+    };
+    let staying = key_source::count(pages, kept);
+    Division {
+        halving: halving,
+        place: place,
+        staying: staying,
+        going: l.count - staying,
+    }
+}
+
+// Both halves are written: the staying one to scratch and on to the first free pages, then the other one to its chain.
+fn write_halves(
+    root: Root,
+    d: Division,
+    scratch: PageAddress,
+    other: PageAddress,
+    pages: &mut [u32],
+)
+    requires { ⌜ CanWriteHalves root (now pages) d (scratch .0) (other .0) ⌝ }
+    ensures { λ _. ⌜ now (pages .exit) ≡ bothWritten (root .keys) (root .level + 1) (other .0) (scratch .0) (both (keysOf (now (pages .entry)) (stayingFrom d)) (keysOf (now (pages .entry)) (goingFrom d))) (firstNeed root d) (linkedPages (now (pages .entry)) (bothNeed root d) (root .head)) (now (pages .entry)) ⌝ }
+{
+    let level = root.level + 1;
+    let halving = d.halving;
+    let place = d.place;
+    let stay = Planned {
+        level: level,
+        left: d.staying,
+        source: Source {
+            choice: Choice::Staying(halving),
+            place: place,
+        },
+        to: scratch,
+    };
+    let go = Planned {
+        level: level,
+        left: d.going,
+        source: Source {
+            choice: Choice::Going(halving),
+            place: place,
+        },
+        to: other,
+    };
+    chain_writer::write_chain(root.keys, stay, root.head, Rest::Chain(go), pages);
+}
+
+// "Too few free pages: take none, give up both locks, done, split skipped."
 fn divide(
-    root: Root,
-    party: Party,
+    root: &mut [u32],
+    party: &mut [u32],
     q: u32,
-    n: u32,
+    l: Looked,
     locks: &mut [u32],
     pages: &mut [u32],
-    keys: &mut [u32],
-    stay: &mut [u32],
-    go: &mut [u32],
-    taken: &mut [u32],
-) -> Stepped
-    requires { ⌜ CanDivide root party q n (now locks) (now pages) (now keys) (now stay) (now go) (now taken) ⌝ }
-    ensures { λ r. ⌜ leftBy r q (now (locks .exit)) (now (pages .exit)) ≡ Split.step17 (viewing root party q (now (locks .entry)) (now (pages .entry))) ⌝ }
+) -> StepAnswer
+    requires { ⌜ CanSplit (now root) (now party) q l (now locks) (now pages) ⌝ }
+    ensures { λ a. ⌜ left a (rootIn (now (root .exit))) (now (party .exit)) q (now (locks .exit)) (now (pages .exit)) ≡ Split.step17 (seen (rootIn (now (root .entry))) (now (party .entry)) q (now (locks .entry)) (now (pages .entry))) ⌝ }
 {
-    let chain = ChainAddress(party.chain);
-    let g = chain_keys::gather(root, chain, n, &pages[..], keys);
-    if g.ok {
-        let count = g.count;
-        let level = root.level + 1;
-        let kept = key_lists::halves(root.originals, level, chain, &keys[0..count], stay, go);
-        let away = count - kept;
-        let link = g.link;
-        return halves_build::divide_with(
-            root,
-            party,
-            q,
-            link,
-            &stay[0..kept],
-            &go[0..away],
-            locks,
-            pages,
-            taken,
-        );
+    let r = records::root_of(&root[..]);
+    let chain = party[CHAIN];
+    let d = division_of(r, ChainAddress(chain), l, &pages[..]);
+    let first = page_fill::pages_for(r.keys, d.staying as usize);
+    let k = (first + page_fill::pages_for(r.keys, d.going as usize)) as u32;
+    if r.free < k {
+        let made = Restructuring::SplitSkipped;
+        return last_locks::ended_with_split(r, party, q, locks, pages, made);
     }
-    endings::refused(root, party)
-}
-
-// Step 17 on a chain of few pages: at most ten pages of twelve keys each.
-fn divide_few(
-    root: Root,
-    party: Party,
-    q: u32,
-    n: u32,
-    locks: &mut [u32],
-    pages: &mut [u32],
-) -> Stepped
-    requires { ⌜ CanSplit root party q n (now locks) (now pages) × (n < 10) ⌝ }
-    ensures { λ r. ⌜ leftBy r q (now (locks .exit)) (now (pages .exit)) ≡ Split.step17 (viewing root party q (now (locks .entry)) (now (pages .entry))) ⌝ }
-{
-    let mut taken = [0u32; 752];
-    let mut keys = [0u32; 128];
-    let mut stay = [0u32; 128];
-    let mut go = [0u32; 128];
-    divide(
-        root,
-        party,
-        q,
-        n,
-        locks,
-        pages,
-        &mut keys[..],
-        &mut stay[..],
-        &mut go[..],
-        &mut taken[..],
-    )
-}
-
-// Step 17 where a split is not barred and the chain was walked. The buffers go by the pages walked, as at 10.
-fn divide_walked(
-    root: Root,
-    party: Party,
-    q: u32,
-    n: u32,
-    locks: &mut [u32],
-    pages: &mut [u32],
-) -> Stepped
-    requires { ⌜ CanSplit root party q n (now locks) (now pages) ⌝ }
-    ensures { λ r. ⌜ leftBy r q (now (locks .exit)) (now (pages .exit)) ≡ Split.step17 (viewing root party q (now (locks .entry)) (now (pages .entry))) ⌝ }
-{
-    if n < 10 {
-        return divide_few(root, party, q, n, locks, pages);
+    match free_list::draw(r, k, &pages[..]) {
+        Drawn::Damaged => StepAnswer::Refused(DAMAGE),
+        Drawn::Head(head) => {
+            let link = free_list::link_at(&pages[..], PageAddress(chain));
+            let scratch = endings::scratch_page(r, q);
+            write_halves(r, d, scratch, PageAddress(party[OTHER]), pages);
+            root[HEAD] = head;
+            root[FREE] = r.free - k;
+            party[OLD] = link;
+            records::at_step(party, 18);
+            StepAnswer::Moved
+        }
     }
-    let mut taken = [0u32; 752];
-    let mut keys = [0u32; 9040];
-    let mut stay = [0u32; 9040];
-    let mut go = [0u32; 9040];
-    divide(
-        root,
-        party,
-        q,
-        n,
-        locks,
-        pages,
-        &mut keys[..],
-        &mut stay[..],
-        &mut go[..],
-        &mut taken[..],
-    )
 }
 
 // "17 divide the chain's keys: keys whose h_(level+1) is the chain stay, the rest go." "n = P at 17" is damage.
-pub fn step_17(root: Root, party: Party, q: u32, locks: &mut [u32], pages: &mut [u32]) -> Stepped
-    requires { ⌜ Ready (viewing root party q (now locks) (now pages)) ⌝ }
-    ensures { λ r. ⌜ leftBy r q (now (locks .exit)) (now (pages .exit)) ≡ Split.step17 (viewing root party q (now (locks .entry)) (now (pages .entry))) ⌝ }
+pub fn step_17(
+    root: &mut [u32],
+    party: &mut [u32],
+    q: u32,
+    locks: &mut [u32],
+    pages: &mut [u32],
+) -> StepAnswer
+    requires { ⌜ (length (now root) ≡ recordWords) × AtHand (rootIn (now root)) (now party) q (now locks) (now pages) ⌝ }
+    ensures { λ a. ⌜ left a (rootIn (now (root .exit))) (now (party .exit)) q (now (locks .exit)) (now (pages .exit)) ≡ Split.step17 (seen (rootIn (now (root .entry))) (now (party .entry)) q (now (locks .entry)) (now (pages .entry))) ⌝ }
 {
-    if addressing::split_barred(root) {
-        return endings::refused(root, party);
+    let r = records::root_of(&root[..]);
+    if addressing::split_barred(r) {
+        return StepAnswer::Refused(DAMAGE);
     }
-    match chain_keys::walk(root, ChainAddress(party.chain), &pages[..]) {
-        Walked::Damaged => endings::refused(root, party),
-        Walked::Pages(n) => divide_walked(root, party, q, n, locks, pages),
+    match chain_scan::look_through(r, ChainAddress(party[CHAIN]), 0, &pages[..]) {
+        Scan::Damaged => StepAnswer::Refused(DAMAGE),
+        Scan::Sound(l) => divide(root, party, q, l, locks, pages),
     }
 }

@@ -1,17 +1,17 @@
 -- The locking steps of a split by their cases, over what the code's tests and calls answered.
--- Main statements: next-is-chain, barred-ends, open-requests (16); chain-left (19); done-where-no-old, old-first (where 22 leads); held-leaves, unheld-refused (22).
-use mathlib.Core.Path.{_≡_, refl}
+-- Main statements: next-is-chain, barred-ends, open-requests, grant-writes (16); chain-left (19); done-where-no-old, old-first (where 22 leads); held-leaves, unheld-refused (22).
+use mathlib.Core.Path.{_≡_, refl, ap, _∙_}
 use mathlib.Core.Bool.{Bool, true, false}
 use mathlib.Core.List.{List, [], _∷_}
 use Prim.Native.Nat.{ℕ, _<_}
 use native.Mathlib.Omega.{arith}
-use lib.ListN.{getD}
+use lib.ListN.{length, getD, set, length-set}
 use borrow.Author.Tests.{eq-eqb, ne-eqb}
 use Rattle.model.specs.declared.Root.{Root}
 use Rattle.model.specs.declared.Party.{Party}
 use Rattle.model.specs.declared.Mode.the-variants.{Selective}
 use Rattle.model.specs.declared.Restructuring.the-variants as Restructuring
-use Rattle.model.specs.Records.{atStep, withOwed}
+use Rattle.model.specs.Records.{atStep, withChain, withOther, withOwed}
 use Rattle.model.specs.LockWords.{claim, rootWord, chainWord, holds}
 use Rattle.model.specs.Addresses.{chainCount, splitBarred}
 use Rattle.model.specs.Outcome.{View, Outcome, withParty, refuse, damage, moved, request, withoutHold, givenUp}
@@ -19,8 +19,10 @@ use Rattle.model.specs.Ready.{Ready, viewing}
 use Rattle.model.specs.Steps.Locate.{release}
 use Rattle.model.specs.Steps.Change.{oldPagesFirst, finished}
 use Rattle.model.specs.Steps.Split.{countOfChains, rootSelective, endedWith, splitting, step16, step19, step22}
-use Rattle.step_paths.specs.Words.{leftAfter}
-use Rattle.step_paths.proofs.Releases.{held-goes-on, not-held-refused}
+use Rattle.records.specs.Words.{recordWords, partyIn}
+use Rattle.records.proofs.Words.{chain-written, other-written}
+use Rattle.lock_requests.specs.Words.{leftAfter}
+use Rattle.lock_requests.proofs.Releases.{held-goes-on, not-held-refused}
 use Rattle.split_locks.specs.Leaving.{splitMade}
 
 -- Chain next is one of the chains there are.
@@ -40,6 +42,17 @@ module _ (v : View) {b : Bool} (e : b ≡ splitBarred (countOfChains (v .root)) 
       → o ≡ request v (claim i Selective) p → o ≡ step16 v
   unfolding step16
   open-requests h ei ep eo = rw (← e, h, ← ei, ← ep) eo
+
+-- The words that a grant at 16 writes; n is the number of chains as the code found it.
+pub grant-writes : (r : Root) (w : List ℕ) {n : ℕ} {p : Party} → length w ≡ recordWords → n ≡ countOfChains r → p ≡ atStep 17 (partyIn (set (set w 4 (r .next)) 5 n))
+    → p ≡ splitting r (partyIn w)
+unfolding splitting
+grant-writes r w {n} long en ep =
+    let p = partyIn w in
+    ep
+    ∙ ap (λ (x : Party). atStep 17 x) (other-written (set w 4 (r .next)) n (simp length-set long))
+    ∙ ap (λ (x : Party). atStep 17 (withOther n x)) (chain-written w (r .next) long)
+    ∙ ap (λ (m : ℕ). atStep 17 (withOther m (withChain (r .next) p))) en
 
 -- ---- 19
 

@@ -1,23 +1,40 @@
--- `calls::step` meets its contract.
-use mathlib.Core.Path.{sym, _∙_}
-use Rattle.gates.proofs.Accepted.{ready}
-use Rattle.calls.proofs.Calling.{step-refused, step-stepped}
+-- `calls::step` meets its contract: what step_in_place ensures, of the records that the words make.
+use mathlib.Core.Path.{sym, ap, ap₂, _∙_}
+use lib.ListN.{set}
+use Rattle.model.specs.declared.Root.{Root}
+use Rattle.model.specs.declared.Party.{Party}
+use Rattle.model.specs.Calls.{called, stepCall}
+use Rattle.calls.specs.Lent.{lent}
 use borrow.Author.Needs.{needs}
 use Rattle.calls.proofs.step.Statement.{statement}
 use Rattle.calls.proofs.step.Tie as tie
 
-step-cause-requires : tie.Need-step-cause-requires
-step-cause-requires c κs = search needs
+words-of-root-requires : tie.Need-words-of-root-requires
+words-of-root-requires c κs = search needs
 
-returns : tie.Need-returns
-returns c =
-    let a = c .before .before .before .before .args in
-    λ row many here. step-refused (a .root) row (a .locks .now) (a .pages .now) (a .parties) many (a .q) _ (a .party) here (c .before .step-cause .ensures) (c .if1 .taken)
+words-of-party-requires : tie.Need-words-of-party-requires
+words-of-party-requires c κs = search needs
 
-step-by-number-requires : tie.Need-step-by-number-requires
-step-by-number-requires c κs =
-    let a = c .before .before .before .before .before .before .args in
-    ready (a .root) (a .party) (a .parties) (a .q) (a .locks .now) (a .pages .now) (sym (c .before .before .before .step-cause .ensures) ∙ c .before .before .if1 .left)
+slice-aggregate-step-in-place : tie.Need-slice-aggregate-step-in-place
+slice-aggregate-step-in-place c = search needs
+
+slice-aggregate-step-in-place-2 : tie.Need-slice-aggregate-step-in-place-2
+slice-aggregate-step-in-place-2 c = search needs
+
+step-in-place-requires : tie.Need-step-in-place-requires
+step-in-place-requires c κs = search needs
+
+slice-aggregate-root-of : tie.Need-slice-aggregate-root-of
+slice-aggregate-root-of c = search needs
+
+root-of-requires : tie.Need-root-of-requires
+root-of-requires c κs = search needs
+
+slice-aggregate-party-of : tie.Need-slice-aggregate-party-of
+slice-aggregate-party-of c = search needs
+
+party-of-requires : tie.Need-party-of-requires
+party-of-requires c κs = search needs
 
 same-length : tie.Need-same-length
 same-length c = search needs
@@ -25,19 +42,33 @@ same-length c = search needs
 same-length-2 : tie.Need-same-length-2
 same-length-2 c = search needs
 
-returns-2 : tie.Need-returns-2
-returns-2 c =
-    let a = c .before .before .before .before .before .before .before .before .before .before .before .args in
-    let cause = c .before .before .before .before .before .before .before .before .step-cause .ensures in
-    λ row many here. step-stepped (a .root) row (a .locks .now) (a .pages .now) (a .parties) many (a .q) _ (a .party) here cause (c .before .before .before .before .before .before .before .if1 .left) _ _ _ (c .before .before .before .before .step-by-number .ensures)
+returns : tie.Need-returns
+returns c = λ row many here.
+    let at-root-of = c .before .before in
+    let at-step-in-place = at-root-of .before .before .before .before .before .before .before .before in
+    let at-words-of-party = at-step-in-place .before .before .before .before .before in
+    let at-words-of-root = at-words-of-party .before in
+    let start = at-words-of-root .before .before .before in
+    let a = start .args in
+    let s = at-step-in-place .step-in-place in
+    let party = at-words-of-party .words-of-party .ensures in
+    ap₂ (λ (x : Root) (y : Party). called (s .result) (lent x (set row (a .q) y) (s .last .1 .1 .1 .1 .0) (s .last .1 .1 .1 .1 .1 .0))) (at-root-of .root-of .ensures) (c .party-of .ensures)
+    ∙ s .ensures row many (λ h. here h ∙ sym party)
+    ∙ ap (λ (x : Root). stepCall (lent x row (a .locks .now) (a .pages .now)) (a .q)) (at-words-of-root .words-of-root .ensures)
 
 pub step-spec : {M : Type 1} → statement M
 step-spec =
     tie.close
     (tie.spec
-    step-cause-requires
-    returns
-    step-by-number-requires
+    words-of-root-requires
+    words-of-party-requires
+    slice-aggregate-step-in-place
+    slice-aggregate-step-in-place-2
+    step-in-place-requires
+    slice-aggregate-root-of
+    root-of-requires
+    slice-aggregate-party-of
+    party-of-requires
     same-length
     same-length-2
-    returns-2)
+    returns)

@@ -13,10 +13,10 @@ use Rattle.chain_keys.proofs.copy_keys.Tie as tie
 
 abbrev Inv-loop : tie.InvT-loop
 Inv-loop keys₀ at w n i₀ keys i =
-    (n ≡ countOf w) × (n ≤ mostKeys) × (length w ≡ pageWords) × (i ≤ n) × (at + n ≤ length keys₀) × (length keys ≡ length keys₀) × (take (at + i) keys ≡ take at keys₀ ++ take i (drop 3 w))
+    (n ≡ countOf w) × (length w ≡ pageWords) × (i ≤ mostKeys) × (length keys ≡ length keys₀) × (take (at + i) keys ≡ take at keys₀ ++ take i (drop 3 w))
 
 abbrev μ-loop : tie.MeasureT-loop
-μ-loop keys₀ at w n i₀ keys i = n - i
+μ-loop keys₀ at w n i₀ keys i = mostKeys - i
 
 count-of-requires : tie.Need-count-of-requires Inv-loop μ-loop
 count-of-requires c κs = search needs
@@ -30,7 +30,7 @@ loop-holds c =
     let n = c .count-of .ensures in
     let q : a .at + 0 ≡ a .at = omega arith in
     let none : take (a .at + 0) (a .keys .now) ≡ take (a .at) (a .keys .now) ++ [] = ap (λ (k : ℕ). take k (a .keys .now)) q ∙ sym (append-nil (take (a .at) (a .keys .now))) in
-    (n, omega (arith, n), search needs, omega arith, omega (arith, n), refl, none)
+    (n, search needs, omega arith, refl, none)
 
 add-keys : tie.Need-add-keys Inv-loop μ-loop
 add-keys c = search needs
@@ -63,8 +63,8 @@ loop-again c =
     let more = c .loop-test .taken in
     let room : a .at + l .i < length (l .keys) = omega arith in
     let sixteen : length (a .t1) ≡ pageWords = search needs in
-    let copied = key-copied (a .keys .now) (l .keys) (a .t1) (a .at) (l .i) (l .inv .6) room (omega (arith, l .inv .1, more)) in
-    (l .inv .0, l .inv .1, l .inv .2, omega arith, l .inv .4, simp length-set (l .inv .5), copied)
+    let copied = key-copied (a .keys .now) (l .keys) (a .t1) (a .at) (l .i) (l .inv .4) room (omega (arith, more)) in
+    (l .inv .0, l .inv .1, omega arith, simp length-set (l .inv .3), copied)
 
 add-result : tie.Need-add-result Inv-loop μ-loop
 add-result c = search needs
@@ -76,9 +76,10 @@ returns : tie.Need-returns Inv-loop μ-loop
 returns c =
     let l = c .before .loop in
     let a = c .before .before .before .before .args in
-    let whole : l .i ≡ countOf (a .t1) = omega (arith, c .loop-test .left, l .inv .3, l .inv .0) in
-    let end : a .at + c .before .before .count-of .result ≡ a .at + l .i = omega (arith, c .loop-test .left, l .inv .3) in
-    (omega (arith, l .inv .0), ap (λ (n : ℕ). take n (l .keys)) end ∙ keys-copied (a .keys .now) (l .keys) (a .t1) (a .at) (l .i) (l .inv .6) whole)
+    let pre = c .before .before .before .before .pre in
+    let whole : countOf (a .t1) ≤ l .i = omega (arith, c .loop-test .left, l .inv .2, pre .0) in
+    let end : a .at + c .before .before .count-of .result ≡ a .at + countOf (a .t1) = omega (arith, l .inv .0) in
+    (end, ap (λ (n : ℕ). take n (l .keys)) end ∙ keys-copied (a .keys .now) (l .keys) (a .t1) (a .at) (l .i) (l .inv .4) (omega (arith, pre .1)) whole)
 
 pub copy-keys-spec : {M : Type 1} → statement M
 copy-keys-spec =

@@ -56,7 +56,7 @@ copy-keys-requires-2 c κs =
     let more = c .before .before .loop-test .taken in
     let few = next-page (a .pages .now) more (l .inv .2) .few in
     let page = ap countOf (c .before .load .ensures) in
-    (omega (arith, few, page), omega (arith, few, page, more, l .inv .0))
+    (omega (arith, few, page), omega (arith, more, l .inv .0))
 
 link-of-requires-2 : tie.Need-link-of-requires-2 Inv-loop μ-loop
 link-of-requires-2 c κs = search needs

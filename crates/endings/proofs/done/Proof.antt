@@ -1,6 +1,7 @@
 -- `endings::done` meets its contract.
-use mathlib.Core.Path.{refl}
+use mathlib.Core.Path.{refl, _∙_}
 use Rattle.model.specs.Pages.{zeroPage, filledPage}
+use Rattle.records.proofs.Words.{party-is, all-zero}
 use borrow.Author.Needs.{needs}
 use Rattle.endings.proofs.done.Statement.{statement}
 use Rattle.endings.proofs.done.Tie as tie
@@ -11,16 +12,24 @@ scratch-page-requires c κs = search needs
 store-requires : tie.Need-store-requires
 store-requires c κs = search needs
 
-idle-requires : tie.Need-idle-requires
-idle-requires c κs = search needs
+zero-requires : tie.Need-zero-requires
+zero-requires c κs = search needs
 
 same-length : tie.Need-same-length
 same-length c = search needs
 
+same-length-2 : tie.Need-same-length-2
+same-length-2 c = search needs
+
 returns : tie.Need-returns
 unfolding zeroPage filledPage
-returns c = λ p ls. rw (c .before .before .before .store .ensures, c .before .before .before .before .scratch-page .ensures, c .idle .ensures) refl
+returns c = λ p ls.
+    let stored = c .before .before .before .before .before .before in
+    let start = stored .before .before .before .before .before in
+    let zeroed = c .before .before .zero .ensures in
+    rw (zeroed, all-zero _ (start .pre .0), stored .store .ensures, stored .before .scratch-page .ensures) refl
 
 pub done-spec : {M : Type 1} → statement M
 done-spec =
-    tie.close (tie.spec scratch-page-requires store-requires idle-requires same-length returns)
+    tie.close
+    (tie.spec scratch-page-requires store-requires zero-requires same-length same-length-2 returns)

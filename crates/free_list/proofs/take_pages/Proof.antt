@@ -1,19 +1,20 @@
--- `free_list::take_pages` meets its contract.
+-- `free_list::take_pages` meets its contract. The loop's invariant: the pages recorded so far are those taken, and they are marked.
 use mathlib.Core.Path.{_≡_, refl, sym, ap, _∙_}
-use Prim.Native.Nat.{_+_, _-_, _≤_, _<_}
-use native.Mathlib.Omega.{arith}
 use mathlib.Core.Bool.{true}
-use lib.ListN.{length, getD, length-set}
-use Rattle.model.specs.Pages.{pageOf, linkOf, namesOverflow}
-use Rattle.chains.proofs.Tests.{named-within}
-use Rattle.free_list.proofs.Taking.{Taking, none-taken, unnamed-ends, marked-ends, one-taken, all-taken}
+use Prim.Native.Nat.{ℕ, _-_, _*_, _≤_, _<_}
+use native.Mathlib.Omega.{arith}
+use lib.ListN.{length, take, length-set}
+use Rattle.model.specs.Chains.{sound}
+use Rattle.free_list.specs.Marks.{namesNew}
+use Rattle.free_list.proofs.Marks.{new-within}
+use Rattle.free_list.proofs.Taking.{Taking, none-taken, none-new-ends, one-taken, all-taken, front-stored}
 use borrow.Author.Needs.{needs}
 use Rattle.free_list.proofs.take_pages.Statement.{statement}
 use Rattle.free_list.proofs.take_pages.Tie as tie
 
 abbrev Inv-loop : tie.InvT-loop
 Inv-loop root k pages taken₀ marks₀ l₀ i₀ taken marks l i =
-    (length marks ≡ 752) × (length taken ≡ length taken₀) × (i ≤ k) × Taking root pages k marks taken l i
+    (length marks ≡ 24) × (length taken ≡ length taken₀) × (i ≤ k) × Taking root pages k marks (take i taken) l i
 
 abbrev μ-loop : tie.MeasureT-loop
 μ-loop root k pages taken₀ marks₀ l₀ i₀ taken marks l i = k - i
@@ -21,44 +22,21 @@ abbrev μ-loop : tie.MeasureT-loop
 loop-holds : tie.Need-loop-holds Inv-loop μ-loop
 loop-holds c =
     let start = c .before .before in
-    (refl, refl, omega arith, none-taken (start .args .root) (start .args .pages .now) (start .args .k) (start .args .taken .now) (start .pre .1))
+    (refl, refl, omega arith, none-taken (start .args .root) (start .args .pages .now) (start .args .k) (start .pre .1))
 
-names-overflow-requires : tie.Need-names-overflow-requires Inv-loop μ-loop
-names-overflow-requires c κs = search needs
+slice-aggregate-names-new : tie.Need-slice-aggregate-names-new Inv-loop μ-loop
+slice-aggregate-names-new c = search needs
 
--- Where the link names an overflow page.
-named : (c : tie.Then1 Inv-loop μ-loop) → namesOverflow (c .before .before .before .before .before .before .args .root) (c .before .before .before .loop .l) ≡ true
-named c = sym (c .before .names-overflow .ensures) ∙ c .if1 .taken
+names-new-requires : tie.Need-names-new-requires Inv-loop μ-loop
+names-new-requires c κs = search needs
 
-within : (c : tie.Then1 Inv-loop μ-loop)
-    → (c .before .before .before .before .before .before .args .root .chains < c .before .before .before .loop .l)
-    × (c .before .before .before .loop .l ≤ c .before .before .before .before .before .before .args .root .chains + c .before .before .before .before .before .before .args .root .overflow)
-within c = named-within (c .before .before .before .before .before .before .args .root) (c .before .before .before .loop .l) (named c)
+-- Where the link names a new page.
+new : (c : tie.Then1 Inv-loop μ-loop)
+    → namesNew (c .before .before .before .before .before .before .before .before .args .root) (c .before .before .before .before .before .loop .marks) (c .before .before .before .before .before .loop .l) ≡ true
+new c = sym (c .before .before .names-new .ensures .0) ∙ c .if1 .taken
 
 sub-page : tie.Need-sub-page Inv-loop μ-loop
-sub-page c = omega (arith, within c .0)
-
-sub-j : tie.Need-sub-j Inv-loop μ-loop
-sub-j c = omega (arith, within (c .before) .0)
-
-cast-j : tie.Need-cast-j Inv-loop μ-loop
-cast-j c = omega (arith, within (c .before) .0, within (c .before) .1, c .before .before .before .before .before .before .before .pre .1)
-
-array-read-if2 : tie.Need-array-read-if2 Inv-loop μ-loop
-array-read-if2 c = omega (arith, within (c .before) .0, within (c .before) .1, c .before .before .before .before .before .before .before .pre .1)
-
-same-length : tie.Need-same-length Inv-loop μ-loop
-same-length c = search needs
-
-returns : tie.Need-returns Inv-loop μ-loop
-returns c =
-    let tested = c .before .before in
-    let l = tested .before .before .before .loop in
-    let a = tested .before .before .before .before .before .before .args in
-    marked-ends (a .root) (a .pages .now) (a .k) (l .marks) (l .taken) (l .l) (l .i) (l .inv .3) (tested .before .before .loop-test .taken) (named tested) (c .if2 .taken)
-
-array-write-marks : tie.Need-array-write-marks Inv-loop μ-loop
-array-write-marks c = omega (arith, within (c .before .before) .0, within (c .before .before) .1, c .before .before .before .before .before .before .before .before .pre .1)
+sub-page c = omega (arith, new-within _ _ _ (new c))
 
 mul-taken : tie.Need-mul-taken Inv-loop μ-loop
 mul-taken c = search needs
@@ -66,11 +44,8 @@ mul-taken c = search needs
 slice-write-taken : tie.Need-slice-write-taken Inv-loop μ-loop
 slice-write-taken c = search needs
 
-load-requires : tie.Need-load-requires Inv-loop μ-loop
-load-requires c κs = omega (arith, within (c .before .before) .0, within (c .before .before) .1, c .before .before .before .before .before .before .before .before .pre .0)
-
-link-of-requires : tie.Need-link-of-requires Inv-loop μ-loop
-link-of-requires c κs = search needs
+link-at-requires : tie.Need-link-at-requires Inv-loop μ-loop
+link-at-requires c κs = let w = new-within _ _ _ (new c) in omega (arith, w .0, w .1, c .before .before .before .before .before .before .before .before .pre .0)
 
 add-i : tie.Need-add-i Inv-loop μ-loop
 add-i c = search needs
@@ -80,35 +55,40 @@ loop-less c = search needs
 
 loop-again : tie.Need-loop-again Inv-loop μ-loop
 loop-again c =
-    let tested = c .before .before .before .before in
-    let l = tested .before .before .before .loop in
-    let start = tested .before .before .before .before .before .before in
+    let followed = c .before .before .before .names-new in
+    let l = c .before .before .before .before .before .before .loop in
+    let start = c .before .before .before .before .before .before .before .before .before in
     let a = start .args in
-    let more = tested .before .before .loop-test .taken in
-    let link : c .link-of .result ≡ linkOf (pageOf (a .pages .now) (l .l - 1)) = c .link-of .ensures ∙ ap linkOf (c .before .load .ensures) in
-    let long : a .root .overflow ≤ length (l .marks) = omega (arith, l .inv .0, start .pre .1) in
+    let more = c .before .before .before .before .before .loop-test .taken in
+    let long : a .root .overflow ≤ 32 * length (l .marks) = omega (arith, l .inv .0, start .pre .1) in
     let room : l .i < length (l .taken) = omega (arith, l .inv .1, more, start .pre .2) in
-    let clear : getD (l .marks) (l .l - 1 - a .root .chains) 0 ≡ 0 = omega (arith, c .before .before .if2 .left) in
-    let next = one-taken (a .root) (a .pages .now) (a .k) (l .marks) (l .taken) (l .l) (l .i) (l .inv .3) more (named tested) clear long room in
-    (simp length-set (l .inv .0), simp length-set (l .inv .1), omega (arith, more), rw link next)
+    let next = one-taken (a .root) (a .pages .now) (a .k) (l .marks) (take (l .i) (l .taken)) (l .l) (l .i) (l .inv .3) more (new (c .before)) long in (
+      followed .kept .1 .1 .0 ∙ l .inv .0,
+      simp length-set (l .inv .1),
+      omega (arith, more),
+      rw (followed .ensures .1, c .link-at .ensures, front-stored (l .taken) (l .i) (l .l - 1) room) next,
+    )
+
+same-length : tie.Need-same-length Inv-loop μ-loop
+same-length c = search needs
+
+returns : tie.Need-returns Inv-loop μ-loop
+returns c =
+    let l = c .before .before .before .before .before .loop in
+    let a = c .before .before .before .before .before .before .before .before .args in
+    let none = sym (c .before .before .names-new .ensures .0) ∙ c .if1 .left in
+    none-new-ends (a .root) (a .pages .now) (a .k) (l .marks) (take (l .i) (l .taken)) (l .l) (l .i) (l .inv .3) (c .before .before .before .before .loop-test .taken) none
 
 same-length-2 : tie.Need-same-length-2 Inv-loop μ-loop
 same-length-2 c = search needs
 
 returns-2 : tie.Need-returns-2 Inv-loop μ-loop
 returns-2 c =
-    let l = c .before .before .before .loop in
-    let a = c .before .before .before .before .before .before .args in
-    unnamed-ends (a .root) (a .pages .now) (a .k) (l .marks) (l .taken) (l .l) (l .i) (l .inv .3) (c .before .before .loop-test .taken) (sym (c .before .names-overflow .ensures) ∙ c .if1 .left)
-
-same-length-3 : tie.Need-same-length-3 Inv-loop μ-loop
-same-length-3 c = search needs
-
-returns-3 : tie.Need-returns-3 Inv-loop μ-loop
-returns-3 c =
     let l = c .before .loop in
     let a = c .before .before .before .before .args in
-    all-taken (a .root) (a .pages .now) (a .k) (l .marks) (l .taken) (l .l) (l .i) (l .inv .3) (c .loop-test .left) (l .inv .2)
+    let all : a .k ≡ l .i = omega (arith, c .loop-test .left, l .inv .2) in
+    ap (λ (n : ℕ). sound (record { pages = take n (l .taken); head = l .l })) all
+    ∙ all-taken (a .root) (a .pages .now) (a .k) (l .marks) (take (l .i) (l .taken)) (l .l) (l .i) (l .inv .3) (c .loop-test .left)
 
 pub take-pages-spec : {M : Type 1} → statement M
 take-pages-spec =
@@ -117,22 +97,16 @@ take-pages-spec =
     Inv-loop
     μ-loop
     loop-holds
-    names-overflow-requires
+    slice-aggregate-names-new
+    names-new-requires
     sub-page
-    sub-j
-    cast-j
-    array-read-if2
-    same-length
-    returns
-    array-write-marks
     mul-taken
     slice-write-taken
-    load-requires
-    link-of-requires
+    link-at-requires
     add-i
     loop-less
     loop-again
+    same-length
+    returns
     same-length-2
-    returns-2
-    same-length-3
-    returns-3)
+    returns-2)

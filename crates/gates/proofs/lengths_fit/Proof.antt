@@ -1,5 +1,6 @@
 -- `gates::lengths_fit` meets its contract: three words fit 64 bits with room for their sum times sixteen.
-use mathlib.Core.Path.{refl}
+use Prim.Native.Nat.{_+_}
+use borrow.Author.Tests.{eq-eqb, ne-eqb}
 use Rattle.gates.specs.Causes.{lengthsAre}
 use borrow.Author.Needs.{needs}
 use Rattle.gates.proofs.lengths_fit.Statement.{statement}
@@ -14,23 +15,47 @@ cast-v c = search needs
 cast-q : tie.Need-cast-q
 cast-q c = search needs
 
+returns : tie.Need-returns
+unfolding lengthsAre
+returns c =
+    let a = c .before .before .before .before .args in
+    rw (ne-eqb (a .parties) (a .root .parties) (c .if1 .taken))
+
+add-if2 : tie.Need-add-if2
+add-if2 c = search needs
+
+returns-2 : tie.Need-returns-2
+unfolding lengthsAre
+returns-2 c =
+    let a = c .before .before .before .before .before .args in
+    rw (eq-eqb (a .parties) (a .root .parties) (c .before .if1 .left), ne-eqb (a .locks) (a .root .chains + 1) (c .if2 .taken))
+
 add-result : tie.Need-add-result
 add-result c = search needs
 
 add-result-2 : tie.Need-add-result-2
 add-result-2 c = search needs
 
-add-result-3 : tie.Need-add-result-3
-add-result-3 c = search needs
-
 mul-result : tie.Need-mul-result
 mul-result c = search needs
 
-returns : tie.Need-returns
+returns-3 : tie.Need-returns-3
 unfolding lengthsAre
-returns c = refl
+returns-3 c =
+    let a = c .before .before .before .before .before .args in
+    rw (eq-eqb (a .parties) (a .root .parties) (c .before .if1 .left), eq-eqb (a .locks) (a .root .chains + 1) (c .if2 .left))
 
 pub lengths-fit-spec : {M : Type 1} → statement M
 lengths-fit-spec =
     tie.close
-    (tie.spec cast-p cast-v cast-q add-result add-result-2 add-result-3 mul-result returns)
+    (tie.spec
+    cast-p
+    cast-v
+    cast-q
+    returns
+    add-if2
+    returns-2
+    add-result
+    add-result-2
+    mul-result
+    returns-3)

@@ -1,8 +1,8 @@
 -- `gates::step_cause` meets its contract.
-use mathlib.Core.Path.{sym, ap₂, _∙_}
-use mathlib.Core.Bool.{Bool, _&&_}
+use mathlib.Core.Path.{sym, _∙_}
 use borrow.Author.Tests.{not-true, not-false}
-use Rattle.model.specs.Refusals.{recordSound}
+use Rattle.model.specs.Refusals.{rootSound, recordSound}
+use Rattle.model.proofs.Laws.Lists.{both-and, left-fails, right-fails}
 use Rattle.gates.proofs.Causes.{place-stands-at-step, idle-refused, damage-refused, step-passed}
 use borrow.Author.Needs.{needs}
 use Rattle.gates.proofs.step_cause.Statement.{statement}
@@ -27,28 +27,39 @@ returns-2 c =
 root-sound-requires : tie.Need-root-sound-requires
 root-sound-requires c κs = search needs
 
-party-sound-requires : tie.Need-party-sound-requires
-party-sound-requires c κs = search needs
-
 returns-3 : tie.Need-returns-3
 unfolding recordSound
 returns-3 c =
-    let tested = c .before .before .before in
-    let place = tested .before .before .before in
+    let busy = c .before .before in
+    let place = busy .before .before .before in
     let a = place .before .args in
-    let passed = sym (place .place-cause .ensures) ∙ tested .before .before .if1 .left in
-    let sound = ap₂ (λ (x y : Bool). x && y) (c .before .before .root-sound .ensures) (c .before .party-sound .ensures) in
-    damage-refused (a .root) (a .party) (a .parties) (a .locks) (a .pages) (a .q) passed (tested .if2 .left) (sym sound ∙ not-true _ (c .if3 .taken))
+    let passed = sym (place .place-cause .ensures) ∙ busy .before .before .if1 .left in
+    let root = sym (c .before .root-sound .ensures) ∙ not-true _ (c .if3 .taken) in
+    damage-refused (a .root) (a .party) (a .parties) (a .locks) (a .pages) (a .q) passed (busy .if2 .left) (left-fails _ root)
+
+party-sound-requires : tie.Need-party-sound-requires
+party-sound-requires c κs = search needs
 
 returns-4 : tie.Need-returns-4
 unfolding recordSound
 returns-4 c =
-    let tested = c .before .before .before in
-    let place = tested .before .before .before in
+    let busy = c .before .before .before .before in
+    let place = busy .before .before .before in
     let a = place .before .args in
-    let passed = sym (place .place-cause .ensures) ∙ tested .before .before .if1 .left in
-    let sound = ap₂ (λ (x y : Bool). x && y) (c .before .before .root-sound .ensures) (c .before .party-sound .ensures) in
-    step-passed (a .root) (a .party) (a .parties) (a .locks) (a .pages) (a .q) passed (tested .if2 .left) (sym sound ∙ not-false _ (c .if3 .left))
+    let passed = sym (place .place-cause .ensures) ∙ busy .before .before .if1 .left in
+    let party = sym (c .before .party-sound .ensures) ∙ not-true _ (c .if4 .taken) in
+    damage-refused (a .root) (a .party) (a .parties) (a .locks) (a .pages) (a .q) passed (busy .if2 .left) (right-fails (rootSound (a .root)) party)
+
+returns-5 : tie.Need-returns-5
+unfolding recordSound
+returns-5 c =
+    let busy = c .before .before .before .before in
+    let place = busy .before .before .before in
+    let a = place .before .args in
+    let passed = sym (place .place-cause .ensures) ∙ busy .before .before .if1 .left in
+    let root = sym (c .before .before .before .root-sound .ensures) ∙ not-false _ (c .before .before .if3 .left) in
+    let party = sym (c .before .party-sound .ensures) ∙ not-false _ (c .if4 .left) in
+    step-passed (a .root) (a .party) (a .parties) (a .locks) (a .pages) (a .q) passed (busy .if2 .left) (both-and root party)
 
 pub step-cause-spec : {M : Type 1} → statement M
 step-cause-spec =
@@ -58,6 +69,7 @@ step-cause-spec =
     returns
     returns-2
     root-sound-requires
-    party-sound-requires
     returns-3
-    returns-4)
+    party-sound-requires
+    returns-4
+    returns-5)

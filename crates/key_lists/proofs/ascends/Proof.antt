@@ -1,43 +1,38 @@
 -- `key_lists::ascends` meets its contract.
 use mathlib.Core.Path.{_≡_, sym, ap, _∙_}
-use Prim.Native.Nat.{ℕ, _+_, _-_, _≤_}
+use mathlib.Core.Bool.{Bool, not, _&&_, and-true}
+use Prim.Native.Nat.{_+_, _-_, _≤_}
 use native.Mathlib.Omega.{arith}
 use lib.ListN.{length, drop}
 use Rattle.model.specs.Entries.{ascending}
-use Rattle.key_lists.proofs.Scanning.{ascending-passed, not-ascending, last-ascends}
+use Rattle.key_lists.proofs.Scanning.{ascending-passed, last-ascends}
 use borrow.Author.Needs.{needs}
 use Rattle.key_lists.proofs.ascends.Statement.{statement}
 use Rattle.key_lists.proofs.ascends.Tie as tie
 
 abbrev Inv-loop : tie.InvT-loop
-Inv-loop keys i₀ i = (1 ≤ i) × (ascending keys ≡ ascending (drop (i - 1) keys))
+Inv-loop keys falls₀ i₀ falls i = (1 ≤ i) × (ascending keys ≡ (not falls && ascending (drop (i - 1) keys)))
 
 abbrev μ-loop : tie.MeasureT-loop
-μ-loop keys i₀ i = length keys - i
+μ-loop keys falls₀ i₀ falls i = length keys - i
 
 loop-holds : tie.Need-loop-holds Inv-loop μ-loop
 loop-holds c = search needs
 
-mul-if1 : tie.Need-mul-if1 Inv-loop μ-loop
-mul-if1 c = search needs
+mul-falls : tie.Need-mul-falls Inv-loop μ-loop
+mul-falls c = search needs
 
-shared-slice-read-if1 : tie.Need-shared-slice-read-if1 Inv-loop μ-loop
-shared-slice-read-if1 c = search needs
+shared-slice-read-falls : tie.Need-shared-slice-read-falls Inv-loop μ-loop
+shared-slice-read-falls c = search needs
 
-sub-if1 : tie.Need-sub-if1 Inv-loop μ-loop
-sub-if1 c = search needs
+sub-falls : tie.Need-sub-falls Inv-loop μ-loop
+sub-falls c = search needs
 
-mul-if1-2 : tie.Need-mul-if1-2 Inv-loop μ-loop
-mul-if1-2 c = search needs
+mul-falls-2 : tie.Need-mul-falls-2 Inv-loop μ-loop
+mul-falls-2 c = search needs
 
-shared-slice-read-if1-2 : tie.Need-shared-slice-read-if1-2 Inv-loop μ-loop
-shared-slice-read-if1-2 c = search needs
-
-returns : tie.Need-returns Inv-loop μ-loop
-returns c =
-    let l = c .before .before .before .before .loop in
-    let ks = c .before .before .before .before .before .args .keys .now in
-    sym (l .inv .1 ∙ not-ascending ks (l .i) (l .inv .0) (c .before .before .before .loop-test .taken) (c .if1 .taken))
+shared-slice-read-falls-2 : tie.Need-shared-slice-read-falls-2 Inv-loop μ-loop
+shared-slice-read-falls-2 c = search needs
 
 add-i : tie.Need-add-i Inv-loop μ-loop
 add-i c = search needs
@@ -47,16 +42,17 @@ loop-less c = search needs
 
 loop-again : tie.Need-loop-again Inv-loop μ-loop
 loop-again c =
-    let l = c .before .before .before .before .loop in
-    let ks = c .before .before .before .before .before .args .keys .now in
-    let on = ascending-passed ks (l .i) (l .inv .0) (c .before .before .before .loop-test .taken) (c .if1 .left) in
-    let next : l .i ≡ l .i + 1 - 1 = omega arith in
-    (omega arith, l .inv .1 ∙ on ∙ ap (λ (j : ℕ). ascending (drop j ks)) next)
+    let l = c .before .before .before .loop in
+    let ks = c .before .before .before .before .args .keys .now in
+    let on = ascending-passed ks (l .i) (l .inv .0) (c .before .before .loop-test .taken) (l .falls) in
+    let next : l .i + 1 - 1 ≡ l .i = omega arith in
+    (omega arith, rw next (l .inv .1 ∙ on))
 
-returns-2 : tie.Need-returns-2 Inv-loop μ-loop
-returns-2 c =
+returns : tie.Need-returns Inv-loop μ-loop
+returns c =
     let l = c .before .loop in
-    sym (l .inv .1 ∙ last-ascends (c .before .before .args .keys .now) (l .i) (l .inv .0) (c .loop-test .left))
+    let ends = last-ascends (c .before .before .args .keys .now) (l .i) (l .inv .0) (c .loop-test .left) in
+    sym (l .inv .1 ∙ ap (λ (t : Bool). not (l .falls) && t) ends ∙ and-true (not (l .falls)))
 
 pub ascends-spec : {M : Type 1} → statement M
 ascends-spec =
@@ -65,13 +61,12 @@ ascends-spec =
     Inv-loop
     μ-loop
     loop-holds
-    mul-if1
-    shared-slice-read-if1
-    sub-if1
-    mul-if1-2
-    shared-slice-read-if1-2
-    returns
+    mul-falls
+    shared-slice-read-falls
+    sub-falls
+    mul-falls-2
+    shared-slice-read-falls-2
     add-i
     loop-less
     loop-again
-    returns-2)
+    returns)

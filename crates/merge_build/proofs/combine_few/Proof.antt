@@ -1,51 +1,70 @@
 -- `merge_build::combine_few` meets its contract.
+use mathlib.Core.Path.{_≡_}
 use native.Mathlib.Omega.{arith}
-use lib.ListN.{replicate}
-use Rattle.model.specs.Ready.{viewing}
-use Rattle.merge_build.proofs.Combines.{can-combine}
+use lib.ListN.{length, replicate}
+use Rattle.model.specs.Steps.Merge.{pairOf}
+use Rattle.merge_build.proofs.Combines.{can-join}
 use borrow.Author.Needs.{needs}
 use Rattle.merge_build.proofs.combine_few.Statement.{statement}
 use Rattle.merge_build.proofs.combine_few.Tie as tie
 
-slice-aggregate-combine : tie.Need-slice-aggregate-combine
-slice-aggregate-combine c = search needs
+slice-aggregate-join-chains : tie.Need-slice-aggregate-join-chains
+slice-aggregate-join-chains c = search needs
 
-slice-aggregate-combine-2 : tie.Need-slice-aggregate-combine-2
-slice-aggregate-combine-2 c = search needs
+slice-aggregate-join-chains-2 : tie.Need-slice-aggregate-join-chains-2
+slice-aggregate-join-chains-2 c = search needs
 
-slice-aggregate-combine-3 : tie.Need-slice-aggregate-combine-3
-slice-aggregate-combine-3 c = search needs
+slice-aggregate-join-chains-3 : tie.Need-slice-aggregate-join-chains-3
+slice-aggregate-join-chains-3 c = search needs
 
-slice-aggregate-combine-4 : tie.Need-slice-aggregate-combine-4
-slice-aggregate-combine-4 c = search needs
-
-combine-requires : tie.Need-combine-requires
-combine-requires c κs =
-    let start = c .before .before .before .before .before .before .before .before in
+join-chains-requires : tie.Need-join-chains-requires
+join-chains-requires c κs =
+    let start = c .before .before .before .before .before in
     let a = start .args in
-    let v = viewing (a .root) (a .party) (a .q) (a .locks .now) (a .pages .now) in
-    let small = start .pre .1 in
-    can-combine v (a .n) (a .m) (replicate 128 0) (replicate 128 0) (replicate 256 0) (replicate 752 0) (start .pre .0) (omega (arith, small)) (omega (arith, small)) (omega arith)
-    (omega arith) (omega arith)
+    can-join (a .root) (a .party) (a .q) (a .n) (a .m) (a .pages .now) (replicate 128 0) (replicate 128 0) (replicate 256 0) (start .pre .0) (start .pre .1) (omega (arith, start .pre .2)) (omega (arith, start .pre .2)) (omega arith) (omega arith)
+
+slice-aggregate-combine-with : tie.Need-slice-aggregate-combine-with
+slice-aggregate-combine-with c = search needs
+
+slice-aggregate-combine-with-2 : tie.Need-slice-aggregate-combine-with-2
+slice-aggregate-combine-with-2 c = search needs
+
+combine-with-requires : tie.Need-combine-with-requires
+combine-with-requires c κs =
+    let at-join-chains = c .before .before .before .before .before .before in
+    let start = at-join-chains .before .before .before .before .before .before in
+    let out = at-join-chains .join-chains .last .1 .1 .1 .1 .1 .1 .1 .0 in
+    let long : length out ≡ 256 = at-join-chains .join-chains .kept .1 .1 .1 .1 .1 .1 .1 .0 in
+    record {
+      can-build = start .pre .0 .can-build;
+      some-key = start .pre .0 .some-key;
+      fits = λ ok. at-join-chains .join-chains .ensures .1 ok .fits;
+      few = omega (arith, long);
+      taken-room = omega arith;
+    }
 
 same-length : tie.Need-same-length
 same-length c = search needs
 
-same-length-2 : tie.Need-same-length-2
-same-length-2 c = search needs
-
 returns : tie.Need-returns
-returns c = search needs
+returns c = λ ls.
+    let at-combine-with = c .before .before .before in
+    let at-join-chains = at-combine-with .before .before .before .before .before .before .before in
+    let start = at-join-chains .before .before .before .before .before .before in
+    let a = start .args in
+    let x = pairOf (a .root) (a .pages .now) (a .party .chain) (a .party .other) in
+    at-combine-with .combine-with .ensures (a .party) ls x (record { unsound = at-join-chains .join-chains .ensures .0; joined = at-join-chains .join-chains .ensures .1 })
 
 pub combine-few-spec : {M : Type 1} → statement M
 combine-few-spec =
     tie.close
     (tie.spec
-    slice-aggregate-combine
-    slice-aggregate-combine-2
-    slice-aggregate-combine-3
-    slice-aggregate-combine-4
-    combine-requires
+    slice-aggregate-join-chains
+    slice-aggregate-join-chains-2
+    slice-aggregate-join-chains-3
+    join-chains-requires
+    slice-aggregate-combine-with
+    slice-aggregate-combine-with-2
+    combine-with-requires
     same-length
-    same-length-2
     returns)

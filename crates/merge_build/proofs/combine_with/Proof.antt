@@ -1,25 +1,77 @@
 -- `merge_build::combine_with` meets its contract.
-use mathlib.Core.Path.{_≡_, ap, _∙_}
-use Prim.Native.Nat.{ℕ}
+use mathlib.Core.Path.{_≡_, refl, _∙_}
+use Prim.Native.Nat.{_-_}
 use native.Mathlib.Omega.{arith}
-use Rattle.model.specs.Records.{atStep, withOld}
-use Rattle.model.specs.Filling.{pagesFor}
-use Rattle.model.specs.Ready.{viewing}
-use Rattle.chain_build.specs.Building.{builtChain}
-use Rattle.chain_build.proofs.Building.{ready-can-build}
-use Rattle.merge_build.proofs.Combines.{skipped-ends, enough-built}
+use lib.ListN.{take}
+use borrow.Author.Tests.{not-true, not-false}
+use Rattle.model.specs.Steps.Merge.{joinedEntries}
+use Rattle.model.proofs.Laws.Lists.{front-part}
+use Rattle.merge_build.proofs.Combines.{front-need, unsound-damaged, too-few-skipped, unbuilt-damaged, built-made}
 use borrow.Author.Needs.{needs}
 use Rattle.merge_build.proofs.combine_with.Statement.{statement}
 use Rattle.merge_build.proofs.combine_with.Tie as tie
 
+returns : tie.Need-returns
+returns c = λ p ls x joining.
+    let start = c .before .before .before .before .before in
+    let a = start .args in
+    unsound-damaged (a .root) p (a .q) ls (a .pages .now) x (joining .unsound (not-true _ (c .if1 .taken)))
+
 pages-for-requires : tie.Need-pages-for-requires
-pages-for-requires c κs = search needs
+pages-for-requires c κs =
+    let start = c .before .before .before .before .before in
+    let fits = start .pre .fits (not-false _ (c .if1 .left)) in
+    (start .pre .some-key, start .pre .can-build .keys-fit, omega (arith, fits, start .pre .few))
 
-cast-if1 : tie.Need-cast-if1
-cast-if1 c = search needs
+cast-if2 : tie.Need-cast-if2
+cast-if2 c = search needs
 
-ended-with-merge-requires : tie.Need-ended-with-merge-requires
-ended-with-merge-requires c κs = search needs
+returns-2 : tie.Need-returns-2
+returns-2 c = λ p ls x joining.
+    let at-pages-for = c .before .before in
+    let at-if1 = at-pages-for .before in
+    let start = at-if1 .before .before .before .before .before in
+    let a = start .args in
+    let both = joining .joined (not-false _ (at-if1 .if1 .left)) in
+    let es = take (a .j .count - 0) (a .out .now) in
+    let joins : es ≡ joinedEntries (both .pair) = front-part (a .j .count) (a .out .now) ∙ both .entries in
+    let many = front-need (a .root .keys) (a .j .count) (a .out .now) (both .fits) (at-pages-for .pages-for .ensures) in
+    too-few-skipped (a .root) p (a .q) ls (a .pages .now) x (both .pair) (both .is-sound) es joins _ many (c .if2 .taken)
+
+sub-build-chain : tie.Need-sub-build-chain
+sub-build-chain c = search needs
+
+part-build-chain-start : tie.Need-part-build-chain-start
+part-build-chain-start c = search needs
+
+part-build-chain-end : tie.Need-part-build-chain-end
+part-build-chain-end c =
+    let at-if1 = c .before .before .before in
+    let start = at-if1 .before .before .before .before .before in
+    start .pre .fits (not-false _ (at-if1 .if1 .left))
+
+build-chain-requires : tie.Need-build-chain-requires
+build-chain-requires c κs =
+    let at-if2 = c .before .before .before in
+    let at-pages-for = at-if2 .before .before in
+    let at-if1 = at-pages-for .before in
+    let start = at-if1 .before .before .before .before .before in
+    let a = start .args in
+    let can = start .pre in
+    let many = front-need (a .root .keys) (a .j .count) (a .out .now) (can .fits (not-false _ (at-if1 .if1 .left))) (at-pages-for .pages-for .ensures) in
+    (can .can-build, many, omega (arith, at-if2 .if2 .left, can .can-build .free-fits, can .can-build .overflow-fits, can .taken-room))
+
+enum-told : tie.Need-enum-told
+enum-told c = search needs
+
+enum-known-head : tie.Need-enum-known-head
+enum-known-head c = search needs
+
+cast-left : tie.Need-cast-left
+cast-left c = search needs
+
+sub-left : tie.Need-sub-left
+sub-left c = search needs
 
 same-length : tie.Need-same-length
 same-length c = search needs
@@ -27,29 +79,19 @@ same-length c = search needs
 same-length-2 : tie.Need-same-length-2
 same-length-2 c = search needs
 
-returns : tie.Need-returns
-unfolding pagesFor
-returns c = λ m el ek ej.
-    let need = c .before .before .before .before .before .before .before .before .before .pages-for in
-    let a = c .before .before .before .before .before .before .before .before .before .before .before .before .before .before .args in
-    let v = viewing (a .root) (a .party) (a .q) (a .locks .now) (a .pages .now) in
-    let many : need .result ≡ pagesFor (a .root .keys) (a .keys .now) = need .ensures in
-    c .before .before .before .before .ended-with-merge .ensures ∙ skipped-ends v m (a .keys .now) (need .result) ej many (c .before .before .before .before .before .before .before .if1 .taken)
-
-combined-requires : tie.Need-combined-requires
-combined-requires c κs = search needs
-
-build-chain-requires : tie.Need-build-chain-requires
-unfolding pagesFor
-build-chain-requires c κs =
-    let need = c .before .before .before .before .before .pages-for in
-    let a = c .before .before .before .before .before .before .before .before .before .before .args in
-    let v = viewing (a .root) (a .party) (a .q) (a .locks .now) (a .pages .now) in
-    let many : need .result ≡ pagesFor (a .root .keys) (a .keys .now) = need .ensures in
-    let can = c .before .before .before .before .before .before .before .before .before .before .pre in
-    let ready = can .ready in
-    let enough = c .before .before .before .if1 .left in
-    (ready-can-build v ready, many, enough, omega (arith, enough, ready .free-fits, ready .overflow-fits, can .taken-room))
+returns-3 : tie.Need-returns-3
+returns-3 c = λ p ls x joining.
+    let at-build-chain = c .before .before .before .before .before .before in
+    let at-if2 = at-build-chain .before .before .before .before in
+    let at-pages-for = at-if2 .before .before in
+    let at-if1 = at-pages-for .before in
+    let start = at-if1 .before .before .before .before .before in
+    let a = start .args in
+    let both = joining .joined (not-false _ (at-if1 .if1 .left)) in
+    let es = take (a .j .count - 0) (a .out .now) in
+    let joins : es ≡ joinedEntries (both .pair) = front-part (a .j .count) (a .out .now) ∙ both .entries in
+    let many = front-need (a .root .keys) (a .j .count) (a .out .now) (both .fits) (at-pages-for .pages-for .ensures) in
+    unbuilt-damaged (a .root) p (a .q) ls (a .pages .now) x (both .pair) (both .is-sound) es joins _ many (at-if2 .if2 .left) (both .level) (at-build-chain .build-chain .ensures) (c .enum-told .given .1)
 
 same-length-3 : tie.Need-same-length-3
 same-length-3 c = search needs
@@ -57,30 +99,40 @@ same-length-3 c = search needs
 same-length-4 : tie.Need-same-length-4
 same-length-4 c = search needs
 
-returns-2 : tie.Need-returns-2
-unfolding pagesFor
-returns-2 c = λ m el ek ej.
-    let need = c .before .before .before .before .before .before .before .before .before .before .pages-for in
-    let a = c .before .before .before .before .before .before .before .before .before .before .before .before .before .before .before .args in
-    let v = viewing (a .root) (a .party) (a .q) (a .locks .now) (a .pages .now) in
-    let many : need .result ≡ pagesFor (a .root .keys) (a .keys .now) = need .ensures in
-    let next = c .before .before .before .before .before .before .before .combined in
-    let after = next .ensures ∙ ap (λ (l : ℕ). atStep 27 (withOld l (a .party))) ek in
-    c .before .before .before .before .build-chain .ensures (a .locks .now) ∙ ap (λ (l : ℕ). builtChain v l (a .keys .now) (next .result)) el
-    ∙ enough-built v m (a .keys .now) (need .result) ej many (next .result) (c .before .before .before .before .before .before .before .before .if1 .left) after
+returns-4 : tie.Need-returns-4
+returns-4 c = λ p ls x joining.
+    let at-head = c .before .before in
+    let at-build-chain = at-head .before .before .before .before .before .before in
+    let at-if2 = at-build-chain .before .before .before .before in
+    let at-pages-for = at-if2 .before .before in
+    let at-if1 = at-pages-for .before in
+    let start = at-if1 .before .before .before .before .before in
+    let a = start .args in
+    let both = joining .joined (not-false _ (at-if1 .if1 .left)) in
+    let es = take (a .j .count - 0) (a .out .now) in
+    let joins : es ≡ joinedEntries (both .pair) = front-part (a .j .count) (a .out .now) ∙ both .entries in
+    let many = front-need (a .root .keys) (a .j .count) (a .out .now) (both .fits) (at-pages-for .pages-for .ensures) in
+    built-made (a .root) p (a .q) ls (a .pages .now) x (both .pair) (both .is-sound) es joins _ many (at-if2 .if2 .left) (both .level) (at-build-chain .build-chain .ensures) (at-head .head .given .1) refl (both .link)
 
 pub combine-with-spec : {M : Type 1} → statement M
 combine-with-spec =
     tie.close
     (tie.spec
+    returns
     pages-for-requires
-    cast-if1
-    ended-with-merge-requires
+    cast-if2
+    returns-2
+    sub-build-chain
+    part-build-chain-start
+    part-build-chain-end
+    build-chain-requires
+    enum-told
+    enum-known-head
+    cast-left
+    sub-left
     same-length
     same-length-2
-    returns
-    combined-requires
-    build-chain-requires
+    returns-3
     same-length-3
     same-length-4
-    returns-2)
+    returns-4)

@@ -13,9 +13,15 @@ same-length c = search needs
 same-length-2 : tie.Need-same-length-2
 same-length-2 c = search needs
 
+same-length-3 : tie.Need-same-length-3
+same-length-3 c = search needs
+
 returns : tie.Need-returns
 unfolding step30
-returns c = c .before .before .before .before .ended-with-merge .ensures
+returns c =
+    let at-ended-with-merge = c .before .before .before .before .before .before in
+    at-ended-with-merge .ended-with-merge .ensures
 
 pub step-30-spec : {M : Type 1} → statement M
-step-30-spec = tie.close (tie.spec ended-with-merge-requires same-length same-length-2 returns)
+step-30-spec =
+    tie.close (tie.spec ended-with-merge-requires same-length same-length-2 same-length-3 returns)

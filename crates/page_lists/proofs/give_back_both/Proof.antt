@@ -1,76 +1,56 @@
--- `page_lists::give_back_both` meets its contract: the second list was recorded on the memory as found, and is given back after the first.
-use mathlib.Core.Path.{ap, _∙_}
-use Prim.Native.Nat.{_≤_}
-use native.Mathlib.Omega.{arith}
+-- `page_lists::give_back_both` meets its contract: the second list is given back to the head that the first leaves.
+use mathlib.Core.Path.{_≡_, ap₂, _∙_}
+use mathlib.Core.List.{_++_}
+use Prim.Native.Nat.{_+_}
+use lib.ListN.{length, length-append}
 use Rattle.model.specs.Chains.{listFrom}
-use Rattle.free_list.specs.Giving.{listed, afterGiving}
-use Rattle.free_list.proofs.Giving.{listed-length}
-use Rattle.page_lists.proofs.Recorded.{list-walk}
-use Rattle.page_lists.proofs.Returned.{both-given, second-can-be-given}
+use Rattle.free_list.specs.Giving.{listed}
+use Rattle.free_list.proofs.Giving.{listed-length, returned-all}
+use Rattle.page_lists.proofs.Turns.{both-given}
 use borrow.Author.Needs.{needs}
 use Rattle.page_lists.proofs.give_back_both.Statement.{statement}
 use Rattle.page_lists.proofs.give_back_both.Tie as tie
 
-slice-aggregate-list-pages : tie.Need-slice-aggregate-list-pages
-slice-aggregate-list-pages c = search needs
+last-link-requires : tie.Need-last-link-requires
+last-link-requires c κs = search needs
 
-list-pages-requires : tie.Need-list-pages-requires
-list-pages-requires c κs =
-    let start = c .before .before .before in
-    let a = start .args in
-    let pre = start .pre in
-    let walk = list-walk (a .root) (a .pages .now) (pre .one .fits) (a .second) (a .m) (pre .links) (pre .walked) in
-    let few : a .m ≤ 752 = omega (arith, pre .room, pre .few) in
-    (walk .followed, search needs)
+give-after-requires : tie.Need-give-after-requires
+give-after-requires c κs = search needs
 
-give-back-requires : tie.Need-give-back-requires
-give-back-requires c κs = search needs
+add-with-free-list : tie.Need-add-with-free-list
+add-with-free-list c = search needs
 
-slice-aggregate-give-listed : tie.Need-slice-aggregate-give-listed
-slice-aggregate-give-listed c = search needs
+add-with-free-list-2 : tie.Need-add-with-free-list-2
+add-with-free-list-2 c = search needs
 
-give-listed-requires : tie.Need-give-listed-requires
-give-listed-requires c κs =
-    let given = c .before .before .before .before in
-    let recorded = given .before .before .before in
-    let start = recorded .before .before .before .before in
-    let a = start .args in
-    let pre = start .pre in
-    let xs = listed (listFrom (a .root) (a .pages .now) (a .first)) in
-    let ys = listed (listFrom (a .root) (a .pages .now) (a .second)) in
-    let count = listed-length (listFrom (a .root) (a .pages .now) (a .first)) (a .n) (pre .one .walked) in
-    let walk = list-walk (a .root) (a .pages .now) (pre .one .fits) (a .second) (a .m) (pre .links) (pre .walked) in
-    let same = recorded .list-pages .ensures ∙ walk .pages in
-    let few : a .m ≤ 752 = omega (arith, pre .room, pre .few) in
-    let can = second-can-be-given (a .root) _ (a .pages .now) _ xs ys (given .give-back .ensures) (given .give-back .kept .1 .1 .1 .0) (walk .within) (pre .one .fits) (omega (arith, pre .small, pre .few))
-    (omega (arith, count, walk .count, pre .room)) in
-    (search needs, rw same can)
+with-free-list-requires : tie.Need-with-free-list-requires
+with-free-list-requires c κs = search needs
 
 same-length : tie.Need-same-length
 same-length c = search needs
 
 returns : tie.Need-returns
 returns c =
-    let second = c .before .before in
-    let given = second .before .before .before .before .before in
-    let recorded = given .before .before .before in
-    let start = recorded .before .before .before .before in
+    let given = c .before .before .before .before in
+    let linked = given .before .before in
+    let start = linked .before .before .before in
     let a = start .args in
     let pre = start .pre in
-    let xs = listed (listFrom (a .root) (a .pages .now) (a .first)) in
-    let ys = listed (listFrom (a .root) (a .pages .now) (a .second)) in
-    let walk = list-walk (a .root) (a .pages .now) (pre .one .fits) (a .second) (a .m) (pre .links) (pre .walked) in
-    let same = recorded .list-pages .ensures ∙ walk .pages in
-    both-given (a .root) _ _ (a .pages .now) _ _ xs ys (given .give-back .ensures) (second .give-listed .ensures ∙ ap (afterGiving _ _) same)
+    let xs = listFrom (a .root) (a .pages .now) (a .first) in
+    let ys = listFrom (a .root) (a .pages .now) (a .second) in
+    let count : length (listed xs ++ listed ys) ≡ a .n + a .m =
+    length-append (listed xs) (listed ys) ∙ ap₂ _+_ (listed-length xs (a .n) (pre .one .walked)) (listed-length ys (a .m) (pre .walked)) in
+    let both = both-given (a .pages .now) (a .root .head) _ _ (listed xs) (listed ys) _ (linked .last-link .ensures) (given .give-after .ensures) in
+    returned-all (a .root) (c .with-free-list .result) (a .pages .now) _ (listed xs ++ listed ys) _ (a .n + a .m) both count (c .with-free-list .ensures)
 
 pub give-back-both-spec : {M : Type 1} → statement M
 give-back-both-spec =
     tie.close
     (tie.spec
-    slice-aggregate-list-pages
-    list-pages-requires
-    give-back-requires
-    slice-aggregate-give-listed
-    give-listed-requires
+    last-link-requires
+    give-after-requires
+    add-with-free-list
+    add-with-free-list-2
+    with-free-list-requires
     same-length
     returns)

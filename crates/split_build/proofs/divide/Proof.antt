@@ -1,122 +1,130 @@
--- `split_build::divide` meets its contract.
-use mathlib.Core.Path.{_≡_, sym, ap, ap₂, _∙_}
-use Prim.Native.Nat.{ℕ, _+_, _-_, _≤_}
+-- `split_build::divide` meets its contract: Divided has its three ends.
+use mathlib.Core.Path.{_≡_, sym, ap, _∙_}
+use mathlib.Core.Bool.{false}
+use Prim.Native.Nat.{_+_, _-_}
 use native.Mathlib.Omega.{arith}
-use mathlib.Core.List.{List}
-use lib.ListN.{length, take, length-take}
-use Rattle.model.specs.Entries.{staying, going}
-use Rattle.model.specs.Ready.{viewing}
-use Rattle.model.specs.Steps.Split.{halvesOf}
-use Rattle.model.proofs.Laws.Lists.{front-part}
-use Rattle.halves_build.specs.Halves.{both}
-use Rattle.chain_keys.proofs.WholeChain.{front-is, front-long}
-use Rattle.split_build.proofs.Halves.{chain-refused, chain-divided}
+use lib.ListN.{length-set}
+use Rattle.model.specs.declared.Root.{Root}
+use Rattle.model.specs.Addresses.{splitBarred}
+use Rattle.model.specs.Chains.{chainOf}
+use Rattle.model.specs.Records.{withFreeList}
+use Rattle.model.specs.Steps.Split.{countOfChains, step17}
+use Rattle.records.specs.Words.{partyIn, seen, left, AtHand}
+use Rattle.records.proofs.Words.{free-list-written}
+use Rattle.chain_scan.specs.declared.Scan.the-variants as Scan
+use Rattle.chain_scan.specs.Scans.{scanned}
+use Rattle.split_build.proofs.Halving.{can-divide}
+use Rattle.split_build.proofs.Divided.{pages-few, can-write, skips, refuses, moves}
 use borrow.Author.Needs.{needs}
 use Rattle.split_build.proofs.divide.Statement.{statement}
 use Rattle.split_build.proofs.divide.Tie as tie
 
-gather-requires : tie.Need-gather-requires
-gather-requires c κs = search needs
+root-of-requires : tie.Need-root-of-requires
+root-of-requires c κs = search needs
 
-add-level : tie.Need-add-level
-add-level c = search needs
+slice-read-chain : tie.Need-slice-read-chain
+slice-read-chain c = search needs
 
-sub-halves : tie.Need-sub-halves
-sub-halves c = search needs
-
-part-halves-start : tie.Need-part-halves-start
-part-halves-start c = search needs
-
-part-halves-end : tie.Need-part-halves-end
-part-halves-end c =
-    let gathering = c .before .before .before .before .before in
-    let whole = gathering .gather .ensures .1 (c .before .before .if1 .taken) in
-    whole .fits
-
-halves-requires : tie.Need-halves-requires
-halves-requires c κs =
-    let gathering = c .before .before .before .before .before .before .before .before in
-    let start = gathering .before .before .before .before .before .before .before .before .before in
+division-of-requires : tie.Need-division-of-requires
+division-of-requires c κs =
+    let at-root-of = c .before .before in
+    let start = at-root-of .before .before .before .before .before .before in
     let a = start .args in
-    let can = start .pre in
-    let whole = gathering .gather .ensures .1 (c .before .before .before .before .before .if1 .taken) in
-    let keys = gathering .gather .last .1 .1 .1 .1 .0 in
-    let long : length keys ≡ length (a .keys .now) = gathering .gather .kept .1 .1 .1 .1 .0 in
-    let many = front-long _ keys whole in
-    let ready = can .can-divide-with .ready in (
-      ready .some-original,
-      omega (arith, ready .originals-fit, ready .chains-fit),
-      omega (arith, ready .level-fits),
-      omega (arith, many, whole .fits, long, can .stay-room),
-      omega (arith, many, whole .fits, long, can .go-room),
-    )
+    let r = at-root-of .root-of .result in
+    let er = at-root-of .root-of .ensures in
+    let p = a .party .now in
+    let ps = a .pages .now in
+    let hand : AtHand r p (a .q) (a .locks .now) ps = rw er (start .pre .at-hand) in
+    let looked : Scan.Sound (a .l) ≡ scanned 0 (chainOf r ps (partyIn p .chain)) = rw er (start .pre .looked) in
+    can-divide r p (a .q) (a .locks .now) ps hand (a .l) looked
 
-sub-away : tie.Need-sub-away
-sub-away c = search needs
+cast-pages-for : tie.Need-cast-pages-for
+cast-pages-for c = search needs
 
-sub-divide-with : tie.Need-sub-divide-with
-sub-divide-with c = search needs
-
-part-divide-with-start : tie.Need-part-divide-with-start
-part-divide-with-start c = search needs
-
-part-divide-with-end : tie.Need-part-divide-with-end
-part-divide-with-end c =
-    let gathering = c .before .before .before .before .before .before .before .before .before .before .before .before .before .before in
-    let start = gathering .before .before .before .before .before .before .before .before .before in
+pages-for-requires : tie.Need-pages-for-requires
+pages-for-requires c κs =
+    let at-root-of = c .before .before .before .before in
+    let start = at-root-of .before .before .before .before .before .before in
     let a = start .args in
-    let can = start .pre in
-    let whole = gathering .gather .ensures .1 (c .before .before .before .before .before .before .before .before .before .before .before .if1 .taken) in
-    let keys = gathering .gather .last .1 .1 .1 .1 .0 in
-    let long : length keys ≡ length (a .keys .now) = gathering .gather .kept .1 .1 .1 .1 .0 in
-    let many = front-long _ keys whole in
-    let halving = c .before .before .before .before .before .halves in
-    let stay = halving .last .1 .1 .1 .1 .0 in
-    let stay-long : length stay ≡ length (a .stay .now) = halving .kept .1 .1 .1 .1 .0 in
-    omega (arith, halving .ensures .0, many, whole .fits, long, can .stay-room, stay-long)
+    let r = at-root-of .root-of .result in
+    let er = at-root-of .root-of .ensures in
+    let p = a .party .now in
+    let ps = a .pages .now in
+    let hand : AtHand r p (a .q) (a .locks .now) ps = rw er (start .pre .at-hand) in
+    let ready = hand .ready in
+    (ready .some-key, ready .keys-fit, omega arith)
 
-sub-divide-with-2 : tie.Need-sub-divide-with-2
-sub-divide-with-2 c = search needs
+cast-pages-for-2 : tie.Need-cast-pages-for-2
+cast-pages-for-2 c = search needs
 
-part-divide-with-start-2 : tie.Need-part-divide-with-start-2
-part-divide-with-start-2 c = search needs
-
-part-divide-with-end-2 : tie.Need-part-divide-with-end-2
-part-divide-with-end-2 c =
-    let gathering = c .before .before .before .before .before .before .before .before .before .before .before .before .before .before .before .before in
-    let start = gathering .before .before .before .before .before .before .before .before .before in
+pages-for-requires-2 : tie.Need-pages-for-requires-2
+pages-for-requires-2 c κs =
+    let at-root-of = c .before .before .before .before .before .before in
+    let start = at-root-of .before .before .before .before .before .before in
     let a = start .args in
-    let can = start .pre in
-    let whole = gathering .gather .ensures .1 (c .before .before .before .before .before .before .before .before .before .before .before .before .before .if1 .taken) in
-    let keys = gathering .gather .last .1 .1 .1 .1 .0 in
-    let long : length keys ≡ length (a .keys .now) = gathering .gather .kept .1 .1 .1 .1 .0 in
-    let many = front-long _ keys whole in
-    let halving = c .before .before .before .before .before .before .before .halves in
-    let go = halving .last .1 .1 .1 .1 .1 .0 in
-    let go-long : length go ≡ length (a .go .now) = halving .kept .1 .1 .1 .1 .1 .0 in
-    omega (arith, halving .ensures .0, many, whole .fits, long, can .go-room, go-long)
+    let r = at-root-of .root-of .result in
+    let er = at-root-of .root-of .ensures in
+    let p = a .party .now in
+    let ps = a .pages .now in
+    let hand : AtHand r p (a .q) (a .locks .now) ps = rw er (start .pre .at-hand) in
+    let ready = hand .ready in
+    (ready .some-key, ready .keys-fit, omega (arith, c .struct-known2 .given))
 
-divide-with-requires : tie.Need-divide-with-requires
-divide-with-requires c κs =
-    let gathering = c .before .before .before .before .before .before .before .before .before .before .before .before .before .before .before .before .before .before .before .before in
-    let start = gathering .before .before .before .before .before .before .before .before .before in
+add-k : tie.Need-add-k
+add-k c =
+    let at-pages-for = c .before .before in
+    let at-division-of = at-pages-for .before .before in
+    let at-root-of = at-division-of .before .before .before in
+    let start = at-root-of .before .before .before .before .before .before in
     let a = start .args in
-    let can = start .pre in
-    let count = gathering .gather .result .count in
-    let halving = c .before .before .before .before .before .before .before .before .before .before .before .halves in
-    let stay = halving .last .1 .1 .1 .1 .0 in
-    let go = halving .last .1 .1 .1 .1 .1 .0 in
-    let stay-long : length stay ≡ length (a .stay .now) = halving .kept .1 .1 .1 .1 .0 in
-    let go-long : length go ≡ length (a .go .now) = halving .kept .1 .1 .1 .1 .1 .0 in
-    let kept = halving .result in
-    let with = can .can-divide-with in
-    let short : (n : ℕ) (xs : List ℕ) → length (take n xs) ≤ length xs = λ n xs. rw length-take (omega arith) in
-    record {
-      ready = with .ready;
-      few-stay = omega (arith, short (kept - 0) stay, stay-long, with .few-stay);
-      few-go = omega (arith, short (count - kept - 0) go, go-long, with .few-go);
-      taken-room = with .taken-room;
-    }
+    let r = at-root-of .root-of .result in
+    let er = at-root-of .root-of .ensures in
+    let p = a .party .now in
+    let ps = a .pages .now in
+    let hand : AtHand r p (a .q) (a .locks .now) ps = rw er (start .pre .at-hand) in
+    let looked : Scan.Sound (a .l) ≡ scanned 0 (chainOf r ps (partyIn p .chain)) = rw er (start .pre .looked) in
+    let d = at-division-of .division-of .result in
+    let divides = at-division-of .division-of .ensures in
+    let m = at-pages-for .pages-for .result in
+    let n = c .pages-for2 .result in
+    let first = at-pages-for .pages-for .ensures in
+    let second = c .pages-for2 .ensures in
+    let few = pages-few r p (a .q) (a .locks .now) ps hand (a .l) looked d divides m n first second in
+    record { fits = omega (arith, few, start .good) }
+
+cast-k : tie.Need-cast-k
+cast-k c =
+    let at-pages-for = c .before .before in
+    let at-division-of = at-pages-for .before .before in
+    let at-root-of = at-division-of .before .before .before in
+    let start = at-root-of .before .before .before .before .before .before in
+    let a = start .args in
+    let r = at-root-of .root-of .result in
+    let er = at-root-of .root-of .ensures in
+    let p = a .party .now in
+    let ps = a .pages .now in
+    let hand : AtHand r p (a .q) (a .locks .now) ps = rw er (start .pre .at-hand) in
+    let looked : Scan.Sound (a .l) ≡ scanned 0 (chainOf r ps (partyIn p .chain)) = rw er (start .pre .looked) in
+    let d = at-division-of .division-of .result in
+    let divides = at-division-of .division-of .ensures in
+    let m = at-pages-for .pages-for .result in
+    let n = c .pages-for2 .result in
+    let first = at-pages-for .pages-for .ensures in
+    let second = c .pages-for2 .ensures in
+    let few = pages-few r p (a .q) (a .locks .now) ps hand (a .l) looked d divides m n first second in
+    record { fits = omega (arith, few, start .good) }
+
+ended-with-split-requires : tie.Need-ended-with-split-requires
+ended-with-split-requires c κs =
+    let at-root-of = c .before .before .before .before .before .before .before .before .before .before .before .before in
+    let start = at-root-of .before .before .before .before .before .before in
+    let a = start .args in
+    let r = at-root-of .root-of .result in
+    let er = at-root-of .root-of .ensures in
+    let p = a .party .now in
+    let ps = a .pages .now in
+    let hand : AtHand r p (a .q) (a .locks .now) ps = rw er (start .pre .at-hand) in
+    hand
 
 same-length : tie.Need-same-length
 same-length c = search needs
@@ -125,10 +133,133 @@ same-length-2 : tie.Need-same-length-2
 same-length-2 c = search needs
 
 same-length-3 : tie.Need-same-length-3
-same-length-3 c = c .before .before .before .before .before .before .before .before .before .before .before .before .before .before .before .before .before .before .before .before .before .before .before .before .before .before .before .gather .kept .1 .1 .1 .1 .0
+same-length-3 c = search needs
 
 same-length-4 : tie.Need-same-length-4
 same-length-4 c = search needs
+
+returns : tie.Need-returns
+returns c =
+    let at-ended-with-split = c .before .before .before .before .before .before in
+    let at-if1 = at-ended-with-split .before .before .before .before in
+    let at-pages-for2 = at-if1 .before .before in
+    let at-pages-for = at-pages-for2 .before .before in
+    let at-division-of = at-pages-for .before .before in
+    let at-root-of = at-division-of .before .before .before in
+    let start = at-root-of .before .before .before .before .before .before in
+    let a = start .args in
+    let r = at-root-of .root-of .result in
+    let er = at-root-of .root-of .ensures in
+    let p = a .party .now in
+    let ps = a .pages .now in
+    let hand : AtHand r p (a .q) (a .locks .now) ps = rw er (start .pre .at-hand) in
+    let looked : Scan.Sound (a .l) ≡ scanned 0 (chainOf r ps (partyIn p .chain)) = rw er (start .pre .looked) in
+    let d = at-division-of .division-of .result in
+    let divides = at-division-of .division-of .ensures in
+    let m = at-pages-for .pages-for .result in
+    let n = at-pages-for2 .pages-for2 .result in
+    let first = at-pages-for .pages-for .ensures in
+    let second = at-pages-for2 .pages-for2 .ensures in
+    let open-to : splitBarred (countOfChains r) (r .chains) ≡ false = rw er (start .pre .not-barred) in
+    let skipped = skips r p (a .q) (a .locks .now) ps hand (a .l) looked d divides m n first second open-to (at-if1 .if1 .taken) in
+    rw er at (at-ended-with-split .ended-with-split .ensures ∙ skipped)
+
+draw-requires : tie.Need-draw-requires
+draw-requires c κs =
+    let at-root-of = c .before .before .before .before .before .before .before .before .before .before in
+    let start = at-root-of .before .before .before .before .before .before in
+    let a = start .args in
+    let r = at-root-of .root-of .result in
+    let er = at-root-of .root-of .ensures in
+    let p = a .party .now in
+    let ps = a .pages .now in
+    let hand : AtHand r p (a .q) (a .locks .now) ps = rw er (start .pre .at-hand) in
+    let ready = hand .ready in
+    (omega (arith, ready .pages-fit), ready .overflow-fits)
+
+enum-told : tie.Need-enum-told
+enum-told c = search needs
+
+enum-known-head : tie.Need-enum-known-head
+enum-known-head c = search needs
+
+link-at-requires : tie.Need-link-at-requires
+link-at-requires c κs =
+    let at-root-of = c .before .before .before .before .before .before .before .before .before .before .before .before .before .before .before in
+    let start = at-root-of .before .before .before .before .before .before in
+    let a = start .args in
+    let r = at-root-of .root-of .result in
+    let er = at-root-of .root-of .ensures in
+    let p = a .party .now in
+    let ps = a .pages .now in
+    let hand : AtHand r p (a .q) (a .locks .now) ps = rw er (start .pre .at-hand) in
+    let ready = hand .ready in
+    omega (arith, ready .pages-fit, ready .chain-fits)
+
+scratch-page-requires : tie.Need-scratch-page-requires
+scratch-page-requires c κs =
+    let at-root-of = c .before .before .before .before .before .before .before .before .before .before .before .before .before .before .before .before in
+    let start = at-root-of .before .before .before .before .before .before in
+    let a = start .args in
+    let r = at-root-of .root-of .result in
+    let er = at-root-of .root-of .ensures in
+    let p = a .party .now in
+    let ps = a .pages .now in
+    let hand : AtHand r p (a .q) (a .locks .now) ps = rw er (start .pre .at-hand) in
+    let ready = hand .ready in
+    omega (arith, ready .chains-fit, ready .overflow-fits, ready .number-fits, ready .parties-fit)
+
+slice-read-root : tie.Need-slice-read-root
+slice-read-root c =
+    let start = c .before .before .before .before .before .before .before .before .before .before .before .before .before .before .before .before .before .before .before .before .before .before .before .before in
+    omega (arith, start .pre .at-hand .words)
+
+write-halves-requires : tie.Need-write-halves-requires
+write-halves-requires c κs =
+    let at-scratch-page = c .before .before in
+    let at-head = at-scratch-page .before .before .before .before in
+    let at-draw = at-head .before .before in
+    let at-pages-for2 = at-draw .before .before .before .before in
+    let at-pages-for = at-pages-for2 .before .before in
+    let at-division-of = at-pages-for .before .before in
+    let at-root-of = at-division-of .before .before .before in
+    let start = at-root-of .before .before .before .before .before .before in
+    let a = start .args in
+    let r = at-root-of .root-of .result in
+    let er = at-root-of .root-of .ensures in
+    let p = a .party .now in
+    let ps = a .pages .now in
+    let hand : AtHand r p (a .q) (a .locks .now) ps = rw er (start .pre .at-hand) in
+    let looked : Scan.Sound (a .l) ≡ scanned 0 (chainOf r ps (partyIn p .chain)) = rw er (start .pre .looked) in
+    let d = at-division-of .division-of .result in
+    let divides = at-division-of .division-of .ensures in
+    let m = at-pages-for .pages-for .result in
+    let n = at-pages-for2 .pages-for2 .result in
+    let first = at-pages-for .pages-for .ensures in
+    let second = at-pages-for2 .pages-for2 .ensures in
+    let drawn = sym (at-head .head .given .1) ∙ at-draw .draw .ensures in
+    rw (at-scratch-page .scratch-page .ensures) (can-write r p (a .q) (a .locks .now) ps hand (a .l) looked d divides m n first second (at-head .head .given .0 .0) drawn)
+
+slice-write-root : tie.Need-slice-write-root
+slice-write-root c =
+    let start = c .before .before .before .before .before .before .before .before .before .before .before .before .before .before .before .before .before .before .before .before .before .before .before .before .before .before .before .before in
+    omega (arith, start .pre .words)
+
+slice-write-root-2 : tie.Need-slice-write-root-2
+slice-write-root-2 c =
+    let start = c .before .before .before .before .before .before .before .before .before .before .before .before .before .before .before .before .before .before .before .before .before .before .before .before .before .before .before .before .before in
+    simp length-set (omega (arith, start .pre .words))
+
+slice-write-party : tie.Need-slice-write-party
+slice-write-party c =
+    let start = c .before .before .before .before .before .before .before .before .before .before .before .before .before .before .before .before .before .before .before .before .before .before .before .before .before .before .before .before .before in
+    omega (arith, start .pre .at-hand .words)
+
+at-step-requires : tie.Need-at-step-requires
+at-step-requires c κs =
+    let at-link-at = c .before .before .before .before .before .before .before .before in
+    let start = at-link-at .before .before .before .before .before .before .before .before .before .before .before .before .before .before .before .before .before .before .before .before .before .before in
+    length-set (start .args .party .now) 6 (at-link-at .link-at .result) ∙ start .pre .at-hand .words
 
 same-length-5 : tie.Need-same-length-5
 same-length-5 c = search needs
@@ -136,77 +267,114 @@ same-length-5 c = search needs
 same-length-6 : tie.Need-same-length-6
 same-length-6 c = search needs
 
-returns : tie.Need-returns
-unfolding halvesOf
-returns c =
-    let gathering = c .before .before .before .before .before .before .before .before .before .before .before .before .before .before .before .before .before .before .before .before .before .before .before .before .before .before .before in
-    let start = gathering .before .before .before .before .before .before .before .before .before in
+returns-2 : tie.Need-returns-2
+returns-2 c =
+    let at-draw = c .before .before in
+    let at-if1 = at-draw .before .before in
+    let at-pages-for2 = at-if1 .before .before in
+    let at-pages-for = at-pages-for2 .before .before in
+    let at-division-of = at-pages-for .before .before in
+    let at-root-of = at-division-of .before .before .before in
+    let start = at-root-of .before .before .before .before .before .before in
     let a = start .args in
-    let can = start .pre in
+    let r = at-root-of .root-of .result in
+    let er = at-root-of .root-of .ensures in
+    let p = a .party .now in
     let ps = a .pages .now in
-    let whole = gathering .gather .ensures .1 (c .before .before .before .before .before .before .before .before .before .before .before .before .before .before .before .before .before .before .before .before .before .before .before .before .if1 .taken) in
-    let count = gathering .gather .result .count in
-    let keys = gathering .gather .last .1 .1 .1 .1 .0 in
-    let part = front-is _ keys whole in
-    let many = front-long _ keys whole in
-    let halving = c .before .before .before .before .before .before .before .before .before .before .before .before .before .before .before .before .before .before .halves in
-    let stay = halving .last .1 .1 .1 .1 .0 in
-    let go = halving .last .1 .1 .1 .1 .1 .0 in
-    let kept = halving .result in
-    let v = viewing (a .root) (a .party) (a .q) (a .locks .now) ps in
-    let n = a .root .originals in
-    let i = a .root .level + 1 in
-    let here = a .party .chain in
-    let es = whole .chain .entries in
-    let stays : take (kept - 0) stay ≡ staying n i here es = front-part kept stay ∙ halving .ensures .1 ∙ ap (staying n i here) part in
-    let left : take (count - kept - 0) go ≡ take (length (take (count - 0) keys) - kept) go
-    = front-part (count - kept) go ∙ ap (λ (m : ℕ). take (m - kept) go) (sym many) in
-    let goes : take (count - kept - 0) go ≡ going n i here es = left ∙ halving .ensures .2 ∙ ap (going n i here) part in
-    let h : both (take (kept - 0) stay) (take (count - kept - 0) go) ≡ halvesOf v (whole .chain) = ap₂ both stays goes in
-    c .before .before .before .before .before .before .divide-with .ensures (whole .chain) (whole .link) ∙ chain-divided v (can .not-barred) (whole .chain) _ (whole .is-sound) h
-
-refused-requires : tie.Need-refused-requires
-refused-requires c κs = search needs
+    let hand : AtHand r p (a .q) (a .locks .now) ps = rw er (start .pre .at-hand) in
+    let looked : Scan.Sound (a .l) ≡ scanned 0 (chainOf r ps (partyIn p .chain)) = rw er (start .pre .looked) in
+    let d = at-division-of .division-of .result in
+    let divides = at-division-of .division-of .ensures in
+    let m = at-pages-for .pages-for .result in
+    let n = at-pages-for2 .pages-for2 .result in
+    let first = at-pages-for .pages-for .ensures in
+    let second = at-pages-for2 .pages-for2 .ensures in
+    let open-to : splitBarred (countOfChains r) (r .chains) ≡ false = rw er (start .pre .not-barred) in
+    let bad = sym (c .enum-told .given .1) ∙ at-draw .draw .ensures in
+    let refused = refuses r p (a .q) (a .locks .now) ps hand (a .l) looked d divides m n first second open-to (at-if1 .if1 .left) bad in
+    ap (λ (s : Root). left _ s p (a .q) (a .locks .now) ps) (sym er) ∙ refused ∙ ap (λ (s : Root). step17 (seen s p (a .q) (a .locks .now) ps)) er
 
 same-length-7 : tie.Need-same-length-7
 same-length-7 c = search needs
 
 same-length-8 : tie.Need-same-length-8
-same-length-8 c = search needs
+same-length-8 c =
+    let at-at-step = c .before .before in
+    let at-link-at = at-at-step .before .before .before .before .before .before .before .before .before in
+    let start = at-link-at .before .before .before .before .before .before .before .before .before .before .before .before .before .before .before .before .before .before .before .before .before .before in
+    at-at-step .at-step .kept .0 ∙ length-set (start .args .party .now) 6 (at-link-at .link-at .result)
 
-returns-2 : tie.Need-returns-2
-returns-2 c =
-    let start = c .before .before .before .before .before .before .before .before .before .before .before .before .before in
+same-length-9 : tie.Need-same-length-9
+same-length-9 c = search needs
+
+returns-3 : tie.Need-returns-3
+returns-3 c =
+    let at-at-step = c .before .before in
+    let at-write-halves = at-at-step .before .before .before .before .before in
+    let at-scratch-page = at-write-halves .before .before .before in
+    let at-link-at = at-scratch-page .before in
+    let at-head = at-link-at .before .before .before in
+    let at-draw = at-head .before .before in
+    let at-if1 = at-draw .before .before in
+    let at-pages-for2 = at-if1 .before .before in
+    let at-pages-for = at-pages-for2 .before .before in
+    let at-division-of = at-pages-for .before .before in
+    let at-root-of = at-division-of .before .before .before in
+    let start = at-root-of .before .before .before .before .before .before in
     let a = start .args in
-    let v = viewing (a .root) (a .party) (a .q) (a .locks .now) (a .pages .now) in
-    c .refused .ensures (a .q) (a .locks .now) (a .pages .now) ∙ chain-refused v (start .pre .not-barred) (c .before .before .before .before .gather .ensures .0 (c .before .if1 .left))
+    let r = at-root-of .root-of .result in
+    let er = at-root-of .root-of .ensures in
+    let p = a .party .now in
+    let ps = a .pages .now in
+    let hand : AtHand r p (a .q) (a .locks .now) ps = rw er (start .pre .at-hand) in
+    let looked : Scan.Sound (a .l) ≡ scanned 0 (chainOf r ps (partyIn p .chain)) = rw er (start .pre .looked) in
+    let d = at-division-of .division-of .result in
+    let divides = at-division-of .division-of .ensures in
+    let m = at-pages-for .pages-for .result in
+    let n = at-pages-for2 .pages-for2 .result in
+    let first = at-pages-for .pages-for .ensures in
+    let second = at-pages-for2 .pages-for2 .ensures in
+    let open-to : splitBarred (countOfChains r) (r .chains) ≡ false = rw er (start .pre .not-barred) in
+    let drawn = sym (at-head .head .given .1) ∙ at-draw .draw .ensures in
+    let h = at-head .head .given .0 .0 in
+    let root = free-list-written (a .root .now) h (r .free - (m + n)) (start .pre .words) ∙ ap (withFreeList h (r .free - (m + n))) (sym er) in
+    moves r p (a .q) (a .locks .now) ps hand (a .l) looked d divides m n first second open-to (at-if1 .if1 .left) h (at-link-at .link-at .result) (at-scratch-page .scratch-page .result .0) drawn (at-link-at .link-at .ensures) (at-scratch-page .scratch-page .ensures) root (at-at-step .at-step .ensures) (at-write-halves .write-halves .ensures)
+    ∙ ap (λ (s : Root). step17 (seen s p (a .q) (a .locks .now) ps)) er
 
 pub divide-spec : {M : Type 1} → statement M
 divide-spec =
     tie.close
     (tie.spec
-    gather-requires
-    add-level
-    sub-halves
-    part-halves-start
-    part-halves-end
-    halves-requires
-    sub-away
-    sub-divide-with
-    part-divide-with-start
-    part-divide-with-end
-    sub-divide-with-2
-    part-divide-with-start-2
-    part-divide-with-end-2
-    divide-with-requires
+    root-of-requires
+    slice-read-chain
+    division-of-requires
+    cast-pages-for
+    pages-for-requires
+    cast-pages-for-2
+    pages-for-requires-2
+    add-k
+    cast-k
+    ended-with-split-requires
     same-length
     same-length-2
     same-length-3
     same-length-4
+    returns
+    draw-requires
+    enum-told
+    enum-known-head
+    link-at-requires
+    scratch-page-requires
+    slice-read-root
+    write-halves-requires
+    slice-write-root
+    slice-write-root-2
+    slice-write-party
+    at-step-requires
     same-length-5
     same-length-6
-    returns
-    refused-requires
+    returns-2
     same-length-7
     same-length-8
-    returns-2)
+    same-length-9
+    returns-3)

@@ -1,12 +1,13 @@
 -- `split_locks::step_19` meets its contract.
-use Rattle.model.specs.Ready.{viewing}
+use mathlib.Core.Path.{refl}
+use Rattle.records.specs.Words.{seen}
 use Rattle.split_locks.proofs.Splits.{chain-left}
 use borrow.Author.Needs.{needs}
 use Rattle.split_locks.proofs.step_19.Statement.{statement}
 use Rattle.split_locks.proofs.step_19.Tie as tie
 
-at-step-requires : tie.Need-at-step-requires
-at-step-requires c κs = search needs
+slice-read-t6 : tie.Need-slice-read-t6
+slice-read-t6 c = search needs
 
 chain-word-requires : tie.Need-chain-word-requires
 chain-word-requires c κs = search needs
@@ -21,18 +22,19 @@ same-length-2 : tie.Need-same-length-2
 same-length-2 c = search needs
 
 returns : tie.Need-returns
-returns c =
-    let asked = c .before .before .before .before in
-    let word = asked .before .before .before in
-    let a = word .before .before .before .before .args in
-    let v = viewing (a .root) (a .party) (a .q) (a .locks .now) (a .pages .now) in
-    chain-left v (word .chain-word .ensures) (word .before .at-step .ensures) (asked .release-step .ensures)
+returns c = λ r ps.
+    let at-release-step = c .before .before .before .before in
+    let at-chain-word = at-release-step .before .before .before in
+    let start = at-chain-word .before .before .before .before in
+    let a = start .args in
+    let v = seen r (a .party .now) (a .q) (a .locks .now) ps in
+    chain-left v (at-chain-word .chain-word .ensures) refl (at-release-step .release-step .ensures r ps)
 
 pub step-19-spec : {M : Type 1} → statement M
 step-19-spec =
     tie.close
     (tie.spec
-    at-step-requires
+    slice-read-t6
     chain-word-requires
     release-step-requires
     same-length

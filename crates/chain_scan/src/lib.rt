@@ -1,0 +1,110 @@
+// A bucket chain looked through whole without keeping its keys (document 01, steps 10 and 17): its pages are walked first, and then their keys are compared page by page.
+// Main statements: has_key is hasKey of a page's records, ascend is their ascent; examine is the ascent of all records from a link on; look_through is chainOf, scanned.
+
+ghost use mathlib.Core.Path.{_≡_};
+ghost use Prim.Native.Nat.{_+_, _≤_};
+ghost use Rattle.model.specs.Sizes.{mostKeys};
+ghost use Rattle.model.specs.Entries.{hasKey};
+ghost use Rattle.model.specs.Pages.{countOf, entriesOf};
+ghost use Rattle.model.specs.Chains.{chainOf};
+ghost use Rattle.chain_keys.specs.Gathering.{CanWalk, Followed, entriesFrom};
+ghost use Rattle.chain_scan.specs.Scans.{ascentFrom, examined, scanned};
+use chains::Walked;
+use model::ChainAddress;
+use model::PageAddress;
+use model::Root;
+
+// "words 3 to 14 the keys".
+const FIRST_KEY: usize = 3;
+
+// Whether the keys passed ascend, and the least that the next key may be.
+enum Ascent {
+    Falls,
+    Rises(u64),
+}
+
+// A chain that was looked through: its overflow pages, its keys, and whether the key asked for is one of them.
+pub struct Looked {
+    pub pages: u32,
+    pub count: u32,
+    pub found: bool,
+}
+
+pub enum Scan {
+    Damaged,
+    Sound(Looked),
+}
+
+// Whether a page has key k among the keys that it counts.
+pub fn has_key(w: [u32; 16], k: u32) -> bool
+    requires { ⌜ countOf w ≤ mostKeys ⌝ }
+    ensures { λ r. ⌜ r ≡ hasKey k (entriesOf w) ⌝ }
+{
+    let count = chains::count_of(w) as usize;
+    let mut i = 0;
+    while i < count {
+        if w[FIRST_KEY + i] == k {
+            return true;
+        }
+        i += 1;
+    }
+    false
+}
+
+// Whether a page's keys ascend and the first is at least `floor`. The floor of the next page is one more than the last key.
+fn ascend(w: [u32; 16], floor: u64) -> Ascent
+    requires { ⌜ countOf w ≤ mostKeys ⌝ }
+    ensures { λ r. ⌜ r ≡ ascentFrom floor (entriesOf w) ⌝ }
+{
+    let n = chains::count_of(w) as usize;
+    let mut low = floor;
+    let mut i = 0;
+    while i < n {
+        let k = w[FIRST_KEY + i] as u64;
+        if k < low {
+            return Ascent::Falls;
+        }
+        low = k + 1;
+        i += 1;
+    }
+    Ascent::Rises(low)
+}
+
+// The keys on the n + 1 pages from link `first` on: those of a primary page and its n overflow pages.
+fn examine(first: u32, n: u32, key: u32, pages: &[u32]) -> Scan
+    requires { ⌜ Followed (now pages) (n + 1) first × (n ≤ 752) ⌝ }
+    ensures { λ r. ⌜ r ≡ examined key n (entriesFrom (now (pages .entry)) (n + 1) first) ⌝ }
+{
+    let mut l = first;
+    let mut left = n + 1;
+    let mut floor = 0;
+    let mut count = 0;
+    let mut found = false;
+    while 0 < left {
+        let w = page_io::load(pages, PageAddress(l - 1));
+        match ascend(w, floor) {
+            Ascent::Falls => return Scan::Damaged,
+            Ascent::Rises(next) => floor = next,
+        }
+        count += chains::count_of(w);
+        found = found | has_key(w, key);
+        l = chains::link_of(w);
+        left -= 1;
+    }
+    Scan::Sound(Looked {
+        pages: n,
+        count,
+        found,
+    })
+}
+
+// Chain `chain` looked through whole: every page is tested and its keys must ascend.
+pub fn look_through(root: Root, chain: ChainAddress, key: u32, pages: &[u32]) -> Scan
+    requires { ⌜ CanWalk root (now pages) (chain .0) × (root .keys ≤ mostKeys) × (root .overflow ≤ 752) ⌝ }
+    ensures { λ r. ⌜ r ≡ scanned key (chainOf root (now (pages .entry)) (chain .0)) ⌝ }
+{
+    match chain_keys::walk(root, chain, pages) {
+        Walked::Damaged => Scan::Damaged,
+        Walked::Pages(n) => examine(chain.0 + 1, n, key, pages),
+    }
+}

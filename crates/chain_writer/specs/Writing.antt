@@ -1,0 +1,72 @@
+-- A chain written to its page and on to free pages, and after it the rest.
+-- Main definitions: linkedPages and linkAfter (the pages that links lead to, and the link after them), CanFill (these are pages of the memory, and none comes twice);
+-- HasPage (a page made of the next keys); chainWritten, restWritten, allWritten (what is written), CanPlace, CanPlaceRest and CanWrite (what writing needs).
+use mathlib.Core.Path.{_≡_}
+use mathlib.Core.Bool.{false}
+use mathlib.Core.List.{List, [], _∷_}
+use Prim.Native.Nat.{ℕ, zero, suc, _+_, _*_, _≤_}
+use lib.ListN.{length, take, drop}
+use Rattle.model.specs.Sizes.{pageWords, mostKeys}
+use Rattle.model.specs.Entries.{Entry}
+use Rattle.model.specs.Pages.{pageOf, withPage, linkOf, linkedPage, filledPage}
+use Rattle.model.specs.Filling.{overflowNeeded, primaryOf, overflowWritten}
+use Rattle.model.specs.FreeList.{isAmong}
+pub use Rattle.free_list.specs.Taking.{nextLink}
+unfoldable pub use Rattle.free_list.specs.Taking.{linkedPages, linkAfter}
+use Rattle.key_source.specs.declared.Source.{Source}
+use Rattle.key_source.specs.Sources.{Sits, CanChoose, keysOf}
+use Rattle.chain_writer.specs.declared.Planned.{Planned}
+use Rattle.chain_writer.specs.declared.Rest.{Rest}
+use Rattle.chain_writer.specs.declared.Rest.the-variants.{Nothing, Chain}
+use Rattle.chain_writer.specs.declared.Filled.{Filled}
+
+-- ---- Pages that links lead to
+
+-- Each of the k links from l on names a page of the memory, and no page comes twice.
+pub data CanFill (ps : List ℕ) : ℕ → ℕ → Type 0 where
+  none : {l : ℕ} → CanFill ps 0 l
+  one-more : {k l : ℕ} → 1 ≤ l → linkedPage l * pageWords + pageWords ≤ length ps → isAmong (linkedPage l) (linkedPages ps k (nextLink ps l)) ≡ false → CanFill ps k (nextLink ps l) → CanFill ps (suc k) l
+
+-- ---- Pages made
+
+-- The page of the next n keys of s, with this local level and this link, and the source of the others.
+pub record HasPage (ps : List ℕ) (level n link : ℕ) (s : Source) (f : Filled) : Type 0 where
+  pub words : f .w ≡ filledPage level (take n (keysOf ps s)) link
+  pub sits : Sits ps (f .source .place)
+  pub can-choose : CanChoose (f .source .choice)
+  pub others : keysOf ps (f .source) ≡ drop n (keysOf ps s)
+
+-- ---- Chains written
+
+-- The memory with a chain of the records es in the page `to` and the overflow pages xs.
+unfoldable pub chainWritten : ℕ → List ℕ → ℕ → ℕ → List Entry → List ℕ → List ℕ
+chainWritten b ps to level es xs = withPage (overflowWritten b ps xs es) to (primaryOf b level es xs)
+
+-- The memory with the rest written, to pages from link l on.
+unfoldable pub restWritten : ℕ → List ℕ → Rest → ℕ → List ℕ
+restWritten b ps Nothing l = ps
+restWritten b ps (Chain d) l = chainWritten b ps (d .to .0) (d .level) (keysOf ps (d .source)) (linkedPages ps (overflowNeeded b (d .left)) l)
+
+-- The memory with the rest and then the chain c written, to pages from link l on: c's first, the rest's after them.
+abbrev pub allWritten : ℕ → Planned → ℕ → Rest → List ℕ → List ℕ
+allWritten b c l rest ps =
+    chainWritten b (restWritten b ps rest (linkAfter ps (overflowNeeded b (c .left)) l)) (c .to .0) (c .level) (keysOf ps (c .source)) (linkedPages ps (overflowNeeded b (c .left)) l)
+
+-- The keys of c can be read and are as many as it says; its page, and the pages from link l on that it needs, are pages of the memory.
+pub record CanPlace (b : ℕ) (c : Planned) (l : ℕ) (ps : List ℕ) : Type 0 where
+  pub sits : Sits ps (c .source .place)
+  pub can-choose : CanChoose (c .source .choice)
+  pub many : length (keysOf ps (c .source)) ≡ c .left
+  pub page-fits : c .to .0 * pageWords + pageWords ≤ length ps
+  pub can-fill : CanFill ps (overflowNeeded b (c .left)) l
+
+abbrev pub CanPlaceRest : ℕ → Rest → ℕ → List ℕ → Type 0
+CanPlaceRest b Nothing l ps = Unit {0}
+CanPlaceRest b (Chain d) l ps = CanPlace b d l ps
+
+-- The chain c can be written to pages from link l on, and the rest to those after them.
+pub record CanWrite (b : ℕ) (c : Planned) (l : ℕ) (rest : Rest) (ps : List ℕ) : Type 0 where
+  pub some-key : 1 ≤ b
+  pub keys-fit : b ≤ mostKeys
+  pub chain : CanPlace b c l ps
+  pub others : CanPlaceRest b rest (linkAfter ps (overflowNeeded b (c .left)) l) ps

@@ -1,2 +1,0 @@
--- What the answers of this crate's loops mean.
-pub mod Chased

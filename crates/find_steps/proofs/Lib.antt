@@ -1,4 +1,0 @@
--- Laws that the proofs of this crate share.
-pub mod Keys
-pub mod Answers
-pub mod Pages

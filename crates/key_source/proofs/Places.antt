@@ -1,0 +1,121 @@
+-- Places in a chain: the keys from a place on, key by key and page by page.
+-- Main statements: first-sits, first-keys (a page's first key); next-start, page-over, none-left (a page without a key left); first-key, onward-sits (one key further);
+-- length-keysAt (how many keys there are at most).
+use mathlib.Core.Path.{_≡_, refl, sym, ap, _∙_}
+use mathlib.Core.List.{List, [], _∷_, _++_}
+use Prim.Native.Nat.{ℕ, zero, suc, _+_, _-_, _*_, _≤_, _<_}
+use native.Mathlib.Numerals.{add-one}
+use native.Mathlib.Omega.{arith}
+use lib.ListN.{length, getD, take, drop, length-append, length-take}
+use lib.Seq.{getD-take, getD-drop, drop-cons, drop-drop}
+use Rattle.model.specs.Sizes.{pageWords, mostKeys}
+use Rattle.model.specs.Entries.{Entry}
+use Rattle.model.specs.Pages.{pageOf, countOf, linkOf, entriesOf}
+use Rattle.chain_keys.specs.Gathering.{entriesFrom, Followed}
+use Rattle.chain_keys.proofs.Following.{next-page, entries-next, entries-none}
+use Rattle.key_source.specs.declared.Place.{Place}
+use Rattle.key_source.specs.Sources.{keysAt, Sits, CanStart, onward}
+
+-- ---- A page's first key
+
+-- Words of a page, as words of the memory.
+pub word-of : (ps : List ℕ) (page i : ℕ) → i < pageWords → getD (pageOf ps page) i 0 ≡ getD ps (page * pageWords + i) 0
+unfolding pageOf
+word-of ps page i h = getD-take pageWords (drop (page * pageWords) ps) i 0 h ∙ getD-drop (page * pageWords) ps i 0
+
+-- Some words of a front, after the first m.
+part-of-front : (m k n : ℕ) (l : List ℕ) → m + k ≤ n → take k (drop m (take n l)) ≡ take k (drop m l)
+part-of-front m zero n l h = refl
+part-of-front zero (suc k) zero l h = absurd (omega arith)
+part-of-front zero (suc k) (suc n) [] h = refl
+part-of-front zero (suc k) (suc n) (x ∷ l) h = ap (λ (y : List ℕ). x ∷ y) (part-of-front zero k n l (omega arith))
+part-of-front (suc m) (suc k) zero l h = absurd (omega arith)
+part-of-front (suc m) (suc k) (suc n) [] h = refl
+part-of-front (suc m) (suc k) (suc n) (x ∷ l) h = part-of-front m (suc k) n l (omega arith)
+
+module _ (ps : List ℕ) (page n : ℕ) (can : CanStart ps page n) where
+  -- The place of the page's first key.
+  abbrev firstPlace : Place
+  firstPlace = record { at = page * 16 + 3; left = getD ps (page * 16 + 1) 0; link = getD ps (page * 16 + 2) 0; pages = n }
+
+  count-read : getD ps (page * 16 + 1) 0 ≡ countOf (pageOf ps page)
+  unfolding countOf
+  count-read = sym (word-of ps page 1 (omega arith))
+
+  link-read : getD ps (page * 16 + 2) 0 ≡ linkOf (pageOf ps page)
+  unfolding linkOf
+  link-read = sym (word-of ps page 2 (omega arith))
+
+  pub first-sits : Sits ps firstPlace
+  first-sits = record {
+    within = omega (arith, count-read, can .fits, can .few);
+    few = omega (arith, count-read, can .few);
+    few-pages = can .few-pages;
+    followed = rw link-read (can .followed);
+  }
+
+  keys-read : take (countOf (pageOf ps page)) (drop (page * 16 + 3) ps) ≡ entriesOf (pageOf ps page)
+  unfolding entriesOf pageOf
+  keys-read =
+      let n = countOf (pageOf ps page) in
+      sym (part-of-front 3 n pageWords (drop (page * 16) ps) (omega (arith, can .few)) ∙ ap (take n) (drop-drop 3 (page * 16) ps))
+
+  pub first-keys : keysAt ps firstPlace ≡ entriesOf (pageOf ps page) ++ entriesFrom ps n (linkOf (pageOf ps page))
+  unfolding keysAt
+  first-keys = rw (count-read, link-read, keys-read)
+
+-- ---- A page without a key left
+
+module _ (ps : List ℕ) (p : Place) (sits : Sits ps p) where
+  no-key : p .left ≡ 0 → keysAt ps p ≡ entriesFrom ps (p .pages) (p .link)
+  unfolding keysAt
+  no-key e = rw e
+
+  pub none-left : p .left ≡ 0 → p .pages ≤ 0 → keysAt ps p ≡ []
+  none-left e f = no-key e ∙ entries-none ps (p .pages) (p .link) f
+
+  pub linked : 0 < p .pages → 0 < p .link
+  linked h = next-page ps h (sits .followed) .linked
+
+  pub next-start : 0 < p .pages → CanStart ps (p .link - 1) (p .pages - 1)
+  next-start h =
+      let next = next-page ps h (sits .followed) in
+      record { fits = next .fits; few = next .few; few-pages = omega (arith, sits .few-pages); followed = next .rest }
+
+  pub page-over :
+      p .left ≡ 0 → 0 < p .pages → keysAt ps p ≡ entriesOf (pageOf ps (p .link - 1)) ++ entriesFrom ps (p .pages - 1) (linkOf (pageOf ps (p .link - 1)))
+  page-over e h = no-key e ∙ entries-next ps (p .pages) (p .link) h
+
+  -- ---- One key further
+
+  pub first-key : 1 ≤ p .left → keysAt ps p ≡ getD ps (p .at) 0 ∷ keysAt ps (onward p)
+  unfolding keysAt
+  first-key h = ap (λ (es : List Entry). es ++ entriesFrom ps (p .pages) (p .link)) (go (p .left) h (sits .within))
+    where
+      go : (n : ℕ) → 1 ≤ n → p .at + n ≤ length ps → take n (drop (p .at) ps) ≡ getD ps (p .at) 0 ∷ take (n - 1) (drop (p .at + 1) ps)
+      go zero h w = absurd (omega arith)
+      go (suc n) h w =
+          let some : p .at < length ps = omega arith in
+          let q : suc n - 1 ≡ n = omega arith in
+          rw (q, add-one) (ap (take (suc n)) (drop-cons ps (p .at) 0 some))
+
+  pub onward-sits : 1 ≤ p .left → Sits ps (onward p)
+  onward-sits h = record {
+    within = omega (arith, sits .within);
+    few = omega (arith, sits .few);
+    few-pages = sits .few-pages;
+    followed = sits .followed;
+  }
+
+-- ---- How many keys there are
+
+length-from : (ps : List ℕ) {n l : ℕ} → Followed ps n l → length (entriesFrom ps n l) ≤ mostKeys * n
+unfolding entriesFrom entriesOf
+length-from ps (Followed.none l) = omega arith
+length-from ps (Followed.also n l h f k rest) =
+    let w = pageOf ps (l - 1) in
+    rw (length-append, length-take) (omega (arith, length-from ps rest))
+
+pub length-keysAt : (ps : List ℕ) (p : Place) → Sits ps p → length (keysAt ps p) ≤ mostKeys * 753
+unfolding keysAt
+length-keysAt ps p sits = rw (length-append, length-take) (omega (arith, length-from ps (sits .followed), sits .few, sits .few-pages))

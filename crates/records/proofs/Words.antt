@@ -1,0 +1,108 @@
+-- A word of a record written: the record is changed in that field alone.
+-- Main statements: step-written to answer-written, a law for each word of a party's record that steps write; level-written, next-written and free-list-written for the root's;
+-- all-zero (nine zero words are the zero record); party-is and root-is (a record in an outcome).
+use mathlib.Core.Path.{_≡_, refl, ap}
+use mathlib.Core.List.{List, [], _∷_}
+use Prim.Native.Nat.{ℕ}
+use native.Mathlib.Omega.{arith}
+use lib.ListN.{length, set, replicate}
+use Rattle.model.specs.declared.Root.{Root}
+use Rattle.model.specs.declared.Party.{Party}
+use Rattle.model.specs.declared.StepAnswer.{StepAnswer}
+use Rattle.model.specs.Outcome.{outcome}
+use Rattle.model.specs.Ready.{viewing}
+use Rattle.model.specs.Records.{idle, atStep, withLev, withChain, withOther, withOld, withOwed, withAnswer, withLevel, withNext, withFreeList}
+use Rattle.records.specs.Words.{recordWords, rootIn, partyIn}
+
+-- A list of nine words, word by word.
+data Nine : List ℕ → Type 0 where
+  nine : (a b c d e f g h i : ℕ) → Nine (a ∷ (b ∷ (c ∷ (d ∷ (e ∷ (f ∷ (g ∷ (h ∷ (i ∷ [])))))))))
+
+nine-words : (w : List ℕ) → length w ≡ recordWords → Nine w
+nine-words [] z = absurd (omega (arith, z))
+nine-words (a ∷ []) z = absurd (omega (arith, z))
+nine-words (a ∷ (b ∷ [])) z = absurd (omega (arith, z))
+nine-words (a ∷ (b ∷ (c ∷ []))) z = absurd (omega (arith, z))
+nine-words (a ∷ (b ∷ (c ∷ (d ∷ [])))) z = absurd (omega (arith, z))
+nine-words (a ∷ (b ∷ (c ∷ (d ∷ (e ∷ []))))) z = absurd (omega (arith, z))
+nine-words (a ∷ (b ∷ (c ∷ (d ∷ (e ∷ (f ∷ [])))))) z = absurd (omega (arith, z))
+nine-words (a ∷ (b ∷ (c ∷ (d ∷ (e ∷ (f ∷ (g ∷ []))))))) z = absurd (omega (arith, z))
+nine-words (a ∷ (b ∷ (c ∷ (d ∷ (e ∷ (f ∷ (g ∷ (h ∷ [])))))))) z = absurd (omega (arith, z))
+nine-words (a ∷ (b ∷ (c ∷ (d ∷ (e ∷ (f ∷ (g ∷ (h ∷ (i ∷ []))))))))) z = nine a b c d e f g h i
+nine-words (a ∷ (b ∷ (c ∷ (d ∷ (e ∷ (f ∷ (g ∷ (h ∷ (i ∷ (j ∷ w)))))))))) z = absurd (omega (arith, z))
+
+-- ---- A party's record
+
+step-at : {w : List ℕ} → Nine w → (x : ℕ) → partyIn (set w 2 x) ≡ atStep x (partyIn w)
+step-at (nine a b c d e f g h i) x = refl
+
+pub step-written : (w : List ℕ) (x : ℕ) → length w ≡ recordWords → partyIn (set w 2 x) ≡ atStep x (partyIn w)
+step-written w x e = step-at (nine-words w e) x
+
+lev-at : {w : List ℕ} → Nine w → (x : ℕ) → partyIn (set w 3 x) ≡ withLev x (partyIn w)
+lev-at (nine a b c d e f g h i) x = refl
+
+pub lev-written : (w : List ℕ) (x : ℕ) → length w ≡ recordWords → partyIn (set w 3 x) ≡ withLev x (partyIn w)
+lev-written w x e = lev-at (nine-words w e) x
+
+chain-at : {w : List ℕ} → Nine w → (x : ℕ) → partyIn (set w 4 x) ≡ withChain x (partyIn w)
+chain-at (nine a b c d e f g h i) x = refl
+
+pub chain-written : (w : List ℕ) (x : ℕ) → length w ≡ recordWords → partyIn (set w 4 x) ≡ withChain x (partyIn w)
+chain-written w x e = chain-at (nine-words w e) x
+
+other-at : {w : List ℕ} → Nine w → (x : ℕ) → partyIn (set w 5 x) ≡ withOther x (partyIn w)
+other-at (nine a b c d e f g h i) x = refl
+
+pub other-written : (w : List ℕ) (x : ℕ) → length w ≡ recordWords → partyIn (set w 5 x) ≡ withOther x (partyIn w)
+other-written w x e = other-at (nine-words w e) x
+
+old-at : {w : List ℕ} → Nine w → (x : ℕ) → partyIn (set w 6 x) ≡ withOld x (partyIn w)
+old-at (nine a b c d e f g h i) x = refl
+
+pub old-written : (w : List ℕ) (x : ℕ) → length w ≡ recordWords → partyIn (set w 6 x) ≡ withOld x (partyIn w)
+old-written w x e = old-at (nine-words w e) x
+
+owed-at : {w : List ℕ} → Nine w → (x : ℕ) → partyIn (set w 7 x) ≡ withOwed x (partyIn w)
+owed-at (nine a b c d e f g h i) x = refl
+
+pub owed-written : (w : List ℕ) (x : ℕ) → length w ≡ recordWords → partyIn (set w 7 x) ≡ withOwed x (partyIn w)
+owed-written w x e = owed-at (nine-words w e) x
+
+answer-at : {w : List ℕ} → Nine w → (x : ℕ) → partyIn (set w 8 x) ≡ withAnswer x (partyIn w)
+answer-at (nine a b c d e f g h i) x = refl
+
+pub answer-written : (w : List ℕ) (x : ℕ) → length w ≡ recordWords → partyIn (set w 8 x) ≡ withAnswer x (partyIn w)
+answer-written w x e = answer-at (nine-words w e) x
+
+pub all-zero : (n : ℕ) → n ≡ recordWords → partyIn (replicate n 0) ≡ idle
+all-zero n e = ap (λ (m : ℕ). partyIn (replicate m 0)) e
+
+-- ---- The root record
+
+level-at : {w : List ℕ} → Nine w → (x : ℕ) → rootIn (set w 5 x) ≡ withLevel x (rootIn w)
+level-at (nine a b c d e f g h i) x = refl
+
+pub level-written : (w : List ℕ) (x : ℕ) → length w ≡ recordWords → rootIn (set w 5 x) ≡ withLevel x (rootIn w)
+level-written w x e = level-at (nine-words w e) x
+
+next-at : {w : List ℕ} → Nine w → (x : ℕ) → rootIn (set w 6 x) ≡ withNext x (rootIn w)
+next-at (nine a b c d e f g h i) x = refl
+
+pub next-written : (w : List ℕ) (x : ℕ) → length w ≡ recordWords → rootIn (set w 6 x) ≡ withNext x (rootIn w)
+next-written w x e = next-at (nine-words w e) x
+
+free-list-at : {w : List ℕ} → Nine w → (h n : ℕ) → rootIn (set (set w 7 h) 8 n) ≡ withFreeList h n (rootIn w)
+free-list-at (nine a b c d e f g h i) x n = refl
+
+pub free-list-written : (w : List ℕ) (h n : ℕ) → length w ≡ recordWords → rootIn (set (set w 7 h) 8 n) ≡ withFreeList h n (rootIn w)
+free-list-written w h n e = free-list-at (nine-words w e) h n
+
+-- ---- Records in an outcome
+
+-- The party's record, or the root's, by another name.
+pub party-is : {a : StepAnswer} {r : Root} {p p′ : Party} {q : ℕ} {ls ps : List ℕ} → p ≡ p′ → outcome a (viewing r p q ls ps) ≡ outcome a (viewing r p′ q ls ps)
+party-is {a} {r} {q = q} {ls} {ps} e = ap (λ (x : Party). outcome a (viewing r x q ls ps)) e
+
+pub root-is : {a : StepAnswer} {r r′ : Root} {p : Party} {q : ℕ} {ls ps : List ℕ} → r ≡ r′ → outcome a (viewing r p q ls ps) ≡ outcome a (viewing r′ p q ls ps)
+root-is {a} {p = p} {q} {ls} {ps} e = ap (λ (x : Root). outcome a (viewing x p q ls ps)) e

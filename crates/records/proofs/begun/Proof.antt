@@ -1,0 +1,16 @@
+-- `records::begun` meets its contract.
+use borrow.Author.Needs.{needs}
+use Rattle.records.proofs.begun.Statement.{statement}
+use Rattle.records.proofs.begun.Tie as tie
+
+idle-requires : tie.Need-idle-requires
+idle-requires c κs = search needs
+
+operation-number-requires : tie.Need-operation-number-requires
+operation-number-requires c κs = search needs
+
+returns : tie.Need-returns
+returns c = rw (c .operation-number .ensures, c .before .idle .ensures)
+
+pub begun-spec : {M : Type 1} → statement M
+begun-spec = tie.close (tie.spec idle-requires operation-number-requires returns)
