@@ -1,6 +1,6 @@
 // Addresses of linear hashing, the number of chains, and how a split and a merge move level and next (document 01, "Addresses and locks" and the steps).
 // Each function equals the model's definition of the same name, on every root record within its limits (RootFits).
-// hashed, span and hash; address_level, address_of; chain_count; split_barred, split_next, split_level; merge_barred, merge_partner, merge_target, merge_level.
+// hashed, span and hash; chain_count; split_barred, split_next, split_level; merge_barred, merge_partner, merge_target, merge_level.
 
 ghost use mathlib.Core.Path.{_≡_};
 ghost use mathlib.Core.Bool.{false};
@@ -32,24 +32,6 @@ pub fn hash(n: u32, i: u32, k: u32) -> ChainAddress
 {
     let m = span(n, i);
     ChainAddress(hashed(k) % m)
-}
-
-// The level whose hash is the address of key k, for a party that read lev: one more "if the former is below next".
-pub fn address_level(root: Root, lev: u32, k: u32) -> u32
-    requires { ⌜ (1 ≤ root .originals) × (root .originals ≤ 256) × (lev ≤ 9) ⌝ }
-    ensures { λ r. ⌜ r ≡ Addresses.addressLevel (root .originals) lev (root .next) k ⌝ }
-{
-    let low = hash(root.originals, lev, k);
-    if low.0 < root.next { lev + 1 } else { lev }
-}
-
-// "the address is h_level(k), or h_(level+1)(k) if the former is below next".
-pub fn address_of(root: Root, lev: u32, k: u32) -> ChainAddress
-    requires { ⌜ (1 ≤ root .originals) × (root .originals ≤ 256) × (lev ≤ 9) ⌝ }
-    ensures { λ r. ⌜ r .0 ≡ Addresses.addressOf (root .originals) lev (root .next) k ⌝ }
-{
-    let level = address_level(root, lev, k);
-    hash(root.originals, level, k)
 }
 
 // "n is N × 2^level + next, the number of chains outside a restructuring."

@@ -3,10 +3,9 @@
 // Main statements: page_of is filledPage of the next keys; write_chain is allWritten, for every memory.
 
 ghost use mathlib.Core.Path.{_≡_};
-ghost use Prim.Native.Nat.{_+_, _*_, _≤_};
+ghost use Prim.Native.Nat.{_+_, _≤_};
 ghost use lib.ListN.{length};
-ghost use Rattle.model.specs.Sizes.{pageWords, mostKeys};
-ghost use Rattle.model.specs.Pages.{pageOf, linkOf};
+ghost use Rattle.model.specs.Sizes.{mostKeys};
 ghost use Rattle.key_source.specs.Sources.{Sits, CanChoose, keysOf};
 ghost use Rattle.chain_writer.specs.Writing.{HasPage, allWritten, CanWrite};
 use key_source::Source;
@@ -30,14 +29,6 @@ pub enum Rest {
 struct Filled {
     w: [u32; 16],
     source: Source,
-}
-
-// The link word of page `p`: the page's other words are not read.
-fn link_at(pages: &[u32], p: PageAddress) -> u32
-    requires { ⌜ p .0 * pageWords + pageWords ≤ length (now pages) ⌝ }
-    ensures { λ r. ⌜ r ≡ linkOf (pageOf (now (pages .entry)) (p .0)) ⌝ }
-{
-    pages[p.0 as usize * 16 + 2]
 }
 
 // A page of the next n keys, and the source of the others.
@@ -73,7 +64,7 @@ pub fn write_chain(b: u32, c: Planned, free: u32, rest: Rest, pages: &mut [u32])
         let w = page.w;
         let others = page.source;
         let next = PageAddress(free - 1);
-        let after = link_at(&pages[..], next);
+        let after = free_list::link_at(&pages[..], next);
         let on = Planned {
             level: 0,
             left: c.left - b,

@@ -1,17 +1,16 @@
 -- Lists of keys passed from the front, key by key, and the buffer that the keys kept go into.
--- Main statements: next-of (the key passed next); stored-next (one key more in the buffer); ascending-passed, last-ascends;
--- removed-same, removed-other, none-removed.
+-- Main statements: next-of (the key passed next); stored-next (one key more in the buffer); ascending-passed, last-ascends.
 use mathlib.Core.Path.{_≡_, refl, sym, ap, _∙_}
 use mathlib.Core.Bool.{Bool, true, false, not, _&&_, _||_}
 use mathlib.Core.List.{List, [], _∷_, _++_}
 use Prim.Native.Nat.{ℕ, _+_, _-_, _≤_, _<_}
 use native.Mathlib.Numerals.{add-one}
 use native.Mathlib.Omega.{arith}
-use lib.ListN.{length, getD, set, take, drop, length-drop, drop-of-length-le}
+use lib.ListN.{length, getD, set, take, drop, length-drop}
 use lib.Seq.{drop-cons, append-snoc, take-suc-set}
 use lib.Dec.{ltb, leb}
-use borrow.Author.Tests.{le-leb, lt-leb, eq-eqb, ne-eqb}
-use Rattle.model.specs.Entries.{ascending, belowFirst, removedFrom}
+use borrow.Author.Tests.{le-leb, lt-leb}
+use Rattle.model.specs.Entries.{ascending, belowFirst}
 use Rattle.model.proofs.Laws.Lists.{Ord, lt, ge, ord}
 
 pub next-of : (es : List ℕ) (i : ℕ) → i < length es → drop i es ≡ getD es i 0 ∷ drop (i + 1) es
@@ -55,18 +54,3 @@ module _ (es : List ℕ) (i : ℕ) (some : 1 ≤ i) where
   -- The last key alone, or none.
   pub last-ascends : length es ≤ i → ascending (drop (i - 1) es) ≡ true
   last-ascends h = short-ascends (drop (i - 1) es) (rw length-drop (omega arith))
-
--- ---- The keys other than k
-
-module _ (k : ℕ) (es : List ℕ) (i : ℕ) (more : i < length es) where
-  pub removed-same : getD es i 0 ≡ k → removedFrom k (drop i es) ≡ removedFrom k (drop (i + 1) es)
-  unfolding removedFrom
-  removed-same e = ap (removedFrom k) (next-of es i more) ∙ rw (eq-eqb (getD es i 0) k e) refl
-
-  pub removed-other : (getD es i 0 ≡ k → ⊥) → removedFrom k (drop i es) ≡ getD es i 0 ∷ removedFrom k (drop (i + 1) es)
-  unfolding removedFrom
-  removed-other n = ap (removedFrom k) (next-of es i more) ∙ rw (ne-eqb (getD es i 0) k n) refl
-
-pub none-removed : (k : ℕ) (es : List ℕ) (i : ℕ) → length es ≤ i → removedFrom k (drop i es) ≡ []
-unfolding removedFrom
-none-removed k es i h = ap (removedFrom k) (drop-of-length-le es h)

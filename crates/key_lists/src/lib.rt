@@ -1,15 +1,14 @@
-// Lists of keys in lent buffers (document 01, "A chain's keys ascend" and steps 10, 17 and 26).
-// Main statements: ascends is ascending, below is placeOf, has_at is hasKey; put_in is insertedInto and leave_out is removedFrom, in place; without is removedFrom, halves is
-// staying and going; join is joined, and tells by sharesKey whether a key is in both lists.
+// Lists of keys in lent buffers (document 01, "A chain's keys ascend" and steps 10 and 26).
+// Main statements: ascends is ascending, below is placeOf, has_at is hasKey; put_in is insertedInto and leave_out is removedFrom, in place;
+// join is joined, and tells by sharesKey whether a key is in both lists.
 
 ghost use mathlib.Core.Path.{_≡_};
 ghost use mathlib.Core.Bool.{true, false, not};
 ghost use Prim.Native.Nat.{ℕ, _+_, _-_, _≤_, _<_};
 ghost use lib.ListN.{length, take, drop};
-ghost use Rattle.model.specs.Entries.{entryOf, hasKey, ascending, insertedInto, removedFrom, joined, sharesKey, staying, going};
+ghost use Rattle.model.specs.Entries.{entryOf, hasKey, ascending, insertedInto, removedFrom, joined, sharesKey};
 ghost use Rattle.key_lists.specs.Sides.{sideOf};
 ghost use Rattle.key_lists.specs.Places.{placeOf};
-use model::ChainAddress;
 
 // Which of two ascending lists has the smaller first key, if they differ.
 pub enum Side {
@@ -80,24 +79,6 @@ pub fn leave_out(keys: &mut [u32], at: usize, n: usize)
     }
 }
 
-// The keys other than k, at the front of `out`: how many there are.
-pub fn without(keys: &[u32], k: u32, out: &mut [u32]) -> usize
-    requires { ⌜ length (now keys) ≤ length (now out) ⌝ }
-    ensures { λ r. ⌜ (r ≤ length (now (keys .entry))) × (take r (now (out .exit)) ≡ removedFrom k (now (keys .entry))) ⌝ }
-{
-    let mut i = 0;
-    let mut n = 0;
-    while i < keys.len() {
-        let e = keys[i];
-        i += 1;
-        if e != k {
-            out[n] = e;
-            n += 1;
-        }
-    }
-    n
-}
-
 // Which of the lists has the smaller key, `a` from i on or `b` from j on.
 fn next_side(a: &[u32], i: usize, b: &[u32], j: usize) -> Side
     ensures { λ r. ⌜ r ≡ sideOf (drop i (now (a .entry))) (drop j (now (b .entry))) ⌝ }
@@ -139,34 +120,4 @@ pub fn join(a: &[u32], b: &[u32], out: &mut [u32]) -> bool
         }
     }
     true
-}
-
-// "keys whose h_(level+1) is the chain stay, the rest go" (step 17): n original chains, hash function i. How many stay; those are at the front of `stay`,
-// the rest at the front of `go`.
-pub fn halves(
-    n: u32,
-    i: u32,
-    chain: ChainAddress,
-    keys: &[u32],
-    stay: &mut [u32],
-    go: &mut [u32],
-) -> usize
-    requires { ⌜ (1 ≤ n) × (n ≤ 256) × (i ≤ 10) × (length (now keys) ≤ length (now stay)) × (length (now keys) ≤ length (now go)) ⌝ }
-    ensures { λ r. ⌜ (r ≤ length (now (keys .entry))) × (take r (now (stay .exit)) ≡ staying n i (chain .0) (now (keys .entry))) × (take (length (now (keys .entry)) - r) (now (go .exit)) ≡ going n i (chain .0) (now (keys .entry))) ⌝ }
-{
-    let mut j = 0;
-    let mut kept = 0;
-    while j < keys.len() {
-        let e = keys[j];
-        let away = j - kept;
-        let home = addressing::hash(n, i, e);
-        j += 1;
-        if home.0 == chain.0 {
-            stay[kept] = e;
-            kept += 1;
-        } else {
-            go[away] = e;
-        }
-    }
-    kept
 }

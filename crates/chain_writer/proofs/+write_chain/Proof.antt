@@ -14,7 +14,7 @@ use borrow.Fn.PlainCycle.{Measures, is, falls, and}
 use Rattle.chain_writer.proofs.write_chain.Reads as reads
 use Rattle.chain_writer.proofs.write_chain.Kinds as kinds
 use Rattle.chain_writer.proofs.+write_chain.Lts-write_chain as lts
-use Rattle.chain_writer.proofs.link_at.Reads as link-at-reads
+use Rattle.free_list.proofs.link_at.Reads as link-at-reads
 use Rattle.chain_writer.proofs.page_of.Reads as page-of-reads
 use Rattle.page_io.proofs.store.Reads as store-reads
 use Rattle.chain_writer.proofs.+write_chain.{statement}
