@@ -23,7 +23,7 @@ CHECKS = [
 ]
 
 # The fields of a root record and of a party's record, in the order of the words in a file of single calls.
-ROOT_FIELDS = "originals keys chains overflow parties level next head free".split()
+ROOT_FIELDS = "originals capacity primaries overflow parties level next head free".split()
 PARTY_FIELDS = "operation key step lev chain other old owed answer".split()
 
 HEADER = """\

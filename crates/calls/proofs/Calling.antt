@@ -24,9 +24,9 @@ use Rattle.model.specs.Memory.{Memory, partyAt, afterStep, formatted}
 use Rattle.model.specs.Refusals.{firstCause, busyRow, idleRow, damageRow, formatRows, beginRows, stepRows}
 use Rattle.model.specs.Steps.Dispatch.{stepOf}
 use Rattle.model.specs.Calls.{called, formatCall, beginCall, stepCall, stepped, withBegun}
-use Rattle.gates.specs.Causes.{placeRows, formatCause, placeCause, beginCause, stepCause}
-use Rattle.gates.proofs.Accepted.{format-cause-is, begin-cause-is, step-cause-is, past-row-refused, number-below, place-of-step}
-use Rattle.gates.proofs.Causes.{earlier-stands}
+use Rattle.refusals.specs.Causes.{placeRows, formatCause, placeCause, beginCause, stepCause}
+use Rattle.refusals.proofs.Accepted.{format-cause-is, begin-cause-is, step-cause-is, past-row-refused, number-below, place-of-step}
+use Rattle.refusals.proofs.Causes.{earlier-stands}
 use Rattle.calls.specs.Lent.{lent}
 
 -- A record put back where it stood; past the row's end none is written.

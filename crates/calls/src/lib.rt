@@ -13,6 +13,7 @@ ghost use Rattle.records.specs.Words.{recordWords, rootIn, partyIn};
 ghost use Rattle.calls.specs.Lent.{lent, leftByFormat, leftByBegin, leftByStep};
 use model::BeginAnswer;
 use model::FormatAnswer;
+use model::NO_CAUSE;
 use model::Operation;
 use model::Party;
 use model::Root;
@@ -45,14 +46,14 @@ pub fn format(
 ) -> Formatted
     ensures { λ r. ⌜ ((row : List Party) → length row ≡ parties → leftByFormat r row (now (locks .exit)) (now (pages .exit)) ≡ formatCall (lent root row (now (locks .entry)) (now (pages .entry))) n b p v q) ⌝ }
 {
-    let cause = gates::format_cause(n, b, p, v, q, parties, locks.len(), pages.len());
-    if cause != gates::NO_CAUSE {
+    let cause = refusals::format_cause(n, b, p, v, q, parties, locks.len(), pages.len());
+    if cause != NO_CAUSE {
         return Formatted {
             root,
             answer: FormatAnswer::Refused(cause),
         };
     }
-    let made = format_memory::format_words(n, b, p, v, q, locks, pages);
+    let made = memory::format_words(n, b, p, v, q, locks, pages);
     Formatted {
         root: made,
         answer: FormatAnswer::Formatted,
@@ -72,8 +73,8 @@ pub fn begin(
 ) -> Begun
     ensures { λ r. ⌜ ((row : List Party) (ls ps : List ℕ) → length row ≡ parties → length ls ≡ locks → length ps ≡ pages → (q < parties → partyAt row q ≡ party) → leftByBegin r root row q ls ps ≡ beginCall (lent root row ls ps) q operation key) ⌝ }
 {
-    let cause = gates::begin_cause(root, party, parties, locks, pages, q);
-    if cause != gates::NO_CAUSE {
+    let cause = refusals::begin_cause(root, party, parties, locks, pages, q);
+    if cause != NO_CAUSE {
         return Begun {
             party,
             answer: BeginAnswer::Refused(cause),
@@ -100,8 +101,8 @@ fn step_in_place(
 {
     let r = records::root_of(&root[..]);
     let p = records::party_of(&party[..]);
-    let cause = gates::step_cause(r, p, parties, locks.len(), pages.len(), q);
-    if cause != gates::NO_CAUSE {
+    let cause = refusals::step_cause(r, p, parties, locks.len(), pages.len(), q);
+    if cause != NO_CAUSE {
         return StepAnswer::Refused(cause);
     }
     dispatch::step_by_number(root, party, q, locks, pages)

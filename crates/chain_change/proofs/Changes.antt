@@ -15,10 +15,10 @@ use Rattle.model.specs.Entries.{Entry, entryOf, hasKey, insertedInto, removedFr
 use Rattle.model.specs.Pages.{pageOf, withPage, linkOf, primaryPage, scratchPage}
 use Rattle.model.specs.Chains.{damaged, sound, Chain, chainOf}
 use Rattle.model.specs.Filling.{pagesFor, primaryOf, overflowWritten}
-use Rattle.model.specs.FreeList.{tooFew, Taken, pagesTaken}
+use Rattle.model.specs.FreeList.{tooFew, Taken, pagesTaken, rootAfterTaking}
 use Rattle.model.specs.Outcome.{View}
 use Rattle.model.specs.Ready.{Ready}
-use Rattle.model.specs.Steps.Change.{kept, changed, changeOf, splitOwed, mergeOwed, owedBy, rootAfterTaking, changesNothing, changing, rebuilt, rebuildWith, step10}
+use Rattle.model.specs.Steps.Rebuild.{kept, changed, changeOf, splitOwed, mergeOwed, owedBy, changesNothing, changing, rebuilt, rebuildWith, step10}
 use Rattle.endings.proofs.Scratching.{ready-has-scratch}
 use Rattle.chain_change.specs.declared.Changed.the-variants as Changed
 use Rattle.chain_change.specs.Changing.{keptAnswer, changedAnswer, afterChange, CanChange}
@@ -76,7 +76,7 @@ module _ (v : View) where
     change-kept a e = rw (found, ← e) refl
 
     -- The change asked for makes the records es, which need k pages.
-    module _ (a : ℕ) (es : List Entry) (made : changed a es ≡ changeOf (v .party .operation) (v .party .key) (c .entries)) (k : ℕ) (many : k ≡ pagesFor (v .root .keys) es) where
+    module _ (a : ℕ) (es : List Entry) (made : changed a es ≡ changeOf (v .party .operation) (v .party .key) (c .entries)) (k : ℕ) (many : k ≡ pagesFor (v .root .capacity) es) where
       pub no-page-answered : v .root .free < k → afterChange v (v .pages) (Changed.Kept 5) ≡ step10 v
       unfolding step10 rebuildWith changesNothing tooFew answerNumber afterChange
       no-page-answered h = rw (found, ← made, ← many, lt-ltb (v .root .free) k h) refl
@@ -90,7 +90,7 @@ module _ (v : View) where
         pub change-written : (t : Taken) (owed : ℕ) (ps : List ℕ) → pagesTaken (v .root) (v .pages) k ≡ sound t
             → c .link ≡ linkOf (pageOf (v .pages) (primaryPage (v .party .chain)))
             → owed ≡ owedBy (v .party .operation) (length (c .pages)) k es
-            → ps ≡ withPage (overflowWritten (v .root .keys) (v .pages) (t .pages) es) (scratchPage (v .root) (v .number)) (primaryOf (v .root .keys) (c .level) es (t .pages))
+            → ps ≡ withPage (overflowWritten (v .root .capacity) (v .pages) (t .pages) es) (scratchPage (v .root) (v .number)) (primaryOf (v .root .capacity) (c .level) es (t .pages))
             → afterChange v ps (Changed.Written (record { answer = a; owed = owed; taken = k; head = t .head })) ≡ step10 v
         unfolding step10 rebuildWith rebuilt changing rootAfterTaking tooFew afterChange
         change-written t owed ps e link owes eq = rw (found, ← made, ← many, le-ltb (v .root .free) k enough, e, link, owes, eq) refl

@@ -43,17 +43,17 @@ chain-link r ps c d e = let h = chain-reads r ps c d e in rw (← h .chain-is) r
 
 -- ---- b keys a page at most
 
-page-bounded : (r : Root) (w : List ℕ) → pageSound r w ≡ true → length (entriesOf w) ≤ r .keys
+page-bounded : (r : Root) (w : List ℕ) → pageSound r w ≡ true → length (entriesOf w) ≤ r .capacity
 unfolding entriesOf
 page-bounded r w e =
     let least : length (take (countOf w) (drop 3 w)) ≤ countOf w = rw length-take (min-le-left (countOf w) (length (drop 3 w))) in
     omega (arith, least, sound-count r w e)
 
-walk-bounded : (r : Root) (ps : List ℕ) (n l : ℕ) (xs : List ℕ) → overflowFrom r ps n l ≡ sound xs → length (entriesOn ps xs) ≤ length xs * r .keys
+walk-bounded : (r : Root) (ps : List ℕ) (n l : ℕ) (xs : List ℕ) → overflowFrom r ps n l ≡ sound xs → length (entriesOn ps xs) ≤ length xs * r .capacity
 unfolding overflowFrom entriesOn
 walk-bounded r ps zero l xs e = go (eqb l 0) e
   where
-    go : (b : Bool) → soundIf b [] ≡ sound xs → length (entriesOn ps xs) ≤ length xs * r .keys
+    go : (b : Bool) → soundIf b [] ≡ sound xs → length (entriesOn ps xs) ≤ length xs * r .capacity
     go true e = let q : [] ≡ xs = cc in rw (← q) (omega arith)
     go false e = absurd (let z : _≡_ {A = ℕ} 0 1 = cc in omega arith)
 walk-bounded r ps (suc n) l xs e = go (walk-bounded r ps n (linkOf w)) (eqb l 0) (pageSound r w) (overflowFrom r ps n (linkOf w)) refl refl e
@@ -61,9 +61,9 @@ walk-bounded r ps (suc n) l xs e = go (walk-bounded r ps n (linkOf w)) (eqb l 0)
     w : List ℕ
     w = pageOf ps (l - 1)
 
-    go : ((ys : List ℕ) → overflowFrom r ps n (linkOf w) ≡ sound ys → length (entriesOn ps ys) ≤ length ys * r .keys) → (b g : Bool) (rest : Checked (List ℕ))
+    go : ((ys : List ℕ) → overflowFrom r ps n (linkOf w) ≡ sound ys → length (entriesOn ps ys) ≤ length ys * r .capacity) → (b g : Bool) (rest : Checked (List ℕ))
         → g ≡ pageSound r w → rest ≡ overflowFrom r ps n (linkOf w) → cond b (sound []) (cond g (andThen rest (λ ys. sound ((l - 1) ∷ ys))) damaged) ≡ sound xs
-        → length (entriesOn ps xs) ≤ length xs * r .keys
+        → length (entriesOn ps xs) ≤ length xs * r .capacity
     go ih true g rest eg er e = let q : [] ≡ xs = cc in rw (← q) (omega arith)
     go ih false false rest eg er e = absurd (let z : _≡_ {A = ℕ} 0 1 = cc in omega arith)
     go ih false true damaged eg er e = absurd (let z : _≡_ {A = ℕ} 0 1 = cc in omega arith)
@@ -73,7 +73,7 @@ walk-bounded r ps (suc n) l xs e = go (walk-bounded r ps n (linkOf w)) (eqb l 0)
         rw (← q) (omega (arith, both, page-bounded r w (sym eg), ih ys (sym er)))
 
 module _ (r : Root) (ps : List ℕ) (c : ℕ) (d : Chain) (found : chainOf r ps c ≡ sound d) where
-  pub chain-bounded : length (d .entries) ≤ (length (d .pages) + 1) * r .keys
+  pub chain-bounded : length (d .entries) ≤ (length (d .pages) + 1) * r .capacity
   unfolding readChain entriesOn listFrom
   chain-bounded =
       let h = chain-reads r ps c d found in

@@ -7,7 +7,7 @@ use lib.ListN.{length}
 use lib.Dec.{eqb}
 use Rattle.model.specs.declared.Root.{Root}
 use Rattle.model.specs.declared.Party.{Party}
-use Rattle.model.specs.Sizes.{pageWords, mostKeys}
+use Rattle.model.specs.Sizes.{pageWords, mostRecords}
 use Rattle.model.specs.Records.{atStep, withAnswer, withOld, withOwed, withFreeList}
 use Rattle.model.specs.Pages.{pageOf, linkOf, primaryPage}
 use Rattle.model.specs.Outcome.{View, Outcome, refuse, damage, moved, withRoot, withParty, withPages}
@@ -33,11 +33,11 @@ afterChange v ps (Changed.Written m) =
 
 -- The sizes are within their limits, the page memory has all pages and party q's scratch page, and chain c is one of the chains.
 pub record CanChange (r : Root) (q c : ℕ) (ps : List ℕ) : Type 0 where
-  pub chains-fit : r .chains ≤ 256
+  pub chains-fit : r .primaries ≤ 256
   pub overflow-fits : r .overflow ≤ 752
-  pub some-key : 1 ≤ r .keys
-  pub keys-fit : r .keys ≤ mostKeys
+  pub some-key : 1 ≤ r .capacity
+  pub keys-fit : r .capacity ≤ mostRecords
   pub free-fits : r .free ≤ r .overflow
-  pub chain-fits : c < r .chains
-  pub pages-fit : pageWords * (r .chains + r .overflow) ≤ length ps
+  pub chain-fits : c < r .primaries
+  pub pages-fit : pageWords * (r .primaries + r .overflow) ≤ length ps
   pub scratch : HasScratch r q ps

@@ -6,27 +6,16 @@ ghost use mathlib.Core.Path.{_≡_};
 ghost use mathlib.Core.List.{List};
 ghost use Prim.Native.Nat.{ℕ, _-_};
 ghost use lib.ListN.{length};
-ghost use Rattle.model.specs.Steps.Change as Change;
+ghost use Rattle.model.specs.Steps.Rebuild as Rebuild;
 ghost use Rattle.chain_change.specs.Changing.{keptAnswer, changedAnswer};
-use records::INSERT;
-
-// "answer so far (0 none, 1 inserted, 2 present, 3 deleted, 4 absent, 5 no page)".
-pub const INSERTED: u32 = 1;
-
-pub const PRESENT: u32 = 2;
-
-pub const DELETED: u32 = 3;
-
-pub const ABSENT: u32 = 4;
-
-pub const NO_PAGE: u32 = 5;
-
-// "restructure owed (0 none, 1 split, 2 merge, 3 split made)".
-pub const OWES_NONE: u32 = 0;
-
-pub const OWES_SPLIT: u32 = 1;
-
-pub const OWES_MERGE: u32 = 2;
+use model::ABSENT;
+use model::DELETED;
+use model::INSERT;
+use model::INSERTED;
+use model::OWES_MERGE;
+use model::OWES_NONE;
+use model::OWES_SPLIT;
+use model::PRESENT;
 
 // A new chain was written: the answer, the restructuring owed, how many pages were taken, and the free list's head then.
 pub struct Rebuilt {
@@ -63,7 +52,7 @@ pub fn changed_answer(operation: u32) -> u32
 
 // Restructure owed: "An insert whose new chain has more overflow pages than the old owes a split, a delete that emptied its chain a merge". `count` is the new chain's keys.
 pub fn owed_by(operation: u32, before: u32, after: u32, count: u32) -> u32
-    ensures { λ r. ⌜ ((es : List ℕ) → length es ≡ count → r ≡ Change.owedBy operation before after es) ⌝ }
+    ensures { λ r. ⌜ ((es : List ℕ) → length es ≡ count → r ≡ Rebuild.owedBy operation before after es) ⌝ }
 {
     if operation == INSERT {
         if before < after {

@@ -10,7 +10,7 @@ use lib.ListN.{length}
 use lib.Dec.{leb, eqb}
 use borrow.Author.Tests.{leb-true, eqb-false}
 use Rattle.model.specs.declared.Root.{Root}
-use Rattle.model.specs.Sizes.{pageWords, mostKeys}
+use Rattle.model.specs.Sizes.{pageWords, mostRecords}
 use Rattle.model.specs.Pages.{pageOf, countOf, levelOf, linkOf, entriesOf, linkSound, pageSound, mostLevel}
 use Rattle.model.specs.Chains.{Checked, damaged, sound, soundIf, andThen, overflowFrom, listFrom, entriesOn}
 use Rattle.chains.proofs.Tests.{and-true, named-within, sound-named, sound-page-links}
@@ -26,15 +26,15 @@ module _ (r : Root) (ps : List ℕ) (c : ℕ) where
   sound-listed e = rw e refl
 
 -- A sound page's count is at most b.
-pub sound-count : (r : Root) (w : List ℕ) → pageSound r w ≡ true → countOf w ≤ r .keys
+pub sound-count : (r : Root) (w : List ℕ) → pageSound r w ≡ true → countOf w ≤ r .capacity
 unfolding pageSound
 sound-count r w e =
-    let h = and-true (leb (countOf w) (r .keys) && leb (levelOf w) mostLevel) (linkSound r (linkOf w)) e in
-    leb-true _ _ (and-true (leb (countOf w) (r .keys)) (leb (levelOf w) mostLevel) (h .0) .0)
+    let h = and-true (leb (countOf w) (r .capacity) && leb (levelOf w) mostLevel) (linkSound r (linkOf w)) e in
+    leb-true _ _ (and-true (leb (countOf w) (r .capacity)) (leb (levelOf w) mostLevel) (h .0) .0)
 
 -- ---- Pages that were walked
 
-module _ (r : Root) (ps : List ℕ) (keys : r .keys ≤ mostKeys) (fits : pageWords * (r .chains + r .overflow) ≤ length ps) where
+module _ (r : Root) (ps : List ℕ) (keys : r .capacity ≤ mostRecords) (fits : pageWords * (r .primaries + r .overflow) ≤ length ps) where
   -- From link l on, the pages xs were walked: they can be followed, and their records are those of the n pages from l on.
   pub record Walks (l : ℕ) (xs : List ℕ) : Type 0 where
     pub followed : Followed ps (length xs) l
@@ -87,7 +87,7 @@ module _ (r : Root) (ps : List ℕ) (keys : r .keys ≤ mostKeys) (fits : pageWo
 pub record NextPage (ps : List ℕ) (n l : ℕ) : Type 0 where
   pub linked : 0 < l
   pub fits : (l - 1) * pageWords + pageWords ≤ length ps
-  pub few : countOf (pageOf ps (l - 1)) ≤ mostKeys
+  pub few : countOf (pageOf ps (l - 1)) ≤ mostRecords
   pub rest : Followed ps (n - 1) (linkOf (pageOf ps (l - 1)))
 
 pub next-page : (ps : List ℕ) {n l : ℕ} → 0 < n → Followed ps n l → NextPage ps n l

@@ -9,7 +9,7 @@ use lib.ListN.{length, take}
 use lib.Dec.{eqb}
 use lib.Seq.{length-take-le}
 use Rattle.model.specs.declared.Root.{Root}
-use Rattle.model.specs.Sizes.{mostKeys}
+use Rattle.model.specs.Sizes.{mostRecords}
 use Rattle.model.specs.Entries.{ascending}
 use Rattle.model.specs.Pages.{pageOf, levelOf, countOf, linkOf, entriesOf, pageSound}
 use Rattle.model.specs.Chains.{Checked, damaged, sound, soundIf, andThen, Chain, overflowFrom, listFrom, entriesOn, readChain, ascendingChain, chainOf}
@@ -80,7 +80,7 @@ module _ (r : Root) (ps : List ℕ) (c : ℕ) where
 pub record Passed (r : Root) (ps : List ℕ) (c n : ℕ) : Type 0 where
   pub xs : List ℕ
   pub many : length xs ≡ n
-  pub few : countOf (pageOf ps c) ≤ mostKeys
+  pub few : countOf (pageOf ps c) ≤ mostRecords
   pub followed : Followed ps n (linkOf (pageOf ps c))
   pub records : entriesOf (pageOf ps c) ++ entriesFrom ps n (linkOf (pageOf ps c)) ≡ entriesOn ps (c ∷ xs)
   pub chain-is : chainOf r ps c ≡ ascendingChain (readChain ps c xs)

@@ -6,7 +6,7 @@ use mathlib.Core.List.{List, [], _++_}
 use Prim.Native.Nat.{ℕ, zero, suc, _+_, _-_, _*_, _≤_, _<_}
 use lib.ListN.{length, take}
 use Rattle.model.specs.declared.Root.{Root}
-use Rattle.model.specs.Sizes.{pageWords, mostKeys}
+use Rattle.model.specs.Sizes.{pageWords, mostRecords}
 use Rattle.model.specs.Entries.{Entry}
 use Rattle.model.specs.Pages.{pageOf, countOf, linkOf, entriesOf, pageSound, primaryPage, linkedPage}
 use Rattle.model.specs.Chains.{Checked, damaged, sound, listFrom, Chain}
@@ -20,15 +20,15 @@ overflowOf r ps c = cond (pageSound r (pageOf ps (primaryPage c))) (listFrom r p
 
 -- The page memory has all primary and overflow pages, and chain c is one of the chains.
 pub record CanWalk (r : Root) (ps : List ℕ) (c : ℕ) : Type 0 where
-  pub chain-fits : c < r .chains
-  pub pages-fit : pageWords * (r .chains + r .overflow) ≤ length ps
+  pub chain-fits : c < r .primaries
+  pub pages-fit : pageWords * (r .primaries + r .overflow) ≤ length ps
 
 -- The n overflow pages of chain c were walked, and the buffer, of `room` words, has room for the keys of all its pages.
 pub record CanGather (r : Root) (ps : List ℕ) (c n room : ℕ) : Type 0 where
   pub can-walk : CanWalk r ps c
-  pub keys-fit : r .keys ≤ mostKeys
+  pub keys-fit : r .capacity ≤ mostRecords
   pub walked : counted (overflowOf r ps c) ≡ Walked.Pages n
-  pub has-room : mostKeys * (n + 1) ≤ room
+  pub has-room : mostRecords * (n + 1) ≤ room
 
 -- The records on the n pages from link l on.
 unfoldable pub entriesFrom : List ℕ → ℕ → ℕ → List Entry
@@ -38,7 +38,7 @@ entriesFrom ps (suc n) l = entriesOf (pageOf ps (linkedPage l)) ++ entriesFrom p
 -- There are n pages from link l on, each within the page memory, with a count that is no damage.
 pub data Followed (ps : List ℕ) : ℕ → ℕ → Type 0 where
   none : (l : ℕ) → Followed ps 0 l
-  also : (n l : ℕ) → 0 < l → (l - 1) * pageWords + pageWords ≤ length ps → countOf (pageOf ps (l - 1)) ≤ mostKeys → Followed ps n (linkOf (pageOf ps (l - 1))) → Followed ps (suc n) l
+  also : (n l : ℕ) → 0 < l → (l - 1) * pageWords + pageWords ≤ length ps → countOf (pageOf ps (l - 1)) ≤ mostRecords → Followed ps n (linkOf (pageOf ps (l - 1))) → Followed ps (suc n) l
 
 -- The chain x was looked through whole: what was gathered says its fields, and its records stand at the front of the buffer.
 pub record Whole (x : Checked Chain) (n : ℕ) (g : Gathered) (keys : List ℕ) : Type 0 where

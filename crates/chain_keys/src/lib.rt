@@ -6,13 +6,15 @@ ghost use mathlib.Core.Bool.{true, false};
 ghost use mathlib.Core.List.{_++_};
 ghost use Prim.Native.Nat.{_+_, _*_, _≤_, _<_};
 ghost use lib.ListN.{length, take};
-ghost use Rattle.model.specs.Sizes.{mostKeys};
+ghost use Rattle.model.specs.Sizes.{mostRecords};
 ghost use Rattle.model.specs.Pages.{countOf, linkOf, entriesOf};
 ghost use Rattle.model.specs.Chains.{chainOf, damaged};
 ghost use Rattle.chains.specs.Walks.{counted};
 ghost use Rattle.chain_keys.specs.Gathering.{overflowOf, CanWalk, CanGather, Followed, entriesFrom, Whole};
 use chains::Walked;
 use model::ChainAddress;
+use model::FIRST_RECORD;
+use model::Page;
 use model::PageAddress;
 use model::Root;
 
@@ -29,7 +31,7 @@ pub fn walk(root: Root, chain: ChainAddress, pages: &[u32]) -> Walked
     requires { ⌜ CanWalk root (now pages) (chain .0) ⌝ }
     ensures { λ r. ⌜ r ≡ counted (overflowOf root (now (pages .entry)) (chain .0)) ⌝ }
 {
-    let w = page_io::load(pages, PageAddress(chain.0));
+    let w = pages::load(pages, PageAddress(chain.0));
     if chains::page_sound(root, w) {
         chains::count_pages(root, pages, chains::link_of(w))
     } else {
@@ -41,29 +43,29 @@ pub fn walk(root: Root, chain: ChainAddress, pages: &[u32]) -> Walked
 const MOST_KEYS: usize = 12;
 
 // A page's keys go into the buffer from `at` on: where the next would go. All its key words are copied, and those past its keys count for nothing.
-fn copy_keys(w: [u32; 16], keys: &mut [u32], at: usize) -> usize
-    requires { ⌜ (countOf w ≤ mostKeys) × (at + mostKeys ≤ length (now keys)) ⌝ }
+fn copy_keys(w: Page, keys: &mut [u32], at: usize) -> usize
+    requires { ⌜ (countOf w ≤ mostRecords) × (at + mostRecords ≤ length (now keys)) ⌝ }
     ensures { λ r. ⌜ (r ≡ at + countOf w) × (take r (now (keys .exit)) ≡ take at (now (keys .entry)) ++ entriesOf w) ⌝ }
 {
     let n = chains::count_of(w) as usize;
     let mut i = 0;
     while i < MOST_KEYS {
-        keys[at + i] = w[3 + i];
+        keys[at + i] = w[FIRST_RECORD + i];
         i += 1;
     }
     at + n
 }
 
 // The keys on the page `w` and on the n pages that its link leads to, one page after the other, at the front of the buffer: how many there are.
-fn gather_keys(w: [u32; 16], n: u32, pages: &[u32], keys: &mut [u32]) -> usize
-    requires { ⌜ (countOf w ≤ mostKeys) × Followed (now pages) n (linkOf w) × (mostKeys * (n + 1) ≤ length (now keys)) ⌝ }
+fn gather_keys(w: Page, n: u32, pages: &[u32], keys: &mut [u32]) -> usize
+    requires { ⌜ (countOf w ≤ mostRecords) × Followed (now pages) n (linkOf w) × (mostRecords * (n + 1) ≤ length (now keys)) ⌝ }
     ensures { λ r. ⌜ (r ≤ length (now (keys .entry))) × (take r (now (keys .exit)) ≡ entriesOf w ++ entriesFrom (now (pages .entry)) n (linkOf w)) ⌝ }
 {
     let mut at = copy_keys(w, keys, 0);
     let mut l = chains::link_of(w);
     let mut left = n;
     while 0 < left {
-        let page = page_io::load(pages, PageAddress(l - 1));
+        let page = pages::load(pages, PageAddress(l - 1));
         at = copy_keys(page, keys, at);
         l = chains::link_of(page);
         left -= 1;
@@ -76,9 +78,9 @@ pub fn gather(root: Root, chain: ChainAddress, n: u32, pages: &[u32], keys: &mut
     requires { ⌜ CanGather root (now pages) (chain .0) n (length (now keys)) ⌝ }
     ensures { λ r. ⌜ (r .ok ≡ false → chainOf root (now (pages .entry)) (chain .0) ≡ damaged) × (r .ok ≡ true → Whole (chainOf root (now (pages .entry)) (chain .0)) n r (now (keys .exit))) ⌝ }
 {
-    let w = page_io::load(pages, PageAddress(chain.0));
+    let w = pages::load(pages, PageAddress(chain.0));
     let count = gather_keys(w, n, pages, keys);
-    let ok = key_lists::ascends(&keys[0..count]);
+    let ok = entries::ascends(&keys[0..count]);
     let level = chains::level_of(w);
     let link = chains::link_of(w);
     Gathered {

@@ -9,14 +9,14 @@ use native.Mathlib.Omega.{arith}
 use lib.ListN.{length, getD, drop, drop-of-length-le}
 use lib.Seq.{drop-cons, getD-take, getD-drop}
 use borrow.Author.Tests.{eq-eqb, ne-eqb, le-leb, lt-leb}
-use Rattle.model.specs.Sizes.{pageWords, mostKeys}
+use Rattle.model.specs.Sizes.{pageWords, mostRecords}
 use Rattle.model.specs.Entries.{hasKey}
 use Rattle.model.specs.Pages.{countOf, entriesOf}
 use Rattle.model.proofs.Laws.Pages.{length-entriesOf}
 use Rattle.chain_scan.specs.Scans.{ascentFrom}
 use Rattle.chain_scan.specs.declared.Ascent.the-variants as Ascent
 
-module _ (w : List ℕ) (i : ℕ) (sixteen : length w ≡ pageWords) (fits : countOf w ≤ mostKeys) where
+module _ (w : List ℕ) (i : ℕ) (sixteen : length w ≡ pageWords) (fits : countOf w ≤ mostRecords) where
   key-word : i < countOf w → getD (entriesOf w) i 0 ≡ getD w (3 + i) 0
   unfolding entriesOf
   key-word h = getD-take (countOf w) (drop 3 w) i 0 h ∙ getD-drop 3 w i 0

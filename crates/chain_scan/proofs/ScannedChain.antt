@@ -8,7 +8,7 @@ use native.Mathlib.Numerals.{add-one}
 use native.Mathlib.Omega.{arith}
 use lib.ListN.{length}
 use Rattle.model.specs.declared.Root.{Root}
-use Rattle.model.specs.Sizes.{pageWords, mostKeys}
+use Rattle.model.specs.Sizes.{pageWords, mostRecords}
 use Rattle.model.specs.Entries.{hasKey, ascending}
 use Rattle.model.specs.Pages.{pageOf, countOf, linkOf, entriesOf}
 use Rattle.model.specs.Chains.{soundIf, entriesOn, readChain, ascendingChain, chainOf}
@@ -32,7 +32,7 @@ module _ (key n : ℕ) (ps : List ℕ) (floor count : ℕ) (found : Bool) (left 
   pub page-falls : ascentFrom floor (entriesOf w) ≡ Ascent.Falls → resumed key n floor count found (entriesFrom ps left l) ≡ Scan.Damaged
   page-falls e = rw page-first (list-falls key n floor count found (entriesOf w) _ e)
 
-  pub page-passed : (next : ℕ) → length w ≡ pageWords → countOf w ≤ mostKeys → ascentFrom floor (entriesOf w) ≡ Ascent.Rises next
+  pub page-passed : (next : ℕ) → length w ≡ pageWords → countOf w ≤ mostRecords → ascentFrom floor (entriesOf w) ≡ Ascent.Rises next
       → resumed key n floor count found (entriesFrom ps left l) ≡ resumed key n next (count + countOf w) (found || hasKey key (entriesOf w)) (entriesFrom ps (left - 1) (linkOf w))
   page-passed next sixteen few e =
       rw page-first (list-passed key n floor count found (entriesOf w) _ next e ∙ rw (length-entriesOf w sixteen few) refl)
@@ -44,9 +44,9 @@ pages-passed key n ps floor count found left l none = rw (entries-none ps left l
 -- ---- The chain whole
 
 module _ (r : Root) (ps : List ℕ) (c n : ℕ) where
-  pub walked-passed : CanWalk r ps c → r .keys ≤ mostKeys → counted (overflowOf r ps c) ≡ Walked.Pages n → Passed r ps c n
+  pub walked-passed : CanWalk r ps c → r .capacity ≤ mostRecords → counted (overflowOf r ps c) ≡ Walked.Pages n → Passed r ps c n
   walked-passed can keys e =
-      walked-chain r ps c n (mostKeys * (n + 1)) (record { can-walk = can; keys-fit = keys; walked = e; has-room = omega arith })
+      walked-chain r ps c n (mostRecords * (n + 1)) (record { can-walk = can; keys-fit = keys; walked = e; has-room = omega arith })
 
   module _ (passed : Passed r ps c n) where
     first-is : c + 1 - 1 ≡ c

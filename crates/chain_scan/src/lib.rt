@@ -3,7 +3,7 @@
 
 ghost use mathlib.Core.Path.{_≡_};
 ghost use Prim.Native.Nat.{_+_, _≤_};
-ghost use Rattle.model.specs.Sizes.{mostKeys};
+ghost use Rattle.model.specs.Sizes.{mostRecords};
 ghost use Rattle.model.specs.Entries.{hasKey};
 ghost use Rattle.model.specs.Pages.{countOf, entriesOf};
 ghost use Rattle.model.specs.Chains.{chainOf};
@@ -11,11 +11,10 @@ ghost use Rattle.chain_keys.specs.Gathering.{CanWalk, Followed, entriesFrom};
 ghost use Rattle.chain_scan.specs.Scans.{ascentFrom, examined, scanned};
 use chains::Walked;
 use model::ChainAddress;
+use model::FIRST_RECORD;
+use model::Page;
 use model::PageAddress;
 use model::Root;
-
-// "words 3 to 14 the keys".
-const FIRST_KEY: usize = 3;
 
 // Whether the keys passed ascend, and the least that the next key may be.
 enum Ascent {
@@ -36,14 +35,14 @@ pub enum Scan {
 }
 
 // Whether a page has key k among the keys that it counts.
-pub fn has_key(w: [u32; 16], k: u32) -> bool
-    requires { ⌜ countOf w ≤ mostKeys ⌝ }
+pub fn has_key(w: Page, k: u32) -> bool
+    requires { ⌜ countOf w ≤ mostRecords ⌝ }
     ensures { λ r. ⌜ r ≡ hasKey k (entriesOf w) ⌝ }
 {
     let count = chains::count_of(w) as usize;
     let mut i = 0;
     while i < count {
-        if w[FIRST_KEY + i] == k {
+        if w[FIRST_RECORD + i] == k {
             return true;
         }
         i += 1;
@@ -52,15 +51,15 @@ pub fn has_key(w: [u32; 16], k: u32) -> bool
 }
 
 // Whether a page's keys ascend and the first is at least `floor`. The floor of the next page is one more than the last key.
-fn ascend(w: [u32; 16], floor: u64) -> Ascent
-    requires { ⌜ countOf w ≤ mostKeys ⌝ }
+fn ascend(w: Page, floor: u64) -> Ascent
+    requires { ⌜ countOf w ≤ mostRecords ⌝ }
     ensures { λ r. ⌜ r ≡ ascentFrom floor (entriesOf w) ⌝ }
 {
     let n = chains::count_of(w) as usize;
     let mut low = floor;
     let mut i = 0;
     while i < n {
-        let k = w[FIRST_KEY + i] as u64;
+        let k = w[FIRST_RECORD + i] as u64;
         if k < low {
             return Ascent::Falls;
         }
@@ -81,7 +80,7 @@ fn examine(first: u32, n: u32, key: u32, pages: &[u32]) -> Scan
     let mut count = 0;
     let mut found = false;
     while 0 < left {
-        let w = page_io::load(pages, PageAddress(l - 1));
+        let w = pages::load(pages, PageAddress(l - 1));
         match ascend(w, floor) {
             Ascent::Falls => return Scan::Damaged,
             Ascent::Rises(next) => floor = next,
@@ -100,7 +99,7 @@ fn examine(first: u32, n: u32, key: u32, pages: &[u32]) -> Scan
 
 // Chain `chain` looked through whole: every page is tested and its keys must ascend.
 pub fn look_through(root: Root, chain: ChainAddress, key: u32, pages: &[u32]) -> Scan
-    requires { ⌜ CanWalk root (now pages) (chain .0) × (root .keys ≤ mostKeys) × (root .overflow ≤ 752) ⌝ }
+    requires { ⌜ CanWalk root (now pages) (chain .0) × (root .capacity ≤ mostRecords) × (root .overflow ≤ 752) ⌝ }
     ensures { λ r. ⌜ r ≡ scanned key (chainOf root (now (pages .entry)) (chain .0)) ⌝ }
 {
     match chain_keys::walk(root, chain, pages) {

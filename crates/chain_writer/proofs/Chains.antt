@@ -7,7 +7,7 @@ use Prim.Native.Nat.{ℕ, suc, _-_, _≤_, _<_}
 use native.Mathlib.Omega.{arith}
 use lib.ListN.{length, take, drop, length-take, length-drop}
 use lib.Seq.{take-all}
-use Rattle.model.specs.Sizes.{mostKeys}
+use Rattle.model.specs.Sizes.{mostRecords}
 use Rattle.model.specs.Entries.{Entry}
 use Rattle.model.specs.Pages.{withPage, filledPage, linkToFirst}
 use Rattle.model.specs.Filling.{overflowNeeded, primaryOf, filled, overflowWritten}
@@ -26,7 +26,7 @@ use Rattle.chain_writer.proofs.Links.{OneMore, first-of, pages-has, fir
 
 -- ---- Lengths
 
-placed-length : (b : ℕ) (d : Planned) (l : ℕ) (ps : List ℕ) → b ≤ mostKeys → CanPlace b d l ps → length (restWritten b ps (Chain d) l) ≡ length ps
+placed-length : (b : ℕ) (d : Planned) (l : ℕ) (ps : List ℕ) → b ≤ mostRecords → CanPlace b d l ps → length (restWritten b ps (Chain d) l) ≡ length ps
 unfolding restWritten chainWritten
 placed-length b d l ps small can =
     let xs = linkedPages ps (overflowNeeded b (d .left)) l in
@@ -34,7 +34,7 @@ placed-length b d l ps small can =
     let beside = length-overflowWritten b small ps xs es (pages-has ps (can .can-fill)) in
     length-withPage (overflowWritten b ps xs es) (d .to .0) (primaryOf b (d .level) es xs) record { fits = rw beside (can .page-fits) } (length-primaryOf b (d .level) es xs small) ∙ beside
 
-rest-length : (b : ℕ) (rest : Rest) (l : ℕ) (ps : List ℕ) → b ≤ mostKeys → CanPlaceRest b rest l ps → length (restWritten b ps rest l) ≡ length ps
+rest-length : (b : ℕ) (rest : Rest) (l : ℕ) (ps : List ℕ) → b ≤ mostRecords → CanPlaceRest b rest l ps → length (restWritten b ps rest l) ≡ length ps
 unfolding restWritten
 rest-length b Nothing l ps small can = refl
 rest-length b (Chain d) l ps small can = placed-length b d l ps small can
@@ -43,12 +43,12 @@ rest-length b (Chain d) l ps small can = placed-length b d l ps small can
 
 -- In the memory rs: the page x of an overflow page is written as a primary page would be, and then the page before it.
 page-before :
-    (b level : ℕ) (rs xs : List ℕ) (es : List Entry) (to x l : ℕ) → b ≤ mostKeys → Has rs x → All (Has rs) xs → Outside x xs → linkToFirst (x ∷ xs) ≡ l
+    (b level : ℕ) (rs xs : List ℕ) (es : List Entry) (to x l : ℕ) → b ≤ mostRecords → Has rs x → All (Has rs) xs → Outside x xs → linkToFirst (x ∷ xs) ≡ l
     → withPage (chainWritten b rs x 0 (drop b es) xs) to (filledPage level (take b es) l) ≡ chainWritten b rs to level es (x ∷ xs)
 unfolding chainWritten overflowWritten primaryOf filled
 page-before b level rs xs es to x l small h a o e =
     let w = filledPage 0 (take b (drop b es)) (linkToFirst xs) in
-    let few : length (take b (drop b es)) ≤ mostKeys = rw length-take (omega arith) in
+    let few : length (take b (drop b es)) ≤ mostRecords = rw length-take (omega arith) in
     let whole = length-filledPage 0 (take b (drop b es)) (linkToFirst xs) few in
     ap (λ (ps : List ℕ). withPage ps to (filledPage level (take b es) l)) (sym (filled-beside b small x w whole rs xs (drop b (drop b es)) h a o))
     ∙ ap (λ (n : ℕ). withPage (filled b (withPage rs x w) xs (drop b (drop b es))) to (filledPage level (take b es) n)) (sym e)
@@ -154,7 +154,7 @@ nothing-is b ps l rest e = rw e refl
 -- ---- Two chains, in the order of a split: the overflow pages xs of the one, the overflow pages ys of the other, their primary pages
 
 pub two-written :
-    (b : ℕ) (ps : List ℕ) (to level : ℕ) (es : List Entry) (xs : List ℕ) (other level′ : ℕ) (fs : List Entry) (ys : List ℕ) → b ≤ mostKeys → All (Has ps) xs → All (Has ps) ys → Has ps other
+    (b : ℕ) (ps : List ℕ) (to level : ℕ) (es : List Entry) (xs : List ℕ) (other level′ : ℕ) (fs : List Entry) (ys : List ℕ) → b ≤ mostRecords → All (Has ps) xs → All (Has ps) ys → Has ps other
     → Outside other xs → All (λ x. Outside x ys) xs
     → chainWritten b (chainWritten b ps other level′ fs ys) to level es xs
     ≡ withPage (withPage (overflowWritten b (overflowWritten b ps xs es) ys fs) other (primaryOf b level′ fs ys)) to (primaryOf b level es xs)

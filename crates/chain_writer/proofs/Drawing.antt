@@ -12,7 +12,7 @@ use Rattle.free_list.specs.Taking.{CanDraw, nextLink}
 use Rattle.chain_writer.specs.Writing as Writing
 use Rattle.chain_writer.specs.Writing.{CanFill}
 
-pub drawn-fills : (r : Root) (ps : List ℕ) (k l : ℕ) → pageWords * (r .chains + r .overflow) ≤ length ps → CanDraw r ps k l → CanFill ps k l
+pub drawn-fills : (r : Root) (ps : List ℕ) (k l : ℕ) → pageWords * (r .primaries + r .overflow) ≤ length ps → CanDraw r ps k l → CanFill ps k l
 drawn-fills r ps _ l fits Taking.none = Writing.none
 drawn-fills r ps _ l fits (Taking.one-more {k} named new rest) =
     let within = named-within r l named in

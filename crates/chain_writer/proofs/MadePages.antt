@@ -7,16 +7,16 @@ use native.Mathlib.Numerals.{add-one}
 use native.Mathlib.Omega.{arith}
 use lib.ListN.{length, getD, set, take, drop, replicate}
 use lib.Seq.{length-take-le, getD-take, drop-cons}
-use Rattle.model.specs.Sizes.{mostKeys}
+use Rattle.model.specs.Sizes.{mostRecords}
 use Rattle.model.specs.Pages.{filledPage}
-use Rattle.page_fill.proofs.PageWords.{wordsAfter, key-written, page-written}
+use Rattle.filling.proofs.PageWords.{wordsAfter, key-written, page-written}
 
-module _ (level n link : ℕ) (all : List ℕ) (few : n ≤ mostKeys) (enough : n ≤ length all) where
+module _ (level n link : ℕ) (all : List ℕ) (few : n ≤ mostRecords) (enough : n ≤ length all) where
   long : length (take n all) ≡ n
   long = length-take-le n all enough
 
-  pub none-put : level ∷ (n ∷ (link ∷ replicate (mostKeys + 1) 0)) ≡ wordsAfter level (take n all) link 0
-  none-put = ap (λ (m : ℕ). level ∷ (m ∷ (link ∷ replicate (mostKeys + 1) 0))) (sym long)
+  pub none-put : level ∷ (n ∷ (link ∷ replicate (mostRecords + 1) 0)) ≡ wordsAfter level (take n all) link 0
+  none-put = ap (λ (m : ℕ). level ∷ (m ∷ (link ∷ replicate (mostRecords + 1) 0))) (sym long)
 
   module _ (i k : ℕ) (rest : List ℕ) (more : i < n) (here : drop i all ≡ k ∷ rest) where
     both : getD all i 0 ∷ drop (i + 1) all ≡ k ∷ rest

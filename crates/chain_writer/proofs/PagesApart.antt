@@ -7,7 +7,7 @@ use Prim.Native.Nat.{ℕ, _+_, _-_, _*_, _≤_, _<_}
 use native.Mathlib.Omega.{arith}
 use lib.ListN.{length, take, drop, length-append, length-take, length-drop, take-append-drop}
 use lib.Seq.{length-take-le, take-at, drop-at}
-use Rattle.model.specs.Sizes.{pageWords, mostKeys}
+use Rattle.model.specs.Sizes.{pageWords, mostRecords}
 use Rattle.model.specs.Entries.{Entry}
 use Rattle.model.specs.Pages.{withPage, filledPage, linkToFirst}
 use Rattle.model.specs.Filling.{filled}
@@ -78,13 +78,13 @@ withPage-apart ps u v p q n hp hq lu lv = go (ord p q)
 
 -- ---- A page, and overflow pages
 
-module _ (b : ℕ) (small : b ≤ mostKeys) (x : ℕ) (w : List ℕ) (whole : length w ≡ pageWords) where
+module _ (b : ℕ) (small : b ≤ mostRecords) (x : ℕ) (w : List ℕ) (whole : length w ≡ pageWords) where
   pub filled-beside : (ps xs : List ℕ) (es : List Entry) → Has ps x → All (Has ps) xs → Outside x xs → filled b (withPage ps x w) xs es ≡ withPage (filled b ps xs es) x w
   unfolding filled
   filled-beside ps [] es h a o = refl
   filled-beside ps (y ∷ ys) es h a o =
       let v = filledPage 0 (take b es) (linkToFirst ys) in
-      let few : length (take b es) ≤ mostKeys = rw length-take (omega arith) in
+      let few : length (take b es) ≤ mostRecords = rw length-take (omega arith) in
       let lv = length-filledPage 0 (take b es) (linkToFirst ys) few in
       ap (λ (l : List ℕ). filled b l ys (drop b es)) (withPage-apart ps w v x y (o .0) h (a .0) whole lv)
       ∙ filled-beside (withPage ps y v) ys (drop b es) (has-withPage ps y v (a .0) lv h) (all-map ys (λ z k. has-withPage ps y v (a .0) lv k) (a .1)) (o .1)
@@ -92,13 +92,13 @@ module _ (b : ℕ) (small : b ≤ mostKeys) (x : ℕ) (w : List ℕ) (whole : le
 -- ---- Overflow pages of two chains
 
 pub filled-apart :
-    (b : ℕ) → b ≤ mostKeys → (ps xs ys : List ℕ) (es fs : List Entry) → All (Has ps) xs → All (Has ps) ys → All (λ x. Outside x ys) xs
+    (b : ℕ) → b ≤ mostRecords → (ps xs ys : List ℕ) (es fs : List Entry) → All (Has ps) xs → All (Has ps) ys → All (λ x. Outside x ys) xs
     → filled b (filled b ps ys fs) xs es ≡ filled b (filled b ps xs es) ys fs
 unfolding filled
 filled-apart b small ps [] ys es fs a d o = refl
 filled-apart b small ps (x ∷ xs) ys es fs a d o =
     let w = filledPage 0 (take b es) (linkToFirst xs) in
-    let few : length (take b es) ≤ mostKeys = rw length-take (omega arith) in
+    let few : length (take b es) ≤ mostRecords = rw length-take (omega arith) in
     let lw = length-filledPage 0 (take b es) (linkToFirst xs) few in
     let still : (zs : List ℕ) → All (Has ps) zs → All (Has (withPage ps x w)) zs = λ zs g. all-map zs (λ z k. has-withPage ps x w (a .0) lw k) g in
     ap (λ (l : List ℕ). filled b l xs (drop b es)) (sym (filled-beside b small x w lw ps ys fs (a .0) d (o .0)))

@@ -6,7 +6,7 @@ use mathlib.Core.Bool.{false}
 use mathlib.Core.List.{List, [], _∷_}
 use Prim.Native.Nat.{ℕ, zero, suc, _+_, _*_, _≤_}
 use lib.ListN.{length, take, drop}
-use Rattle.model.specs.Sizes.{pageWords, mostKeys}
+use Rattle.model.specs.Sizes.{pageWords, mostRecords}
 use Rattle.model.specs.Entries.{Entry}
 use Rattle.model.specs.Pages.{pageOf, withPage, linkOf, linkedPage, filledPage}
 use Rattle.model.specs.Filling.{overflowNeeded, primaryOf, overflowWritten}
@@ -67,6 +67,6 @@ CanPlaceRest b (Chain d) l ps = CanPlace b d l ps
 -- The chain c can be written to pages from link l on, and the rest to those after them.
 pub record CanWrite (b : ℕ) (c : Planned) (l : ℕ) (rest : Rest) (ps : List ℕ) : Type 0 where
   pub some-key : 1 ≤ b
-  pub keys-fit : b ≤ mostKeys
+  pub keys-fit : b ≤ mostRecords
   pub chain : CanPlace b c l ps
   pub others : CanPlaceRest b rest (linkAfter ps (overflowNeeded b (c .left)) l) ps

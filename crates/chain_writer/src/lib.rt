@@ -5,10 +5,16 @@
 ghost use mathlib.Core.Path.{_≡_};
 ghost use Prim.Native.Nat.{_+_, _≤_};
 ghost use lib.ListN.{length};
-ghost use Rattle.model.specs.Sizes.{mostKeys};
+ghost use Rattle.model.specs.Sizes.{mostRecords};
 ghost use Rattle.key_source.specs.Sources.{Sits, CanChoose, keysOf};
 ghost use Rattle.chain_writer.specs.Writing.{HasPage, allWritten, CanWrite};
 use key_source::Source;
+use model::COUNT_WORD;
+use model::FIRST_RECORD;
+use model::LEVEL_WORD;
+use model::LINK_WORD;
+use model::PAGE_WORDS;
+use model::Page;
 use model::PageAddress;
 
 // A chain to be written: its local level, how many keys it gets, where they come from, and the page for its primary page.
@@ -27,25 +33,25 @@ pub enum Rest {
 
 // A page made, and the source of the keys after its own.
 struct Filled {
-    w: [u32; 16],
+    w: Page,
     source: Source,
 }
 
 // A page of the next n keys, and the source of the others.
 fn page_of(level: u32, n: u32, link: u32, s: Source, pages: &[u32]) -> Filled
-    requires { ⌜ (n ≤ mostKeys) × Sits (now pages) (s .place) × CanChoose (s .choice) × (n ≤ length (keysOf (now pages) s)) ⌝ }
+    requires { ⌜ (n ≤ mostRecords) × Sits (now pages) (s .place) × CanChoose (s .choice) × (n ≤ length (keysOf (now pages) s)) ⌝ }
     ensures { λ r. ⌜ HasPage (now (pages .entry)) level n link s r ⌝ }
 {
-    let mut w = [0u32; 16];
-    w[0] = level;
-    w[1] = n;
-    w[2] = link;
+    let mut w = [0u32; PAGE_WORDS];
+    w[LEVEL_WORD] = level;
+    w[COUNT_WORD] = n;
+    w[LINK_WORD] = link;
     let end = n as usize;
     let mut t = s;
     let mut i = 0;
     while i < end {
         let x = key_source::next(pages, t);
-        w[3 + i] = x.key;
+        w[FIRST_RECORD + i] = x.key;
         t = x.source;
         i += 1;
     }
@@ -72,7 +78,7 @@ pub fn write_chain(b: u32, c: Planned, free: u32, rest: Rest, pages: &mut [u32])
             to: next,
         };
         write_chain(b, on, after, rest, pages);
-        page_io::store(pages, to, w);
+        pages::store(pages, to, w);
         return;
     }
     let last = page_of(c.level, c.left, 0, s, &pages[..]);
@@ -81,5 +87,5 @@ pub fn write_chain(b: u32, c: Planned, free: u32, rest: Rest, pages: &mut [u32])
         Rest::Chain(d) => write_chain(b, d, free, Rest::Nothing, pages),
         Rest::Nothing => {}
     }
-    page_io::store(pages, to, w);
+    pages::store(pages, to, w);
 }

@@ -13,7 +13,7 @@ use Rattle.model.specs.declared.Root.{Root}
 use Rattle.model.specs.Sizes.{pageWords}
 use Rattle.model.specs.Pages.{pageOf, withPage, linkOf, namesOverflow, linkSound, pageSound}
 use Rattle.model.specs.Chains.{Checked, damaged, sound, andThen, soundIf, overflowFrom}
-use Rattle.page_io.proofs.PageLaws.{page-other}
+use Rattle.pages.proofs.PageLaws.{page-other}
 use Rattle.chains.proofs.Tests.{named-within, sound-named, sound-page-links}
 
 -- From link l the pages xs follow, each an overflow page, and the last has no link.

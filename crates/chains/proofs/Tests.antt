@@ -20,22 +20,22 @@ and-true false b e = absurd (let z : _≡_ {A = ℕ} 0 1 = cc in omega arith)
 -- ---- Links
 
 module _ (r : Root) (l : ℕ) where
-  pub low-unnamed : l ≤ r .chains → namesOverflow r l ≡ false
+  pub low-unnamed : l ≤ r .primaries → namesOverflow r l ≡ false
   unfolding namesOverflow
-  low-unnamed h = rw (le-ltb (r .chains) l h) refl
+  low-unnamed h = rw (le-ltb (r .primaries) l h) refl
 
-  pub high-unnamed : r .chains + r .overflow < l → namesOverflow r l ≡ false
+  pub high-unnamed : r .primaries + r .overflow < l → namesOverflow r l ≡ false
   unfolding namesOverflow
-  high-unnamed h = rw (lt-ltb (r .chains) l (omega arith), lt-leb l (r .chains + r .overflow) h) refl
+  high-unnamed h = rw (lt-ltb (r .primaries) l (omega arith), lt-leb l (r .primaries + r .overflow) h) refl
 
-  pub between-named : r .chains < l → l ≤ r .chains + r .overflow → namesOverflow r l ≡ true
+  pub between-named : r .primaries < l → l ≤ r .primaries + r .overflow → namesOverflow r l ≡ true
   unfolding namesOverflow
-  between-named h k = rw (lt-ltb (r .chains) l h, le-leb l (r .chains + r .overflow) k) refl
+  between-named h k = rw (lt-ltb (r .primaries) l h, le-leb l (r .primaries + r .overflow) k) refl
 
-  pub named-within : namesOverflow r l ≡ true → (r .chains < l) × (l ≤ r .chains + r .overflow)
+  pub named-within : namesOverflow r l ≡ true → (r .primaries < l) × (l ≤ r .primaries + r .overflow)
   unfolding namesOverflow
   named-within e =
-      let h = and-true (ltb (r .chains) l) (leb l (r .chains + r .overflow)) e in
+      let h = and-true (ltb (r .primaries) l) (leb l (r .primaries + r .overflow)) e in
       (ltb-true _ _ (h .0), leb-true _ _ (h .1))
 
   pub zero-sound : l ≡ 0 → linkSound r l ≡ true
@@ -59,24 +59,24 @@ module _ (r : Root) (l : ℕ) where
   sound-named h e = sym (naming-decides h) ∙ e
 
   -- The page that a sound link names stands in a memory that has all overflow pages.
-  pub sound-link-fits : (n : ℕ) → (l ≡ 0 → ⊥) → linkSound r l ≡ true → pageWords * (r .chains + r .overflow) ≤ n → (l - 1) * pageWords + pageWords ≤ n
+  pub sound-link-fits : (n : ℕ) → (l ≡ 0 → ⊥) → linkSound r l ≡ true → pageWords * (r .primaries + r .overflow) ≤ n → (l - 1) * pageWords + pageWords ≤ n
   sound-link-fits n h e fits = let named = named-within (sound-named h e) in omega arith
 
 -- ---- Words
 
 module _ (r : Root) (level count link : ℕ) where
-  pub overfull-unsound : r .keys < count → wordsSound r level count link ≡ false
+  pub overfull-unsound : r .capacity < count → wordsSound r level count link ≡ false
   unfolding wordsSound
-  overfull-unsound h = rw (lt-leb count (r .keys) h) refl
+  overfull-unsound h = rw (lt-leb count (r .capacity) h) refl
 
-  pub high-unsound : count ≤ r .keys → mostLevel < level → wordsSound r level count link ≡ false
+  pub high-unsound : count ≤ r .capacity → mostLevel < level → wordsSound r level count link ≡ false
   unfolding wordsSound
-  high-unsound h k = rw (le-leb count (r .keys) h, lt-leb level mostLevel k) refl
+  high-unsound h k = rw (le-leb count (r .capacity) h, lt-leb level mostLevel k) refl
 
   -- Where count and level pass, the link decides.
-  pub link-decides : count ≤ r .keys → level ≤ mostLevel → wordsSound r level count link ≡ linkSound r link
+  pub link-decides : count ≤ r .capacity → level ≤ mostLevel → wordsSound r level count link ≡ linkSound r link
   unfolding wordsSound
-  link-decides h k = rw (le-leb count (r .keys) h, le-leb level mostLevel k) refl
+  link-decides h k = rw (le-leb count (r .capacity) h, le-leb level mostLevel k) refl
 
 -- ---- Pages
 
@@ -87,15 +87,15 @@ module _ (r : Root) (w : List ℕ) where
 
   pub sound-page-links : pageSound r w ≡ true → linkSound r (linkOf w) ≡ true
   unfolding pageSound
-  sound-page-links e = and-true (leb (countOf w) (r .keys) && leb (levelOf w) mostLevel) (linkSound r (linkOf w)) e .1
+  sound-page-links e = and-true (leb (countOf w) (r .capacity) && leb (levelOf w) mostLevel) (linkSound r (linkOf w)) e .1
 
-  sound-page-tests : pageSound r w ≡ true → (leb (countOf w) (r .keys) ≡ true) × (leb (levelOf w) mostLevel ≡ true)
+  sound-page-tests : pageSound r w ≡ true → (leb (countOf w) (r .capacity) ≡ true) × (leb (levelOf w) mostLevel ≡ true)
   unfolding pageSound
   sound-page-tests e =
-      let both = leb (countOf w) (r .keys) && leb (levelOf w) mostLevel in
-      and-true (leb (countOf w) (r .keys)) (leb (levelOf w) mostLevel) (and-true both (linkSound r (linkOf w)) e .0)
+      let both = leb (countOf w) (r .capacity) && leb (levelOf w) mostLevel in
+      and-true (leb (countOf w) (r .capacity)) (leb (levelOf w) mostLevel) (and-true both (linkSound r (linkOf w)) e .0)
 
-  pub sound-page-counts : pageSound r w ≡ true → countOf w ≤ r .keys
+  pub sound-page-counts : pageSound r w ≡ true → countOf w ≤ r .capacity
   sound-page-counts e = leb-true _ _ (sound-page-tests e .0)
 
   pub sound-page-levels : pageSound r w ≡ true → levelOf w ≤ mostLevel

@@ -13,7 +13,7 @@ use Rattle.chains.specs.declared.Walked.the-variants as Walked
 
 -- A page's test over its local level, key count and link.
 unfoldable pub wordsSound : Root → ℕ → ℕ → ℕ → Bool
-wordsSound r level count link = leb count (r .keys) && leb level mostLevel && linkSound r link
+wordsSound r level count link = leb count (r .capacity) && leb level mostLevel && linkSound r link
 
 -- How many pages the list walked has.
 abbrev pub counted : Checked (List ℕ) → Walked

@@ -10,6 +10,11 @@ ghost use Rattle.model.specs.Sizes.{pageWords};
 ghost use Rattle.model.specs.Pages as Pages;
 ghost use Rattle.model.specs.Chains.{listFrom};
 ghost use Rattle.chains.specs.Walks.{wordsSound, counted};
+use model::COUNT_WORD;
+use model::LEVEL_WORD;
+use model::LINK_WORD;
+use model::PAGE_WORDS;
+use model::Page;
 use model::Root;
 
 // A list that was walked: how many pages it has, or that it is damaged.
@@ -19,34 +24,34 @@ pub enum Walked {
 }
 
 // "Word 0 is the local level".
-pub fn level_of(w: [u32; 16]) -> u32
+pub fn level_of(w: Page) -> u32
     ensures { λ r. ⌜ r ≡ Pages.levelOf w ⌝ }
 {
-    w[0]
+    w[LEVEL_WORD]
 }
 
 // "word 1 the key count".
-pub fn count_of(w: [u32; 16]) -> u32
+pub fn count_of(w: Page) -> u32
     ensures { λ r. ⌜ r ≡ Pages.countOf w ⌝ }
 {
-    w[1]
+    w[COUNT_WORD]
 }
 
 // "word 2 the link (page number plus one, 0 for none)".
-pub fn link_of(w: [u32; 16]) -> u32
+pub fn link_of(w: Page) -> u32
     ensures { λ r. ⌜ r ≡ Pages.linkOf w ⌝ }
 {
-    w[2]
+    w[LINK_WORD]
 }
 
 // Whether a link word names an overflow page: these follow the primary pages.
 pub fn names_overflow(root: Root, l: u32) -> bool
     ensures { λ r. ⌜ r ≡ Pages.namesOverflow root l ⌝ }
 {
-    if l <= root.chains {
+    if l <= root.primaries {
         return false;
     }
-    if root.overflow < l - root.chains {
+    if root.overflow < l - root.primaries {
         return false;
     }
     true
@@ -66,7 +71,7 @@ pub fn link_sound(root: Root, l: u32) -> bool
 pub fn words_sound(root: Root, level: u32, count: u32, link: u32) -> bool
     ensures { λ r. ⌜ r ≡ wordsSound root level count link ⌝ }
 {
-    if root.keys < count {
+    if root.capacity < count {
         return false;
     }
     if 9 < level {
@@ -76,7 +81,7 @@ pub fn words_sound(root: Root, level: u32, count: u32, link: u32) -> bool
 }
 
 // The same test of a page.
-pub fn page_sound(root: Root, w: [u32; 16]) -> bool
+pub fn page_sound(root: Root, w: Page) -> bool
     ensures { λ r. ⌜ r ≡ Pages.pageSound root w ⌝ }
 {
     words_sound(root, level_of(w), count_of(w), link_of(w))
@@ -84,7 +89,7 @@ pub fn page_sound(root: Root, w: [u32; 16]) -> bool
 
 // How many pages the link leads to: each is tested, and "a chain of more than V overflow pages" is damage.
 pub fn count_pages(root: Root, pages: &[u32], first: u32) -> Walked
-    requires { ⌜ (Pages.linkSound root first ≡ true) × (pageWords * (root .chains + root .overflow) ≤ length (now pages)) ⌝ }
+    requires { ⌜ (Pages.linkSound root first ≡ true) × (pageWords * (root .primaries + root .overflow) ≤ length (now pages)) ⌝ }
     ensures { λ r. ⌜ r ≡ counted (listFrom root (now (pages .entry)) first) ⌝ }
 {
     let mut l = first;
@@ -93,7 +98,7 @@ pub fn count_pages(root: Root, pages: &[u32], first: u32) -> Walked
         if n == root.overflow {
             return Walked::Damaged;
         }
-        let at = (l - 1) as usize * 16;
+        let at = (l - 1) as usize * PAGE_WORDS;
         let level = pages[at];
         let count = pages[at + 1];
         let link = pages[at + 2];

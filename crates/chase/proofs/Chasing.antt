@@ -10,7 +10,7 @@ use borrow.Author.Tests.{eq-eqb, ne-eqb}
 use Rattle.model.specs.declared.Party.{Party}
 use Rattle.model.specs.Records.{atStep, withLev, withChain, withOther}
 use Rattle.model.specs.Addresses.{hash}
-use Rattle.model.specs.Steps.Locate.{Chase, chase, arrived, chasing}
+use Rattle.model.specs.Steps.Chase.{Chase, chase, arrived, chasing}
 use Rattle.records.specs.Words.{recordWords, partyIn}
 use Rattle.records.proofs.Words.{lev-written, chain-written, other-written}
 use Rattle.chase.specs.Chased.{afterChase}

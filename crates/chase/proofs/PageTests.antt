@@ -10,7 +10,7 @@ use Rattle.model.specs.declared.Party.{Party}
 use Rattle.model.specs.Pages.{pageOf, withPage, levelOf, scratchPage, pageSound}
 use Rattle.model.specs.Outcome.{moved, refuse, damage}
 use Rattle.model.specs.Ready.{viewing}
-use Rattle.model.specs.Steps.Locate.{Chase, chase, chaseOf, step06}
+use Rattle.model.specs.Steps.Chase.{Chase, chase, chaseOf, step06}
 use Rattle.chase.specs.Chased.{afterChase}
 
 module _ (r : Root) (p : Party) (q : ℕ) (ls ps : List ℕ) {w : List ℕ} (page : w ≡ pageOf ps (p .chain)) where
@@ -28,11 +28,11 @@ module _ (r : Root) (p : Party) (q : ℕ) (ls ps : List ℕ) {w : List ℕ} (pag
       unfolding chaseOf
       ended-there = ended ∙ ap (λ (x : List ℕ). chase (r .originals) (p .key) (p .chain) (levelOf x - p .lev) (p .lev)) page
 
-      pub chain-beyond-refused : r .chains ≤ t .chain → refuse damage (viewing r p q ls ps) ≡ step06 (viewing r p q ls ps)
+      pub chain-beyond-refused : r .primaries ≤ t .chain → refuse damage (viewing r p q ls ps) ≡ step06 (viewing r p q ls ps)
       unfolding step06
-      chain-beyond-refused h = rw (← page, ← ended-there, sound, le-leb (p .lev) (levelOf w) risen, le-ltb (t .chain) (r .chains) h) refl
+      chain-beyond-refused h = rw (← page, ← ended-there, sound, le-leb (p .lev) (levelOf w) risen, le-ltb (t .chain) (r .primaries) h) refl
 
-      pub all-sound-moves : {p′ : Party} {ps′ : List ℕ} → t .chain < r .chains → p′ ≡ afterChase t p → ps′ ≡ withPage ps (scratchPage r q) w
+      pub all-sound-moves : {p′ : Party} {ps′ : List ℕ} → t .chain < r .primaries → p′ ≡ afterChase t p → ps′ ≡ withPage ps (scratchPage r q) w
           → moved (viewing r p′ q ls ps′) ≡ step06 (viewing r p q ls ps)
       unfolding step06
-      all-sound-moves h ep es = rw (ep, es, ← page, ← ended-there, sound, le-leb (p .lev) (levelOf w) risen, lt-ltb (t .chain) (r .chains) h) refl
+      all-sound-moves h ep es = rw (ep, es, ← page, ← ended-there, sound, le-leb (p .lev) (levelOf w) risen, lt-ltb (t .chain) (r .primaries) h) refl

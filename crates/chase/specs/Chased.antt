@@ -3,7 +3,7 @@
 use mathlib.Core.Bool.{cond}
 use lib.Dec.{eqb}
 use Rattle.model.specs.declared.Party.{Party}
-use Rattle.model.specs.Steps.Locate.{Chase, arrived, chasing}
+use Rattle.model.specs.Steps.Chase.{Chase, arrived, chasing}
 use Rattle.chase.specs.declared.Chased.{Chased}
 
 -- The model's record of where a chase ended.

@@ -6,18 +6,18 @@ ghost use mathlib.Core.List.{List};
 ghost use Prim.Native.Nat.{ℕ, _-_, _≤_};
 ghost use lib.ListN.{length};
 ghost use Rattle.model.specs.declared.Root.{Root};
-ghost use Rattle.model.specs.Steps.Locate as Locate;
+ghost use Rattle.model.specs.Steps.Chase as Chase;
 ghost use Rattle.records.specs.Words.{recordWords, partyIn, seen, left, AtHand};
 ghost use Rattle.lock_requests.specs.Words.{CanLock};
 ghost use Rattle.chase.specs.Chased.{endedAt, afterChase};
 use lock_requests::CHASE;
 use model::ChainAddress;
+use model::DAMAGE;
+use model::FIND;
 use model::PageAddress;
 use model::Root;
 use model::StepAnswer;
 use records::CHAIN;
-use records::DAMAGE;
-use records::FIND;
 use records::KEY;
 use records::LEV;
 use records::OPERATION;
@@ -39,12 +39,12 @@ struct Chased {
 // "while lev differs from its local level, raise lev by one and go to 7 as soon as h_lev(k) is another chain": n is N, `local` the local level.
 fn chase(n: u32, key: u32, chain: ChainAddress, lev: u32, local: u32) -> Chased
     requires { ⌜ (1 ≤ n) × (n ≤ 256) × (local ≤ 9) ⌝ }
-    ensures { λ r. ⌜ endedAt r ≡ Locate.chase n key (chain .0) (local - lev) lev ⌝ }
+    ensures { λ r. ⌜ endedAt r ≡ Chase.chase n key (chain .0) (local - lev) lev ⌝ }
 {
     let mut raised = lev;
     while raised < local {
         raised += 1;
-        let on = addressing::hash(n, raised, key);
+        let on = addresses::hash(n, raised, key);
         if on.0 != chain.0 {
             return Chased {
                 lev: raised,
@@ -87,10 +87,10 @@ pub fn step_06(
     pages: &mut [u32],
 ) -> StepAnswer
     requires { ⌜ AtHand root (now party) q (now locks) (now pages) ⌝ }
-    ensures { λ a. ⌜ left a root (now (party .exit)) q (now (locks .exit)) (now (pages .exit)) ≡ Locate.step06 (seen root (now (party .entry)) q (now (locks .entry)) (now (pages .entry))) ⌝ }
+    ensures { λ a. ⌜ left a root (now (party .exit)) q (now (locks .exit)) (now (pages .exit)) ≡ Chase.step06 (seen root (now (party .entry)) q (now (locks .entry)) (now (pages .entry))) ⌝ }
 {
     let former = ChainAddress(party[CHAIN]);
-    let w = page_io::load(&pages[..], PageAddress(former.0));
+    let w = pages::load(&pages[..], PageAddress(former.0));
     if !chains::page_sound(root, w) {
         return StepAnswer::Refused(DAMAGE);
     }
@@ -100,10 +100,10 @@ pub fn step_06(
     }
     let t = chase(root.originals, party[KEY], former, party[LEV], local);
     let chain = t.chain;
-    if root.chains <= chain.0 {
+    if root.primaries <= chain.0 {
         return StepAnswer::Refused(DAMAGE);
     }
-    page_io::store(pages, endings::scratch_page(root, q), w);
+    pages::store(pages, endings::scratch_page(root, q), w);
     after_chase(party, t);
     StepAnswer::Moved
 }
@@ -111,7 +111,7 @@ pub fn step_06(
 // "7 request that chain."
 pub fn step_07(party: &mut [u32], q: u32, locks: &mut [u32]) -> StepAnswer
     requires { ⌜ CanLock (now party) q (now locks) ⌝ }
-    ensures { λ a. ⌜ ((r : Root) (ps : List ℕ) → left a r (now (party .exit)) q (now (locks .exit)) ps ≡ Locate.step07 (seen r (now (party .entry)) q (now (locks .entry)) ps)) ⌝ }
+    ensures { λ a. ⌜ ((r : Root) (ps : List ℕ) → left a r (now (party .exit)) q (now (locks .exit)) ps ≡ Chase.step07 (seen r (now (party .entry)) q (now (locks .entry)) ps)) ⌝ }
 {
     lock_requests::request_chain(party, q, locks, 8)
 }
@@ -119,7 +119,7 @@ pub fn step_07(party: &mut [u32], q: u32, locks: &mut [u32]) -> StepAnswer
 // "8 give up the previous one, back to 6."
 pub fn step_08(party: &mut [u32], q: u32, locks: &mut [u32]) -> StepAnswer
     requires { ⌜ CanLock (now party) q (now locks) ⌝ }
-    ensures { λ a. ⌜ ((r : Root) (ps : List ℕ) → left a r (now (party .exit)) q (now (locks .exit)) ps ≡ Locate.step08 (seen r (now (party .entry)) q (now (locks .entry)) ps)) ⌝ }
+    ensures { λ a. ⌜ ((r : Root) (ps : List ℕ) → left a r (now (party .exit)) q (now (locks .exit)) ps ≡ Chase.step08 (seen r (now (party .entry)) q (now (locks .entry)) ps)) ⌝ }
 {
     let word = lock_requests::chain_word(ChainAddress(party[OTHER]));
     let mode = lock_requests::mode_of(&party[..]);

@@ -9,7 +9,7 @@ use lib.Dec.{ltb}
 use borrow.Author.Tests.{ltb-true, ltb-false}
 use Rattle.model.specs.Outcome.{View}
 use Rattle.model.specs.Steps.Dispatch.{hasStep, stepOf}
-use Rattle.gates.proofs.StepRanges.{none-below, none-above}
+use Rattle.refusals.proofs.StepRanges.{none-below, none-above}
 
 pub named : (v : View) (k n : ℕ) → k ≡ n → stepOf n v ≡ stepOf k v
 named v k n e = ap (λ (i : ℕ). stepOf i v) (sym e)

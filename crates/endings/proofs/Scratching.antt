@@ -14,6 +14,6 @@ pub ready-has-scratch : (v : View) → Ready v → HasScratch (v .root) (v .numb
 ready-has-scratch v ready = record { number-fits = omega arith; page-fits = omega arith }
 
 -- The sizes and the length of the page memory decide.
-pub still-has-scratch : (r r′ : Root) (q : ℕ) (ps ps′ : List ℕ) → r′ .chains ≡ r .chains → r′ .overflow ≡ r .overflow → length ps′ ≡ length ps
+pub still-has-scratch : (r r′ : Root) (q : ℕ) (ps ps′ : List ℕ) → r′ .primaries ≡ r .primaries → r′ .overflow ≡ r .overflow → length ps′ ≡ length ps
     → HasScratch r q ps → HasScratch r′ q ps′
 still-has-scratch r r′ q ps ps′ c o l h = record { number-fits = omega arith; page-fits = omega arith }

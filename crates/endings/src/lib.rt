@@ -8,12 +8,12 @@ ghost use lib.ListN.{length};
 ghost use Rattle.model.specs.declared.Party.{Party};
 ghost use Rattle.model.specs.Pages.{scratchPage};
 ghost use Rattle.model.specs.Answers.{answerOf, restructuringOf};
-ghost use Rattle.model.specs.Outcome as Outcome;
+ghost use Rattle.model.specs.Endings as Endings;
 ghost use Rattle.model.specs.Ready.{viewing};
-ghost use Rattle.model.specs.Steps.Change as Change;
 ghost use Rattle.records.specs.Words.{recordWords, seen, left};
 ghost use Rattle.endings.specs.Scratch.{HasScratch};
 use model::OperationAnswer;
+use model::PAGE_WORDS;
 use model::PageAddress;
 use model::Restructuring;
 use model::Root;
@@ -50,7 +50,7 @@ pub fn scratch_page(root: Root, q: u32) -> PageAddress
     requires { ⌜ scratchPage root q < 2 ^ 32 ⌝ }
     ensures { λ r. ⌜ r .0 ≡ scratchPage root q ⌝ }
 {
-    PageAddress(root.chains + root.overflow + q)
+    PageAddress(root.primaries + root.overflow + q)
 }
 
 // "'Done' carries the answer ... and the restructuring ..., and zeroes the party's record and scratch page."
@@ -63,17 +63,17 @@ pub fn done(
     made: Restructuring,
 ) -> StepAnswer
     requires { ⌜ (length (now party) ≡ recordWords) × HasScratch root q (now pages) ⌝ }
-    ensures { λ a. ⌜ ((p : Party) (ls : List ℕ) → left a root (now (party .exit)) q ls (now (pages .exit)) ≡ Outcome.done answer made (viewing root p q ls (now (pages .entry)))) ⌝ }
+    ensures { λ a. ⌜ ((p : Party) (ls : List ℕ) → left a root (now (party .exit)) q ls (now (pages .exit)) ≡ Endings.done answer made (viewing root p q ls (now (pages .entry)))) ⌝ }
 {
-    page_io::store(pages, scratch_page(root, q), [0; 16]);
-    page_io::zero(party);
+    pages::store(pages, scratch_page(root, q), [0; PAGE_WORDS]);
+    pages::zero(party);
     StepAnswer::Done(answer, made)
 }
 
 // Done with the answer and the restructuring of the party's record.
 pub fn finished(root: Root, party: &mut [u32], q: u32, pages: &mut [u32]) -> StepAnswer
     requires { ⌜ (length (now party) ≡ recordWords) × HasScratch root q (now pages) ⌝ }
-    ensures { λ a. ⌜ ((ls : List ℕ) → left a root (now (party .exit)) q ls (now (pages .exit)) ≡ Change.finished (seen root (now (party .entry)) q ls (now (pages .entry)))) ⌝ }
+    ensures { λ a. ⌜ ((ls : List ℕ) → left a root (now (party .exit)) q ls (now (pages .exit)) ≡ Endings.finished (seen root (now (party .entry)) q ls (now (pages .entry)))) ⌝ }
 {
     let answer = answer_of(party[ANSWER]);
     let made = restructuring_of(party[OWED]);

@@ -12,13 +12,13 @@ use Rattle.model.specs.Chains.{sound, Chain, chainOf}
 use Rattle.model.specs.Filling.{overflowNeeded}
 use Rattle.model.proofs.Laws.Lists.{All}
 use Rattle.model.proofs.Laws.Filling.{IsOverflow, needed-exact}
-use Rattle.page_fill.specs.Fills.{Fillable}
+use Rattle.filling.specs.Fills.{Fillable}
 use Rattle.chain_change.specs.Changing.{CanChange}
 use Rattle.chain_change.proofs.ReadChains.{chain-bounded}
 
-pub few-keys : (r : Root) (ps : List ℕ) (c : ℕ) (d : Chain) → chainOf r ps c ≡ sound d → length (d .pages) ≤ 3 → length (d .entries) ≤ 4 * r .keys
+pub few-keys : (r : Root) (ps : List ℕ) (c : ℕ) (d : Chain) → chainOf r ps c ≡ sound d → length (d .pages) ≤ 3 → length (d .entries) ≤ 4 * r .capacity
 few-keys r ps c d found few =
-    let most : (length (d .pages) + 1) * r .keys ≤ 4 * r .keys = mul-le-mul-right (r .keys) (omega arith) in
+    let most : (length (d .pages) + 1) * r .capacity ≤ 4 * r .capacity = mul-le-mul-right (r .capacity) (omega arith) in
     omega (arith, chain-bounded r ps c d found, most)
 
 -- ---- New pages

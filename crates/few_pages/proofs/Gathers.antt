@@ -11,10 +11,10 @@ use lib.Seq.{length-take-le}
 use Rattle.model.specs.declared.Root.{Root}
 use Rattle.model.specs.Entries.{entryOf, hasKey, ascending, insertedInto, removedFrom}
 use Rattle.model.specs.Chains.{chainOf}
-use Rattle.model.specs.Steps.Change.{changed, changeOf}
+use Rattle.model.specs.Steps.Rebuild.{changed, changeOf}
 use Rattle.model.proofs.Laws.Lists.{front-part}
-use Rattle.key_lists.specs.Places.{placeOf}
-use Rattle.key_lists.proofs.Places.{place-inside}
+use Rattle.entries.specs.Places.{placeOf}
+use Rattle.entries.proofs.Places.{place-inside}
 use Rattle.chain_keys.specs.declared.Gathered.{Gathered}
 use Rattle.chain_keys.specs.Gathering.{Whole}
 use Rattle.chain_keys.proofs.WholeChain.{sound-ascends, front-is}
@@ -31,7 +31,7 @@ module _ (r : Root) (ps : List ℕ) (c n : ℕ) (g : Gathered) (keys : List ℕ)
   front-ascends = ap ascending (whole .entries) ∙ sound-ascends r ps c (whole .chain) (whole .is-sound)
 
   -- Four pages have b keys each at most.
-  pub front-few : n ≤ 3 → g .count ≤ 4 * r .keys
+  pub front-few : n ≤ 3 → g .count ≤ 4 * r .capacity
   front-few few =
       let fewer : length (whole .chain .pages) ≤ 3 = omega (arith, few, whole .pages) in
       omega (arith, few-keys r ps c (whole .chain) (whole .is-sound) fewer, whole .count)

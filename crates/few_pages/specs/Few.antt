@@ -19,4 +19,4 @@ pub record CanChangeFew (r : Root) (q c n : ℕ) (ps : List ℕ) : Type 0 where
 -- The keys are one more at most than four pages have, so that four overflow pages have room for them.
 pub record CanWriteFew (r : Root) (q c : ℕ) (keys ps : List ℕ) : Type 0 where
   pub can-change : CanChange r q c ps
-  pub few : length keys ≤ 4 * r .keys + 1
+  pub few : length keys ≤ 4 * r .capacity + 1

@@ -7,17 +7,17 @@ ghost use Prim.Native.Nat.{ℕ, _≤_};
 ghost use lib.ListN.{length};
 ghost use Rattle.model.specs.Chains.{Chain, chainOf, sound};
 ghost use Rattle.model.specs.Ready.{viewing};
-ghost use Rattle.model.specs.Steps.Change as Change;
+ghost use Rattle.model.specs.Steps.Rebuild as Rebuild;
 ghost use Rattle.chain_change.specs.Changing.{afterChange, changedAnswer};
 ghost use Rattle.few_pages.specs.Few.{CanWriteFew, CanChangeFew};
 use chain_change::Changed;
-use chain_change::NO_PAGE;
 use chain_change::Rebuilt;
 use free_list::Drawn;
 use model::ChainAddress;
+use model::INSERT;
+use model::NO_PAGE;
 use model::Party;
 use model::Root;
-use records::INSERT;
 
 // The most overflow pages that are gathered: with the primary page's, 48 keys.
 pub const FEW: u32 = 3;
@@ -33,10 +33,10 @@ fn write_few(
     pages: &mut [u32],
 ) -> Changed
     requires { ⌜ CanWriteFew root q (party .chain) (now keys) (now pages) ⌝ }
-    ensures { λ r. ⌜ ((ls : List ℕ) (c : Chain) → chainOf root (now (pages .entry)) (party .chain) ≡ sound c → level ≡ c .level → n ≡ length (c .pages) → Change.changed (changedAnswer (party .operation)) (now (keys .entry)) ≡ Change.changeOf (party .operation) (party .key) (c .entries) → afterChange (viewing root party q ls (now (pages .entry))) (now (pages .exit)) r ≡ Change.step10 (viewing root party q ls (now (pages .entry)))) ⌝ }
+    ensures { λ r. ⌜ ((ls : List ℕ) (c : Chain) → chainOf root (now (pages .entry)) (party .chain) ≡ sound c → level ≡ c .level → n ≡ length (c .pages) → Rebuild.changed (changedAnswer (party .operation)) (now (keys .entry)) ≡ Rebuild.changeOf (party .operation) (party .key) (c .entries) → afterChange (viewing root party q ls (now (pages .entry))) (now (pages .exit)) r ≡ Rebuild.step10 (viewing root party q ls (now (pages .entry)))) ⌝ }
 {
     let m = keys.len();
-    let k = page_fill::pages_for(root.keys, m);
+    let k = filling::pages_for(root.capacity, m);
     if (root.free as usize) < k {
         return Changed::Kept(NO_PAGE);
     }
@@ -45,7 +45,7 @@ fn write_few(
         Drawn::Damaged => Changed::Damaged,
         Drawn::Head(head) => {
             let scratch = endings::scratch_page(root, q);
-            page_fill::write_chain(root.keys, scratch, level, keys, &taken[0..k], pages);
+            filling::write_chain(root.capacity, scratch, level, keys, &taken[0..k], pages);
             Changed::Written(Rebuilt {
                 answer: chain_change::changed_answer(party.operation),
                 owed: chain_change::owed_by(party.operation, n, k as u32, m as u32),
@@ -66,27 +66,27 @@ fn change_gathered(
     pages: &mut [u32],
 ) -> Changed
     requires { ⌜ CanChangeFew root q (party .chain) n (now pages) × (64 ≤ length (now keys)) ⌝ }
-    ensures { λ r. ⌜ ((ls : List ℕ) → afterChange (viewing root party q ls (now (pages .entry))) (now (pages .exit)) r ≡ Change.step10 (viewing root party q ls (now (pages .entry)))) ⌝ }
+    ensures { λ r. ⌜ ((ls : List ℕ) → afterChange (viewing root party q ls (now (pages .entry))) (now (pages .exit)) r ≡ Rebuild.step10 (viewing root party q ls (now (pages .entry)))) ⌝ }
 {
     let g = chain_keys::gather(root, ChainAddress(party.chain), n, &pages[..], keys);
     if !g.ok {
         return Changed::Damaged;
     }
     let count = g.count;
-    let at = key_lists::below(&keys[0..count], party.key);
-    let found = key_lists::has_at(&keys[0..count], at, party.key);
+    let at = entries::below(&keys[0..count], party.key);
+    let found = entries::has_at(&keys[0..count], at, party.key);
     if party.operation == INSERT {
         if found {
             return Changed::Kept(chain_change::kept_answer(party.operation));
         }
-        key_lists::put_in(keys, at, count, party.key);
+        entries::put_in(keys, at, count, party.key);
         let more = count + 1;
         return write_few(root, party, q, n, g.level, &keys[0..more], pages);
     }
     if !found {
         return Changed::Kept(chain_change::kept_answer(party.operation));
     }
-    key_lists::leave_out(keys, at, count);
+    entries::leave_out(keys, at, count);
     let fewer = count - 1;
     write_few(root, party, q, n, g.level, &keys[0..fewer], pages)
 }
@@ -94,7 +94,7 @@ fn change_gathered(
 // Step 10 on a chain of which n overflow pages, few, were walked.
 pub fn change_few(root: Root, party: Party, q: u32, n: u32, pages: &mut [u32]) -> Changed
     requires { ⌜ CanChangeFew root q (party .chain) n (now pages) ⌝ }
-    ensures { λ r. ⌜ ((ls : List ℕ) → afterChange (viewing root party q ls (now (pages .entry))) (now (pages .exit)) r ≡ Change.step10 (viewing root party q ls (now (pages .entry)))) ⌝ }
+    ensures { λ r. ⌜ ((ls : List ℕ) → afterChange (viewing root party q ls (now (pages .entry))) (now (pages .exit)) r ≡ Rebuild.step10 (viewing root party q ls (now (pages .entry)))) ⌝ }
 {
     let mut keys = [0u32; 64];
     change_gathered(root, party, q, n, &mut keys[..], pages)

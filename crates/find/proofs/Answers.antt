@@ -11,9 +11,10 @@ use Rattle.model.specs.declared.Mode.{Mode}
 use Rattle.model.specs.declared.OperationAnswer.{OperationAnswer}
 use Rattle.model.specs.declared.Restructuring.the-variants as Restructuring
 use Rattle.model.specs.LockWords.{chainWord, holds}
-use Rattle.model.specs.Outcome.{done, refuse, damage}
+use Rattle.model.specs.Endings.{done}
+use Rattle.model.specs.Outcome.{refuse, damage}
 use Rattle.model.specs.Ready.{viewing}
-use Rattle.model.specs.Steps.Locate.{modeOf}
+use Rattle.model.specs.LockRequests.{modeOf}
 use Rattle.model.specs.Steps.Find.{answered}
 use Rattle.lock_requests.specs.Words.{leftAfter}
 use Rattle.lock_requests.proofs.Releases as Releases

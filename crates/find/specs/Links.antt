@@ -13,6 +13,6 @@ use Rattle.endings.specs.Scratch.{HasScratch}
 -- Party q's scratch page lies within the page memory, and l, its link, names an overflow page that does too.
 pub record LinksOn (r : Root) (q : ℕ) (ps : List ℕ) (l : ℕ) : Type 0 where
   pub scratch : HasScratch r q ps
-  pub overflow-fits : pageWords * (r .chains + r .overflow) ≤ length ps
+  pub overflow-fits : pageWords * (r .primaries + r .overflow) ≤ length ps
   pub link-is : l ≡ linkOf (pageOf ps (scratchPage r q))
   pub named : namesOverflow r l ≡ true

@@ -8,13 +8,13 @@ ghost use Rattle.model.specs.Steps.Find as Find;
 ghost use Rattle.records.specs.Words.{seen, left, AtHand};
 ghost use Rattle.find.specs.Links.{LinksOn};
 use model::ChainAddress;
+use model::DAMAGE;
 use model::OperationAnswer;
 use model::PageAddress;
 use model::Restructuring;
 use model::Root;
 use model::StepAnswer;
 use records::CHAIN;
-use records::DAMAGE;
 use records::KEY;
 
 // "give up the chain, done".
@@ -42,11 +42,11 @@ fn looked_on(root: Root, q: u32, pages: &mut [u32], link: u32) -> StepAnswer
     requires { ⌜ LinksOn root q (now pages) link ⌝ }
     ensures { λ a. ⌜ ((party ls : List ℕ) → left a root party q ls (now (pages .exit)) ≡ Find.lookedOn (seen root party q ls (now (pages .entry)))) ⌝ }
 {
-    let w = page_io::load(&pages[..], PageAddress(link - 1));
+    let w = pages::load(&pages[..], PageAddress(link - 1));
     if !chains::page_sound(root, w) {
         return StepAnswer::Refused(DAMAGE);
     }
-    page_io::store(pages, endings::scratch_page(root, q), w);
+    pages::store(pages, endings::scratch_page(root, q), w);
     StepAnswer::Moved
 }
 
@@ -61,7 +61,7 @@ pub fn step_09(
     requires { ⌜ AtHand root (now party) q (now locks) (now pages) ⌝ }
     ensures { λ a. ⌜ left a root (now (party .exit)) q (now (locks .exit)) (now (pages .exit)) ≡ Find.step09 (seen root (now (party .entry)) q (now (locks .entry)) (now (pages .entry))) ⌝ }
 {
-    let s = page_io::load(&pages[..], endings::scratch_page(root, q));
+    let s = pages::load(&pages[..], endings::scratch_page(root, q));
     if !chains::page_sound(root, s) {
         return StepAnswer::Refused(DAMAGE);
     }

@@ -40,11 +40,11 @@ all-to-give r ps head first n s e = go (listFrom r ps first) refl e
     go (sound xs) ex e = record { rest = xs; leads = walked-leads r ps (r .overflow) first xs s (sym ex); count = cc; same = refl }
 
 module _ (r : Root) (whole : GivenBack) (ps : List ℕ) (head left : ℕ) (more : 0 < left) where
-  first-within : {l : ℕ} {xs : List ℕ} → LeadsTo r ps l xs → length xs ≡ left → (r .chains < l) × (l ≤ r .chains + r .overflow)
+  first-within : {l : ℕ} {xs : List ℕ} → LeadsTo r ps l xs → length xs ≡ left → (r .primaries < l) × (l ≤ r .primaries + r .overflow)
   first-within ends count = absurd (omega arith)
   first-within (goes-on {l} named u) count = named-within r l named
 
-  first-given : pageWords * (r .chains + r .overflow) ≤ length ps → {l : ℕ} {xs : List ℕ} → LeadsTo r ps l xs → length xs ≡ left → whole ≡ givenBack ps head xs
+  first-given : pageWords * (r .primaries + r .overflow) ≤ length ps → {l : ℕ} {xs : List ℕ} → LeadsTo r ps l xs → length xs ≡ left → whole ≡ givenBack ps head xs
       → ToGive r whole (withPage ps (l - 1) (freePage head)) l (linkOf (pageOf ps (l - 1))) (left - 1)
   unfolding givenBack
   first-given fits ends count same = absurd (omega arith)
@@ -60,11 +60,11 @@ module _ (r : Root) (whole : GivenBack) (ps : List ℕ) (head left : ℕ) (more 
       }
 
   -- The next page is an overflow page.
-  pub next-within : (l : ℕ) → ToGive r whole ps head l left → (r .chains < l) × (l ≤ r .chains + r .overflow)
+  pub next-within : (l : ℕ) → ToGive r whole ps head l left → (r .primaries < l) × (l ≤ r .primaries + r .overflow)
   next-within l g = first-within (g .leads) (g .count)
 
   -- The next page becomes the head; its link was read before.
-  pub one-given : (l : ℕ) → pageWords * (r .chains + r .overflow) ≤ length ps → ToGive r whole ps head l left → {ps′ : List ℕ} {head′ l′ left′ : ℕ}
+  pub one-given : (l : ℕ) → pageWords * (r .primaries + r .overflow) ≤ length ps → ToGive r whole ps head l left → {ps′ : List ℕ} {head′ l′ left′ : ℕ}
       → ps′ ≡ withPage ps (l - 1) (freePage head) → head′ ≡ l → l′ ≡ linkOf (pageOf ps (l - 1)) → left′ ≡ left - 1 → ToGive r whole ps′ head′ l′ left′
   one-given l fits g e₁ e₂ e₃ e₄ = rw (e₁, e₂, e₃, e₄) (first-given fits (g .leads) (g .count) (g .same))
 
@@ -88,5 +88,5 @@ pub returned-all : (r r′ : Root) (ps ps′ xs : List ℕ) (head n : ℕ) → g
 returned-all r r′ ps ps′ xs head n g count e = rw (e, g, count) refl
 
 -- Giving back leaves the sizes.
-pub same-sizes : (r r′ : Root) (ps ps′ xs : List ℕ) → returned r′ ps′ ≡ afterGiving r ps xs → (r′ .chains ≡ r .chains) × (r′ .overflow ≡ r .overflow)
-same-sizes r r′ ps ps′ xs g = (ap (λ (x : Returned). x .root .chains) g, ap (λ (x : Returned). x .root .overflow) g)
+pub same-sizes : (r r′ : Root) (ps ps′ xs : List ℕ) → returned r′ ps′ ≡ afterGiving r ps xs → (r′ .primaries ≡ r .primaries) × (r′ .overflow ≡ r .overflow)
+same-sizes r r′ ps ps′ xs g = (ap (λ (x : Returned). x .root .primaries) g, ap (λ (x : Returned). x .root .overflow) g)

@@ -51,15 +51,15 @@ module _ (r : Root) (marks : List ℕ) (l : ℕ) where
   unnamed-old e = rw e refl
 
   -- Of a link that names an overflow page, the mark decides.
-  pub mark-decides : namesOverflow r l ≡ true → (t : Bool) → isMarked marks (l - 1 - r .chains) ≡ t → namesNew r marks l ≡ not t
+  pub mark-decides : namesOverflow r l ≡ true → (t : Bool) → isMarked marks (l - 1 - r .primaries) ≡ t → namesNew r marks l ≡ not t
   unfolding namesNew
   mark-decides e t m = rw (e, m) refl
 
-  pub new-within : namesNew r marks l ≡ true → (r .chains < l) × (l ≤ r .chains + r .overflow)
+  pub new-within : namesNew r marks l ≡ true → (r .primaries < l) × (l ≤ r .primaries + r .overflow)
   unfolding namesNew
-  new-within e = named-within r l (and-true (namesOverflow r l) (not (isMarked marks (l - 1 - r .chains))) e .0)
+  new-within e = named-within r l (and-true (namesOverflow r l) (not (isMarked marks (l - 1 - r .primaries))) e .0)
 
-  pub new-marksWith : namesNew r marks l ≡ true → marksWith r marks l ≡ withMark marks (l - 1 - r .chains)
+  pub new-marksWith : namesNew r marks l ≡ true → marksWith r marks l ≡ withMark marks (l - 1 - r .primaries)
   unfolding marksWith
   new-marksWith e = rw e refl
 

@@ -24,22 +24,22 @@ use Rattle.free_list.proofs.Marks.{none-marked, marked-same, marked-oth
 
 -- An overflow page is marked where it is among those taken before.
 pub record Marked (r : Root) (marks before : List ℕ) : Type 0 where
-  pub means : (x : ℕ) → r .chains ≤ x → x < r .chains + r .overflow → isAmong x before ≡ isMarked marks (x - r .chains)
+  pub means : (x : ℕ) → r .primaries ≤ x → x < r .primaries + r .overflow → isAmong x before ≡ isMarked marks (x - r .primaries)
 
 nothing-marked : (r : Root) → r .overflow ≤ 752 → Marked r (replicate 24 0) []
 unfolding isAmong
-nothing-marked r h = record { means = λ x low high. sym (none-marked 24 (x - r .chains) (omega arith)) }
+nothing-marked r h = record { means = λ x low high. sym (none-marked 24 (x - r .primaries) (omega arith)) }
 
-one-marked : (r : Root) (marks before : List ℕ) (x : ℕ) → r .chains ≤ x → x < r .chains + r .overflow → r .overflow ≤ 32 * length marks → Marked r marks before
-    → Marked r (withMark marks (x - r .chains)) (x ∷ before)
+one-marked : (r : Root) (marks before : List ℕ) (x : ℕ) → r .primaries ≤ x → x < r .primaries + r .overflow → r .overflow ≤ 32 * length marks → Marked r marks before
+    → Marked r (withMark marks (x - r .primaries)) (x ∷ before)
 unfolding isAmong
 one-marked r marks before x low high long m = record { means = λ y l h. go y l h (cmp x y) }
   where
-    go : (y : ℕ) → r .chains ≤ y → y < r .chains + r .overflow → Cmp x y → (eqb x y || isAmong y before) ≡ isMarked (withMark marks (x - r .chains)) (y - r .chains)
-    go y l h (same e) = rw (← e, eqb-same x x refl, marked-same marks (x - r .chains) (omega arith)) refl
+    go : (y : ℕ) → r .primaries ≤ y → y < r .primaries + r .overflow → Cmp x y → (eqb x y || isAmong y before) ≡ isMarked (withMark marks (x - r .primaries)) (y - r .primaries)
+    go y l h (same e) = rw (← e, eqb-same x x refl, marked-same marks (x - r .primaries) (omega arith)) refl
     go y l h (diff n) =
-        let other : y - r .chains ≢ x - r .chains = λ e. n (omega (arith, e)) in
-        rw (eqb-diff x y n, marked-other marks (x - r .chains) (omega arith) (y - r .chains) other) (m .means y l h)
+        let other : y - r .primaries ≢ x - r .primaries = λ e. n (omega (arith, e)) in
+        rw (eqb-diff x y n, marked-other marks (x - r .primaries) (omega arith) (y - r .primaries) other) (m .means y l h)
 
 -- Pages in front of those taken.
 unfoldable pub after : List ℕ → Taken → Taken
@@ -69,7 +69,7 @@ module _ (r : Root) (ps : List ℕ) (k : ℕ) (marks front : List ℕ) (l i : �
   unfolding namesNew
   same-test = go (tell (namesOverflow r l))
     where
-      go : Told (namesOverflow r l) → (namesOverflow r l && not (isMarked marks (l - 1 - r .chains))) ≡ (namesOverflow r l && not (isAmong (l - 1) (g .before)))
+      go : Told (namesOverflow r l) → (namesOverflow r l && not (isMarked marks (l - 1 - r .primaries))) ≡ (namesOverflow r l && not (isAmong (l - 1) (g .before)))
       go (holds e) = let w = named-within r l e in rw (e, g .marked .means (l - 1) (omega (arith, w .0)) (omega (arith, w .0, w .1))) refl
       go (fails e) = rw e refl
 

@@ -24,7 +24,7 @@ pub record CanGive (r : Root) (ps : List ℕ) (first n : ℕ) : Type 0 where
   pub links : linkSound r first ≡ true
   pub walked : counted (listFrom r ps first) ≡ Walked.Pages n
   pub room : r .free + n ≤ r .overflow
-  pub fits : pageWords * (r .chains + r .overflow) ≤ length ps
+  pub fits : pageWords * (r .primaries + r .overflow) ≤ length ps
 
 -- A root record and page words.
 pub record Returned : Type 0 where

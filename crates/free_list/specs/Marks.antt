@@ -19,8 +19,8 @@ withMark marks v = set marks (v / 32) (withField (v % 32) 1 (getD marks (v / 32)
 
 -- Whether link l names an overflow page that is not marked.
 unfoldable pub namesNew : Root → List ℕ → ℕ → Bool
-namesNew r marks l = namesOverflow r l && not (isMarked marks (linkedPage l - r .chains))
+namesNew r marks l = namesOverflow r l && not (isMarked marks (linkedPage l - r .primaries))
 
 -- The marks once link l was followed: with its page, where that is new.
 unfoldable pub marksWith : Root → List ℕ → ℕ → List ℕ
-marksWith r marks l = cond (namesNew r marks l) (withMark marks (linkedPage l - r .chains)) marks
+marksWith r marks l = cond (namesNew r marks l) (withMark marks (linkedPage l - r .primaries)) marks

@@ -13,6 +13,9 @@ ghost use Rattle.model.specs.FreeList.{pagesTaken};
 ghost use Rattle.free_list.specs.Giving.{CanGive, listed, returned, afterGiving};
 ghost use Rattle.free_list.specs.Marks.{isMarked, withMark, namesNew, marksWith};
 ghost use Rattle.free_list.specs.Taking.{drawnAs, drawn};
+use model::LINK_WORD;
+use model::PAGE_WORDS;
+use model::Page;
 use model::PageAddress;
 use model::Root;
 
@@ -23,7 +26,7 @@ pub enum Drawn {
 }
 
 // "A free page is zero except word 2, its link in the free list."
-pub fn free_page(link: u32) -> [u32; 16]
+pub fn free_page(link: u32) -> Page
     ensures { λ r. ⌜ r ≡ freePage link ⌝ }
 {
     [0, 0, link, 0, 0, 0, 0, 0, 0, 0, 0, 0, 0, 0, 0, 0]
@@ -50,9 +53,9 @@ pub fn give_back(root: Root, first: u32, n: u32, pages: &mut [u32]) -> Root
     let mut left = n;
     while 0 < left {
         let p = PageAddress(l - 1);
-        let old = page_io::load(&pages[..], p);
+        let old = pages::load(&pages[..], p);
         let new = free_page(head);
-        page_io::store(pages, p, new);
+        pages::store(pages, p, new);
         head = l;
         l = chains::link_of(old);
         left -= 1;
@@ -65,7 +68,7 @@ pub fn link_at(pages: &[u32], p: PageAddress) -> u32
     requires { ⌜ p .0 * pageWords + pageWords ≤ length (now pages) ⌝ }
     ensures { λ r. ⌜ r ≡ linkOf (pageOf (now (pages .entry)) (p .0)) ⌝ }
 {
-    pages[p.0 as usize * 16 + 2]
+    pages[p.0 as usize * PAGE_WORDS + LINK_WORD]
 }
 
 // Whether number v is marked: a bit for each number, 32 to a word.
@@ -93,7 +96,7 @@ fn names_new(root: Root, l: u32, marks: &mut [u32]) -> bool
     ensures { λ r. ⌜ (r ≡ namesNew root (now (marks .entry)) l) × (now (marks .exit) ≡ marksWith root (now (marks .entry)) l) ⌝ }
 {
     if chains::names_overflow(root, l) {
-        let v = l - 1 - root.chains;
+        let v = l - 1 - root.primaries;
         if is_marked(&marks[..], v) {
             return false;
         }
@@ -106,7 +109,7 @@ fn names_new(root: Root, l: u32, marks: &mut [u32]) -> bool
 // The k pages at the head of the free list go into `taken`, in order. No word of the page memory changes.
 // "a free list that ends, or names a page twice or no overflow page, before the pages taken" is damage: the pages met are marked.
 pub fn take_pages(root: Root, k: usize, pages: &[u32], taken: &mut [u32]) -> Drawn
-    requires { ⌜ (pageWords * (root .chains + root .overflow) ≤ length (now pages)) × (root .overflow ≤ 752) × (k ≤ length (now taken)) ⌝ }
+    requires { ⌜ (pageWords * (root .primaries + root .overflow) ≤ length (now pages)) × (root .overflow ≤ 752) × (k ≤ length (now taken)) ⌝ }
     ensures { λ r. ⌜ drawnAs r (take k (now (taken .exit))) ≡ pagesTaken root (now (pages .entry)) k ⌝ }
 {
     let mut marks = [0u32; 24];
@@ -127,7 +130,7 @@ pub fn take_pages(root: Root, k: usize, pages: &[u32], taken: &mut [u32]) -> Dra
 
 // The k pages at the head of the free list are tested: the link word that is the head once they are taken. No word of the page memory changes.
 pub fn draw(root: Root, k: u32, pages: &[u32]) -> Drawn
-    requires { ⌜ (pageWords * (root .chains + root .overflow) ≤ length (now pages)) × (root .overflow ≤ 752) ⌝ }
+    requires { ⌜ (pageWords * (root .primaries + root .overflow) ≤ length (now pages)) × (root .overflow ≤ 752) ⌝ }
     ensures { λ r. ⌜ r ≡ drawn (pagesTaken root (now (pages .entry)) k) ⌝ }
 {
     let mut marks = [0u32; 24];

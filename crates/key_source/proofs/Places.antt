@@ -8,7 +8,7 @@ use native.Mathlib.Numerals.{add-one}
 use native.Mathlib.Omega.{arith}
 use lib.ListN.{length, getD, take, drop, length-append, length-take}
 use lib.Seq.{getD-take, getD-drop, drop-cons, drop-drop}
-use Rattle.model.specs.Sizes.{pageWords, mostKeys}
+use Rattle.model.specs.Sizes.{pageWords, mostRecords}
 use Rattle.model.specs.Entries.{Entry}
 use Rattle.model.specs.Pages.{pageOf, countOf, linkOf, entriesOf}
 use Rattle.chain_keys.specs.Gathering.{entriesFrom, Followed}
@@ -109,13 +109,13 @@ module _ (ps : List ℕ) (p : Place) (sits : Sits ps p) where
 
 -- ---- How many keys there are
 
-length-from : (ps : List ℕ) {n l : ℕ} → Followed ps n l → length (entriesFrom ps n l) ≤ mostKeys * n
+length-from : (ps : List ℕ) {n l : ℕ} → Followed ps n l → length (entriesFrom ps n l) ≤ mostRecords * n
 unfolding entriesFrom entriesOf
 length-from ps (Followed.none l) = omega arith
 length-from ps (Followed.also n l h f k rest) =
     let w = pageOf ps (l - 1) in
     rw (length-append, length-take) (omega (arith, length-from ps rest))
 
-pub length-keysAt : (ps : List ℕ) (p : Place) → Sits ps p → length (keysAt ps p) ≤ mostKeys * 753
+pub length-keysAt : (ps : List ℕ) (p : Place) → Sits ps p → length (keysAt ps p) ≤ mostRecords * 753
 unfolding keysAt
 length-keysAt ps p sits = rw (length-append, length-take) (omega (arith, length-from ps (sits .followed), sits .few, sits .few-pages))

@@ -7,7 +7,7 @@ use mathlib.Core.List.{List, _∷_, _++_}
 use Prim.Native.Nat.{ℕ, _+_, _-_, _*_, _≤_}
 use lib.ListN.{length, take, drop}
 use lib.Dec.{eqb}
-use Rattle.model.specs.Sizes.{pageWords, mostKeys}
+use Rattle.model.specs.Sizes.{pageWords, mostRecords}
 use Rattle.model.specs.Addresses.{hash}
 use Rattle.model.specs.Entries.{Entry, keyOf, entryOf, insertedInto, removedFrom, staying, going}
 use Rattle.model.specs.Pages.{pageOf, countOf, linkOf}
@@ -28,14 +28,14 @@ keysAt ps p = take (p .left) (drop (p .at) ps) ++ entriesFrom ps (p .pages) (p .
 -- These keys are within the page memory.
 pub record Sits (ps : List ℕ) (p : Place) : Type 0 where
   pub within : p .at + p .left ≤ length ps
-  pub few : p .left ≤ mostKeys
+  pub few : p .left ≤ mostRecords
   pub few-pages : p .pages ≤ 752
   pub followed : Followed ps (p .pages) (p .link)
 
 -- A page is within the page memory, its count is no damage, and n pages follow it.
 pub record CanStart (ps : List ℕ) (page n : ℕ) : Type 0 where
   pub fits : page * pageWords + pageWords ≤ length ps
-  pub few : countOf (pageOf ps page) ≤ mostKeys
+  pub few : countOf (pageOf ps page) ≤ mostRecords
   pub few-pages : n ≤ 752
   pub followed : Followed ps n (linkOf (pageOf ps page))
 

@@ -10,7 +10,11 @@ ghost use Rattle.model.specs.Addresses.{hash};
 ghost use Rattle.model.specs.Pages.{pageOf, linkOf, entriesOf};
 ghost use Rattle.chain_keys.specs.Gathering.{entriesFrom};
 ghost use Rattle.key_source.specs.Sources.{keysAt, Sits, CanStart, onward, chosen, CanHalve, CanChoose, kept, extraKeys, keysOf, thenAll, Gives};
+use model::COUNT_WORD;
 use model::ChainAddress;
+use model::FIRST_RECORD;
+use model::LINK_WORD;
+use model::PAGE_WORDS;
 use model::PageAddress;
 
 // A place in a chain: the word of the next key, how many keys its page has from there on, the page's link, and how many pages that leads to.
@@ -53,11 +57,11 @@ pub fn first_place(pages: &[u32], page: PageAddress, n: u32) -> Place
     requires { ⌜ CanStart (now pages) (page .0) n ⌝ }
     ensures { λ r. ⌜ Sits (now (pages .entry)) r × (r .pages ≡ n) × (keysAt (now (pages .entry)) r ≡ entriesOf (pageOf (now (pages .entry)) (page .0)) ++ entriesFrom (now (pages .entry)) n (linkOf (pageOf (now (pages .entry)) (page .0)))) ⌝ }
 {
-    let first = page.0 as usize * 16;
-    let left = pages[first + 1];
-    let link = pages[first + 2];
+    let first = page.0 as usize * PAGE_WORDS;
+    let left = pages[first + COUNT_WORD];
+    let link = pages[first + LINK_WORD];
     Place {
-        at: first + 3,
+        at: first + FIRST_RECORD,
         left,
         link,
         pages: n,
@@ -95,7 +99,7 @@ fn stays(h: Halving, k: u32) -> bool
     requires { ⌜ CanHalve h ⌝ }
     ensures { λ r. ⌜ r ≡ eqb (hash (h .originals) (h .level) k) (h .chain .0) ⌝ }
 {
-    let home = addressing::hash(h.originals, h.level, k);
+    let home = addresses::hash(h.originals, h.level, k);
     let chain = h.chain;
     home.0 == chain.0
 }

@@ -13,9 +13,10 @@ use Rattle.model.specs.declared.OperationAnswer.{OperationAnswer}
 use Rattle.model.specs.declared.Restructuring.{Restructuring}
 use Rattle.model.specs.Answers.{answerOf}
 use Rattle.model.specs.LockWords.{Claim, holds, releasedWord}
-use Rattle.model.specs.Outcome.{View, Outcome, refuse, damage, done, isHeld, heldAll, withoutHold, givenUp}
+use Rattle.model.specs.Outcome.{View, Outcome, refuse, damage}
+use Rattle.model.specs.Endings.{done, endedWith}
+use Rattle.model.specs.LockRequests.{isHeld, heldAll, withoutHold, givenUp}
 use Rattle.model.specs.Ready.{viewing}
-use Rattle.model.specs.Steps.Split.{endedWith}
 
 module _ (v : View) (cs : List Claim) (s : Restructuring) where
   pub unheld-refused : heldAll v cs ≡ false → refuse damage v ≡ endedWith v cs s

@@ -9,18 +9,18 @@ ghost use lib.ListN.{length, getD};
 ghost use Rattle.model.specs.LockWords as LockWords;
 ghost use Rattle.model.specs.LockWords.{claim, rootWord};
 ghost use Rattle.records.specs.Words.{partyIn, seen, left, AtHand};
-ghost use Rattle.model.specs.Steps.Change.{chainSelective};
-ghost use Rattle.model.specs.Steps.Split.{rootSelective, endedWith};
-ghost use Rattle.model.specs.Steps.Merge.{mergeLocks};
+ghost use Rattle.model.specs.LockRequests.{chainSelective, rootSelective};
+ghost use Rattle.model.specs.Endings.{endedWith};
+ghost use Rattle.model.specs.Steps.MergeLocks.{mergeLocks};
 use lock_requests::ROOT_WORD;
 use model::ChainAddress;
+use model::DAMAGE;
 use model::Mode;
 use model::Restructuring;
 use model::Root;
 use model::StepAnswer;
 use records::ANSWER;
 use records::CHAIN;
-use records::DAMAGE;
 use records::OTHER;
 
 // Whether party q holds the lock of a word.

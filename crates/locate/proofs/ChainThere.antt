@@ -10,10 +10,10 @@ use Rattle.model.specs.Steps.Locate.{located, step03}
 
 module _ (v : View) {l c : ℕ} (lev : l ≡ addressLevel (v .root .originals) (v .party .lev) (v .root .next) (v .party .key))
     (chain : c ≡ addressOf (v .root .originals) (v .party .lev) (v .root .next) (v .party .key)) where
-  pub chain-there-moves : c < v .root .chains → moved (withParty (atStep 4 (withChain c (withLev l (v .party)))) v) ≡ step03 v
+  pub chain-there-moves : c < v .root .primaries → moved (withParty (atStep 4 (withChain c (withLev l (v .party)))) v) ≡ step03 v
   unfolding step03 located
-  chain-there-moves h = rw (← lev, ← chain, lt-ltb c (v .root .chains) h) refl
+  chain-there-moves h = rw (← lev, ← chain, lt-ltb c (v .root .primaries) h) refl
 
-  pub chain-beyond-refused : v .root .chains ≤ c → refuse damage v ≡ step03 v
+  pub chain-beyond-refused : v .root .primaries ≤ c → refuse damage v ≡ step03 v
   unfolding step03 located
-  chain-beyond-refused h = rw (← chain, le-ltb c (v .root .chains) h) refl
+  chain-beyond-refused h = rw (← chain, le-ltb c (v .root .primaries) h) refl

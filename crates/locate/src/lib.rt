@@ -12,11 +12,11 @@ ghost use Rattle.lock_requests.specs.Words.{CanLock};
 use lock_requests::CHASE;
 use lock_requests::ROOT_WORD;
 use model::ChainAddress;
+use model::DAMAGE;
 use model::Mode;
 use model::Root;
 use model::StepAnswer;
 use records::CHAIN;
-use records::DAMAGE;
 use records::KEY;
 use records::LEV;
 
@@ -55,12 +55,12 @@ fn locate(root: Root, lev: u32, key: u32) -> Located
     requires { ⌜ (1 ≤ root .originals) × (root .originals ≤ 256) × (lev ≤ 9) ⌝ }
     ensures { λ r. ⌜ (r .lev ≡ addressLevel (root .originals) lev (root .next) key) × (r .chain .0 ≡ addressOf (root .originals) lev (root .next) key) ⌝ }
 {
-    let low = addressing::hash(root.originals, lev, key);
+    let low = addresses::hash(root.originals, lev, key);
     if low.0 < root.next {
         let raised = lev + 1;
         return Located {
             lev: raised,
-            chain: addressing::hash(root.originals, raised, key),
+            chain: addresses::hash(root.originals, raised, key),
         };
     }
     Located {
@@ -82,7 +82,7 @@ pub fn step_03(
 {
     let at = locate(root, party[LEV], party[KEY]);
     let chain = at.chain;
-    if root.chains <= chain.0 {
+    if root.primaries <= chain.0 {
         return StepAnswer::Refused(DAMAGE);
     }
     party[LEV] = at.lev;

@@ -9,9 +9,9 @@ use Rattle.model.specs.declared.Root.{Root}
 use Rattle.model.specs.declared.Party.{Party}
 use Rattle.model.specs.declared.Mode.{Mode}
 use Rattle.model.specs.LockWords.{claim, holds}
-use Rattle.model.specs.Outcome.{View, Outcome, guarded, refuse, damage, isHeld, heldAll, withoutHold, givenUp}
+use Rattle.model.specs.Outcome.{View, Outcome, guarded, refuse, damage}
+use Rattle.model.specs.LockRequests.{isHeld, heldAll, withoutHold, givenUp, release}
 use Rattle.model.specs.Ready.{viewing}
-use Rattle.model.specs.Steps.Locate.{release}
 use Rattle.lock_requests.specs.Words.{leftAfter}
 
 module _ (r : Root) (p : Party) (q : ℕ) (ls ps : List ℕ) (i : ℕ) (m : Mode) {b : Bool} {ls′ : List ℕ} where

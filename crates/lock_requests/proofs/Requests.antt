@@ -9,7 +9,8 @@ use Rattle.model.specs.declared.Root.{Root}
 use Rattle.model.specs.declared.Party.{Party}
 use Rattle.model.specs.declared.Mode.{Mode}
 use Rattle.model.specs.LockWords.{claim, permits}
-use Rattle.model.specs.Outcome.{View, Outcome, request, isGranted, withHold, moved, waits}
+use Rattle.model.specs.Outcome.{View, Outcome, moved, waits}
+use Rattle.model.specs.LockRequests.{request, isGranted, withHold}
 use Rattle.model.specs.Ready.{viewing}
 use Rattle.lock_words.specs.Words.{requested}
 

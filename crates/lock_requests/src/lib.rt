@@ -10,15 +10,15 @@ ghost use Rattle.model.specs.declared.Root.{Root};
 ghost use Rattle.model.specs.Records.{atStep};
 ghost use Rattle.model.specs.LockWords as LockWords;
 ghost use Rattle.model.specs.LockWords.{claim};
-ghost use Rattle.model.specs.Outcome as Outcome;
-ghost use Rattle.model.specs.Steps.Locate as Locate;
+ghost use Rattle.model.specs.LockRequests as LockRequests;
 ghost use Rattle.records.specs.Words.{recordWords, partyIn, seen, left};
 ghost use Rattle.lock_requests.specs.Words.{leftAfter, CanLock};
 use model::ChainAddress;
+use model::DAMAGE;
+use model::FIND;
 use model::Mode;
 use model::StepAnswer;
 use records::CHAIN;
-use records::FIND;
 use records::OPERATION;
 
 // The root's lock word: "word 0 for the root, word c+1 for chain c".
@@ -38,7 +38,7 @@ pub fn chain_word(c: ChainAddress) -> u32
 // The mode in which an operation locks its chain: "read for find, selective otherwise".
 pub fn mode_of(party: &[u32]) -> Mode
     requires { ⌜ length (now party) ≡ recordWords ⌝ }
-    ensures { λ r. ⌜ r ≡ Locate.modeOf (partyIn (now (party .entry))) ⌝ }
+    ensures { λ r. ⌜ r ≡ LockRequests.modeOf (partyIn (now (party .entry))) ⌝ }
 {
     if party[OPERATION] == FIND {
         Mode::Read
@@ -57,7 +57,7 @@ pub fn request_step(
     k: u32,
 ) -> StepAnswer
     requires { ⌜ (length (now party) ≡ recordWords) × (word < length (now locks)) × (q < 16) ⌝ }
-    ensures { λ a. ⌜ ((r : Root) (ps : List ℕ) → left a r (now (party .exit)) q (now (locks .exit)) ps ≡ Outcome.request (seen r (now (party .entry)) q (now (locks .entry)) ps) (claim word mode) (atStep k (partyIn (now (party .entry))))) ⌝ }
+    ensures { λ a. ⌜ ((r : Root) (ps : List ℕ) → left a r (now (party .exit)) q (now (locks .exit)) ps ≡ LockRequests.request (seen r (now (party .entry)) q (now (locks .entry)) ps) (claim word mode) (atStep k (partyIn (now (party .entry))))) ⌝ }
 {
     if lock_words::request(locks, word as usize, q, mode) {
         records::at_step(party, k);
@@ -70,7 +70,7 @@ pub fn request_step(
 // The party's chain is requested, "read for find, selective otherwise", and the grant leads to step k.
 pub fn request_chain(party: &mut [u32], q: u32, locks: &mut [u32], k: u32) -> StepAnswer
     requires { ⌜ CanLock (now party) q (now locks) ⌝ }
-    ensures { λ a. ⌜ ((r : Root) (ps : List ℕ) → left a r (now (party .exit)) q (now (locks .exit)) ps ≡ Outcome.request (seen r (now (party .entry)) q (now (locks .entry)) ps) (Locate.chainLock (partyIn (now (party .entry)))) (atStep k (partyIn (now (party .entry))))) ⌝ }
+    ensures { λ a. ⌜ ((r : Root) (ps : List ℕ) → left a r (now (party .exit)) q (now (locks .exit)) ps ≡ LockRequests.request (seen r (now (party .entry)) q (now (locks .entry)) ps) (LockRequests.chainLock (partyIn (now (party .entry)))) (atStep k (partyIn (now (party .entry))))) ⌝ }
 {
     let word = chain_word(ChainAddress(party[CHAIN]));
     let mode = mode_of(&party[..]);
@@ -101,12 +101,12 @@ pub fn release_step(
     k: u32,
 ) -> StepAnswer
     requires { ⌜ (length (now party) ≡ recordWords) × (word < length (now locks)) × (q < 16) ⌝ }
-    ensures { λ a. ⌜ ((r : Root) (ps : List ℕ) → left a r (now (party .exit)) q (now (locks .exit)) ps ≡ Locate.release (seen r (now (party .entry)) q (now (locks .entry)) ps) (claim word mode ∷ []) (atStep k (partyIn (now (party .entry))))) ⌝ }
+    ensures { λ a. ⌜ ((r : Root) (ps : List ℕ) → left a r (now (party .exit)) q (now (locks .exit)) ps ≡ LockRequests.release (seen r (now (party .entry)) q (now (locks .entry)) ps) (claim word mode ∷ []) (atStep k (partyIn (now (party .entry))))) ⌝ }
 {
     if give_up(locks, word, q, mode) {
         records::at_step(party, k);
         StepAnswer::Moved
     } else {
-        StepAnswer::Refused(records::DAMAGE)
+        StepAnswer::Refused(DAMAGE)
     }
 }

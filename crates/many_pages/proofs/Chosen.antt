@@ -10,16 +10,16 @@ use native.Mathlib.Omega.{arith}
 use lib.ListN.{length, take, drop, length-append, length-drop}
 use lib.Seq.{length-take-le}
 use Rattle.model.specs.declared.Root.{Root}
-use Rattle.model.specs.Sizes.{mostKeys}
+use Rattle.model.specs.Sizes.{mostRecords}
 use Rattle.model.specs.Entries.{Entry, hasKey}
 use Rattle.model.specs.Pages.{pageOf, levelOf, linkOf, entriesOf}
 use Rattle.model.specs.Chains.{Checked, damaged, sound, Chain, entriesOn, readChain, listFrom, chainOf}
-use Rattle.model.specs.Steps.Change.{changed, changeOf}
+use Rattle.model.specs.Steps.Rebuild.{changed, changeOf}
 use Rattle.chains.specs.Walks.{counted}
 use Rattle.chains.specs.declared.Walked.the-variants as Walked
 use Rattle.chains.proofs.Tests.{sound-page-links}
-use Rattle.key_lists.specs.Places.{placeOf}
-use Rattle.key_lists.proofs.Places.{place-inside, removed-at}
+use Rattle.entries.specs.Places.{placeOf}
+use Rattle.entries.proofs.Places.{place-inside, removed-at}
 use Rattle.chain_keys.specs.Gathering.{overflowOf, entriesFrom}
 use Rattle.chain_keys.proofs.Following.{sound-count, sound-listed, walked-walks}
 use Rattle.chain_keys.proofs.WholeChain.{sound-ascends, pages-bounded}
@@ -66,7 +66,7 @@ module _ (r : Root) (q c : ℕ) (ps : List ℕ) (can : CanChange r q c ps) (d : 
   pub chosen-few : (choice : Choice) → length (chosen choice (d .entries)) ≤ 9037
   chosen-few choice =
       let few : length (d .pages) + 1 ≤ 753 = omega (arith, pages-few) in
-      let most : (length (d .pages) + 1) * r .keys ≤ 753 * mostKeys = mul-le-mul few (can .keys-fit) in
+      let most : (length (d .pages) + 1) * r .capacity ≤ 753 * mostRecords = mul-le-mul few (can .keys-fit) in
       omega (arith, most-chosen choice (d .entries), chain-bounded r ps c d found, most)
 
   pub chain-level : levelOf (pageOf ps c) ≡ d .level

@@ -7,7 +7,7 @@ use lib.ListN.{length}
 use Rattle.model.specs.declared.Root.{Root}
 use Rattle.model.specs.declared.Party.{Party}
 use Rattle.model.specs.Chains.{Chain, chainOf, sound}
-use Rattle.model.specs.Steps.Change.{changed, changeOf}
+use Rattle.model.specs.Steps.Rebuild.{changed, changeOf}
 use Rattle.chain_scan.specs.declared.Looked.{Looked}
 use Rattle.chain_scan.specs.declared.Scan.the-variants as Scan
 use Rattle.chain_scan.specs.Scans.{scanned}

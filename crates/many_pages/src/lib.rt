@@ -8,11 +8,10 @@ ghost use lib.ListN.{length};
 ghost use Rattle.model.specs.Sizes.{pageWords};
 ghost use Rattle.model.specs.Pages.{pageOf, levelOf};
 ghost use Rattle.model.specs.Ready.{viewing};
-ghost use Rattle.model.specs.Steps.Change as Change;
+ghost use Rattle.model.specs.Steps.Rebuild as Rebuild;
 ghost use Rattle.chain_change.specs.Changing.{afterChange, CanChange};
 ghost use Rattle.many_pages.specs.Many.{CanWriteMany, CanChangeLooked};
 use chain_change::Changed;
-use chain_change::NO_PAGE;
 use chain_change::Rebuilt;
 use chain_scan::Looked;
 use chain_scan::Scan;
@@ -22,17 +21,19 @@ use free_list::Drawn;
 use key_source::Choice;
 use key_source::Source;
 use model::ChainAddress;
+use model::INSERT;
+use model::NO_PAGE;
+use model::PAGE_WORDS;
 use model::PageAddress;
 use model::Party;
 use model::Root;
-use records::INSERT;
 
 // The local level of page `p`: the page's other words are not read.
 fn level_at(pages: &[u32], p: PageAddress) -> u32
     requires { ⌜ p .0 * pageWords + pageWords ≤ length (now pages) ⌝ }
     ensures { λ r. ⌜ r ≡ levelOf (pageOf (now (pages .entry)) (p .0)) ⌝ }
 {
-    pages[p.0 as usize * 16]
+    pages[p.0 as usize * PAGE_WORDS]
 }
 
 // The chosen keys, m of them, in new pages, for a chain that had n overflow pages. "if fewer pages are free than the new chain needs, the answer is no page".
@@ -46,9 +47,9 @@ fn write_many(
     pages: &mut [u32],
 ) -> Changed
     requires { ⌜ CanWriteMany root party q n choice m (now pages) ⌝ }
-    ensures { λ r. ⌜ ((ls : List ℕ) → afterChange (viewing root party q ls (now (pages .entry))) (now (pages .exit)) r ≡ Change.step10 (viewing root party q ls (now (pages .entry)))) ⌝ }
+    ensures { λ r. ⌜ ((ls : List ℕ) → afterChange (viewing root party q ls (now (pages .entry))) (now (pages .exit)) r ≡ Rebuild.step10 (viewing root party q ls (now (pages .entry)))) ⌝ }
 {
-    let k = page_fill::pages_for(root.keys, m as usize);
+    let k = filling::pages_for(root.capacity, m as usize);
     if (root.free as usize) < k {
         return Changed::Kept(NO_PAGE);
     }
@@ -65,7 +66,7 @@ fn write_many(
                 source,
                 to: endings::scratch_page(root, q),
             };
-            chain_writer::write_chain(root.keys, c, root.head, Rest::Nothing, pages);
+            chain_writer::write_chain(root.capacity, c, root.head, Rest::Nothing, pages);
             Changed::Written(Rebuilt {
                 answer: chain_change::changed_answer(party.operation),
                 owed: chain_change::owed_by(party.operation, n, taken, m),
@@ -79,7 +80,7 @@ fn write_many(
 // The change of a chain that was looked through.
 fn change_looked(root: Root, party: Party, q: u32, l: Looked, pages: &mut [u32]) -> Changed
     requires { ⌜ CanChangeLooked root party q l (now pages) ⌝ }
-    ensures { λ r. ⌜ ((ls : List ℕ) → afterChange (viewing root party q ls (now (pages .entry))) (now (pages .exit)) r ≡ Change.step10 (viewing root party q ls (now (pages .entry)))) ⌝ }
+    ensures { λ r. ⌜ ((ls : List ℕ) → afterChange (viewing root party q ls (now (pages .entry))) (now (pages .exit)) r ≡ Rebuild.step10 (viewing root party q ls (now (pages .entry)))) ⌝ }
 {
     if party.operation == INSERT {
         if l.found {
@@ -112,7 +113,7 @@ fn change_looked(root: Root, party: Party, q: u32, l: Looked, pages: &mut [u32])
 // Step 10, whatever the chain's length.
 pub fn change_many(root: Root, party: Party, q: u32, pages: &mut [u32]) -> Changed
     requires { ⌜ CanChange root q (party .chain) (now pages) ⌝ }
-    ensures { λ r. ⌜ ((ls : List ℕ) → afterChange (viewing root party q ls (now (pages .entry))) (now (pages .exit)) r ≡ Change.step10 (viewing root party q ls (now (pages .entry)))) ⌝ }
+    ensures { λ r. ⌜ ((ls : List ℕ) → afterChange (viewing root party q ls (now (pages .entry))) (now (pages .exit)) r ≡ Rebuild.step10 (viewing root party q ls (now (pages .entry)))) ⌝ }
 {
     match chain_scan::look_through(root, ChainAddress(party.chain), party.key, &pages[..]) {
         Scan::Damaged => Changed::Damaged,

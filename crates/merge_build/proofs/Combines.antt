@@ -11,23 +11,23 @@ use lib.Seq.{length-take-le}
 use borrow.Author.Tests.{lt-ltb, le-ltb}
 use Rattle.model.specs.declared.Root.{Root}
 use Rattle.model.specs.declared.Party.{Party}
-use Rattle.model.specs.Sizes.{pageWords, mostKeys}
+use Rattle.model.specs.Sizes.{pageWords, mostRecords}
 use Rattle.model.specs.Entries.{Entry}
 use Rattle.model.specs.Pages.{withPage, scratchPage}
 use Rattle.model.specs.Chains.{Checked, damaged, sound}
 use Rattle.model.specs.Filling.{overflowNeeded, pagesFor, primaryOf, overflowWritten}
-use Rattle.model.specs.FreeList.{Taken, tooFew, pagesTaken}
+use Rattle.model.specs.FreeList.{Taken, tooFew, pagesTaken, rootAfterTaking}
 use Rattle.model.specs.Outcome.{View, Outcome, refuse, damage, checked}
 use Rattle.model.specs.Ready.{Ready, viewing}
-use Rattle.model.specs.Steps.Change.{rootAfterTaking}
-use Rattle.model.specs.Steps.Merge.{Pair, joinedEntries, mergeGoes, mergeStops, combined, combineWith, step26}
+use Rattle.model.specs.Steps.MergeBuild.{Pair, joinedEntries, mergeGoes, combined, combineWith, step26}
+use Rattle.model.specs.Steps.MergeLocks.{mergeStops}
 use Rattle.model.proofs.Laws.Lists.{front-part}
 use Rattle.records.specs.Words.{AtHand}
 use Rattle.free_list.specs.declared.Drawn.{Drawn}
 use Rattle.free_list.specs.declared.Drawn.the-variants as Drawn
-use Rattle.chain_join.specs.Joining.{CanJoin}
-use Rattle.chain_build.specs.Building.{Chained, chained, chainedOn, builtChain}
-use Rattle.chain_build.proofs.Building.{ready-can-build}
+use Rattle.merge_join.specs.Joining.{CanJoin}
+use Rattle.merge_chain.specs.Building.{Chained, chained, chainedOn, builtChain}
+use Rattle.merge_chain.proofs.Building.{ready-can-build}
 use Rattle.merge_build.specs.declared.Combined.{Combined}
 use Rattle.merge_build.specs.declared.Combined.the-variants as Combined
 use Rattle.merge_build.specs.Combining.{endingAs, joinedWith, joinedBoth, CanMerge, BothWalked}
@@ -50,9 +50,9 @@ module _ (r : Root) (p : Party) (q : ℕ) (ls ps : List ℕ) {d : Drawn} {ps′ 
 
   -- The chain's pages were written, and h is then the free list's head.
   some-taken : (m : Pair) (es : List Entry) → es ≡ joinedEntries m → (t : Checked Taken) {h : ℕ}
-      → chained d ps′ ≡ chainedOn ps t (λ t. withPage (overflowWritten (r .keys) ps (t .pages) es) (scratchPage r q) (primaryOf (r .keys) (m .target .level) es (t .pages)))
+      → chained d ps′ ≡ chainedOn ps t (λ t. withPage (overflowWritten (r .capacity) ps (t .pages) es) (scratchPage r q) (primaryOf (r .capacity) (m .target .level) es (t .pages)))
       → d ≡ Drawn.Head h
-      → endingAs (Combined.Made h (r .free - pagesFor (r .keys) es) (m .target .link)) (viewing r p q ls ps′) ≡ checked (viewing r p q ls ps) t (λ t. combined (viewing r p q ls ps) m t)
+      → endingAs (Combined.Made h (r .free - pagesFor (r .capacity) es) (m .target .link)) (viewing r p q ls ps′) ≡ checked (viewing r p q ls ps) t (λ t. combined (viewing r p q ls ps) m t)
   unfolding combined rootAfterTaking
   some-taken m es joins damaged e f =
       let none : d ≡ Drawn.Damaged = ap (λ (c : Chained). c .drawn) e in
@@ -67,13 +67,13 @@ module _ (r : Root) (p : Party) (q : ℕ) (ls ps : List ℕ) (x : Checked Pair) 
   unsound-damaged e = rw e refl
 
   -- x are the two chains m, and their joined records es need k pages.
-  module _ (m : Pair) (is : x ≡ sound m) (es : List Entry) (joins : es ≡ joinedEntries m) (k : ℕ) (many : k ≡ pagesFor (r .keys) es) where
+  module _ (m : Pair) (is : x ≡ sound m) (es : List Entry) (joins : es ≡ joinedEntries m) (k : ℕ) (many : k ≡ pagesFor (r .capacity) es) where
     pub too-few-skipped : r .free < k → endingAs Combined.Skipped (viewing r p q ls ps) ≡ joinedWith (viewing r p q ls ps) x
     unfolding combineWith mergeGoes tooFew
     too-few-skipped f = rw (is, ← joins, ← many, lt-ltb (r .free) k f) refl
 
     module _ (enough : k ≤ r .free) where
-      enough-builds : checked (viewing r p q ls ps) (pagesTaken r ps (pagesFor (r .keys) es)) (λ t. combined (viewing r p q ls ps) m t) ≡ joinedWith (viewing r p q ls ps) x
+      enough-builds : checked (viewing r p q ls ps) (pagesTaken r ps (pagesFor (r .capacity) es)) (λ t. combined (viewing r p q ls ps) m t) ≡ joinedWith (viewing r p q ls ps) x
       unfolding combineWith mergeGoes tooFew
       enough-builds = rw (is, ← joins, ← many, le-ltb (r .free) k enough) refl
 
@@ -81,7 +81,7 @@ module _ (r : Root) (p : Party) (q : ℕ) (ls ps : List ℕ) (x : Checked Pair) 
       module _ {level : ℕ} (levels : level ≡ m .target .level) {d : Drawn} {ps′ : List ℕ} (built : chained d ps′ ≡ builtChain r q ps level es) where
         pub unbuilt-damaged : d ≡ Drawn.Damaged → endingAs Combined.Damaged (viewing r p q ls ps′) ≡ joinedWith (viewing r p q ls ps) x
         unfolding builtChain
-        unbuilt-damaged e = none-taken r p q ls ps (pagesTaken r ps (pagesFor (r .keys) es)) _ _ built e ∙ enough-builds
+        unbuilt-damaged e = none-taken r p q ls ps (pagesTaken r ps (pagesFor (r .capacity) es)) _ _ built e ∙ enough-builds
 
         pub built-made : {h n link : ℕ} → d ≡ Drawn.Head h → n ≡ r .free - k → link ≡ m .target .link
             → endingAs (Combined.Made h n link) (viewing r p q ls ps′) ≡ joinedWith (viewing r p q ls ps) x
@@ -89,7 +89,7 @@ module _ (r : Root) (p : Party) (q : ℕ) (ls ps : List ℕ) (x : Checked Pair) 
         built-made {h} e en el =
             let whole = built ∙ ap (λ (l : ℕ). builtChain r q ps l es) levels in
             ap₂ (λ (y z : ℕ). endingAs (Combined.Made h y z) (viewing r p q ls ps′)) (en ∙ ap (λ (y : ℕ). r .free - y) many) el
-            ∙ some-taken r p q ls ps m es joins (pagesTaken r ps (pagesFor (r .keys) es)) whole e
+            ∙ some-taken r p q ls ps m es joins (pagesTaken r ps (pagesFor (r .capacity) es)) whole e
             ∙ enough-builds
 
 -- ---- The step
@@ -112,7 +112,7 @@ ending-is q ls ps ps′ er ep ex goes e = (rw (er, ep, ex) at e) ∙ open-joins 
 
 -- The buffers have room for what was walked.
 pub can-join : (r : Root) (p : Party) (q n m : ℕ) (ps a b out : List ℕ) → CanMerge r p q ps → BothWalked r p n m ps
-    → mostKeys * (n + 1) ≤ length a → mostKeys * (m + 1) ≤ length b → length a + length b ≤ length out → length out < 2 ^ 32 → CanJoin r p n m ps a b out
+    → mostRecords * (n + 1) ≤ length a → mostRecords * (m + 1) ≤ length b → length a + length b ≤ length out → length out < 2 ^ 32 → CanJoin r p n m ps a b out
 can-join r p q n m ps a b out can walks target-room partner-room out-room few = record {
   target = record { can-walk = can .target; keys-fit = can .can-build .keys-fit; walked = walks .target-walked; has-room = target-room };
   partner = record { can-walk = can .partner; keys-fit = can .can-build .keys-fit; walked = walks .partner-walked; has-room = partner-room };
@@ -122,7 +122,7 @@ can-join r p q n m ps a b out can walks target-room partner-room out-room few = 
 
 pub ready-can-merge : (v : View) → Ready v → CanMerge (v .root) (v .party) (v .number) (v .pages)
 ready-can-merge v ready =
-    let fit : pageWords * (v .root .chains + v .root .overflow) ≤ length (v .pages) = omega (arith, ready .pages-fit) in
+    let fit : pageWords * (v .root .primaries + v .root .overflow) ≤ length (v .pages) = omega (arith, ready .pages-fit) in
     record {
       can-build = ready-can-build v ready;
       some-key = ready .some-key;

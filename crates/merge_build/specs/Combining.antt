@@ -11,14 +11,16 @@ use Rattle.model.specs.declared.Restructuring.the-variants as Restructuring
 use Rattle.model.specs.Records.{atStep, withOld, withFreeList}
 use Rattle.model.specs.Chains.{Checked, damaged}
 use Rattle.model.specs.Outcome.{View, Outcome, withRoot, withParty, refuse, damage, moved, checked}
-use Rattle.model.specs.Steps.Split.{endedWith}
-use Rattle.model.specs.Steps.Merge.{Pair, pairOf, mergeLocks, rootExclusive, combineWith}
+use Rattle.model.specs.Endings.{endedWith}
+use Rattle.model.specs.Steps.MergeBuild.{Pair, pairOf, combineWith}
+use Rattle.model.specs.Steps.MergeLocks.{mergeLocks}
+use Rattle.model.specs.LockRequests.{rootExclusive}
 use Rattle.chains.specs.Walks.{counted}
 use Rattle.chains.specs.declared.Walked.the-variants as Walked
 use Rattle.chain_keys.specs.Gathering.{overflowOf, CanWalk}
-use Rattle.chain_build.specs.Building.{CanBuild}
-use Rattle.chain_join.specs.declared.Joined.{Joined}
-use Rattle.chain_join.specs.Joining.{JoinedPair}
+use Rattle.merge_chain.specs.Building.{CanBuild}
+use Rattle.merge_join.specs.declared.Joined.{Joined}
+use Rattle.merge_join.specs.Joining.{JoinedPair}
 use Rattle.merge_build.specs.declared.Combined.{Combined}
 use Rattle.merge_build.specs.declared.Combined.the-variants as Combined
 
@@ -39,7 +41,7 @@ joinedBoth v = joinedWith v (pairOf (v .root) (v .pages) (v .party .chain) (v .p
 -- The sizes are within their limits, the keys joined stand in the buffer, and there is room for every overflow page.
 pub record CanCombine (r : Root) (q : ℕ) (j : Joined) (ps out taken : List ℕ) : Type 0 where
   pub can-build : CanBuild r q ps
-  pub some-key : 1 ≤ r .keys
+  pub some-key : 1 ≤ r .capacity
   pub fits : j .ok ≡ true → j .count ≤ length out
   pub few : length out < 2 ^ 32
   pub taken-room : 752 ≤ length taken
@@ -52,7 +54,7 @@ pub record JoinedFrom (x : Checked Pair) (j : Joined) (out : List ℕ) : Type 0 
 -- The sizes are within their limits, and target and partner are chains.
 pub record CanMerge (r : Root) (p : Party) (q : ℕ) (ps : List ℕ) : Type 0 where
   pub can-build : CanBuild r q ps
-  pub some-key : 1 ≤ r .keys
+  pub some-key : 1 ≤ r .capacity
   pub target : CanWalk r ps (p .chain)
   pub partner : CanWalk r ps (p .other)
 

@@ -8,22 +8,22 @@ ghost use lib.ListN.{length};
 ghost use Rattle.model.specs.declared.Party.{Party};
 ghost use Rattle.model.specs.Chains.{Checked};
 ghost use Rattle.model.specs.Ready.{viewing};
-ghost use Rattle.model.specs.Steps.Merge as Merge;
+ghost use Rattle.model.specs.Steps.MergeBuild as MergeBuild;
 ghost use Rattle.records.specs.Words.{recordWords, rootIn, seen, left, AtHand};
 ghost use Rattle.merge_build.specs.Combining.{endingAs, joinedWith, joinedBoth, CanCombine, CanMerge, BothWalked, JoinedFrom};
-use chain_join::Joined;
 use chains::Walked;
 use free_list::Drawn;
-use gates::MOST_CHAINS;
-use gates::MOST_KEYS;
-use gates::MOST_OVERFLOW;
+use merge_join::Joined;
 use model::ChainAddress;
+use model::DAMAGE;
+use model::MOST_OVERFLOW;
+use model::MOST_PRIMARIES;
+use model::MOST_RECORDS;
 use model::Mode;
 use model::Party;
 use model::Restructuring;
 use model::Root;
 use model::StepAnswer;
-use records::DAMAGE;
 use records::FREE;
 use records::HEAD;
 use records::OLD;
@@ -45,17 +45,17 @@ fn combine_with(
     taken: &mut [u32],
 ) -> Combined
     requires { ⌜ CanCombine root q j (now pages) (now out) (now taken) ⌝ }
-    ensures { λ r. ⌜ ((p : Party) (ls : List ℕ) (x : Checked Merge.Pair) → JoinedFrom x j (now (out .entry)) → endingAs r (viewing root p q ls (now (pages .exit))) ≡ joinedWith (viewing root p q ls (now (pages .entry))) x) ⌝ }
+    ensures { λ r. ⌜ ((p : Party) (ls : List ℕ) (x : Checked MergeBuild.Pair) → JoinedFrom x j (now (out .entry)) → endingAs r (viewing root p q ls (now (pages .exit))) ≡ joinedWith (viewing root p q ls (now (pages .entry))) x) ⌝ }
 {
     if !j.ok {
         return Combined::Damaged;
     }
     let total = j.count;
-    let k = page_fill::pages_for(root.keys, total);
+    let k = filling::pages_for(root.capacity, total);
     if (root.free as usize) < k {
         return Combined::Skipped;
     }
-    match chain_build::build_chain(root, q, j.level, &out[0..total], k, pages, taken) {
+    match merge_chain::build_chain(root, q, j.level, &out[0..total], k, pages, taken) {
         Drawn::Damaged => Combined::Damaged,
         Drawn::Head(head) => {
             let left = root.free - k as u32;
@@ -73,7 +73,7 @@ fn combine_few(root: Root, party: Party, q: u32, n: u32, m: u32, pages: &mut [u3
     let mut a = [0u32; 128];
     let mut b = [0u32; 128];
     let mut out = [0u32; 256];
-    let j = chain_join::join_chains(
+    let j = merge_join::join_chains(
         root,
         party,
         n,
@@ -98,7 +98,7 @@ fn combine_walked(root: Root, party: Party, q: u32, n: u32, m: u32, pages: &mut 
     let mut a = [0u32; 9040];
     let mut b = [0u32; 9040];
     let mut out = [0u32; 18080];
-    let j = chain_join::join_chains(
+    let j = merge_join::join_chains(
         root,
         party,
         n,
@@ -131,22 +131,22 @@ fn combine(root: Root, party: Party, q: u32, pages: &mut [u32]) -> Combined
     requires { ⌜ CanMerge root party q (now pages) ⌝ }
     ensures { λ r. ⌜ ((ls : List ℕ) → endingAs r (viewing root party q ls (now (pages .exit))) ≡ joinedBoth (viewing root party q ls (now (pages .entry)))) ⌝ }
 {
-    if MOST_CHAINS < root.chains {
+    if MOST_PRIMARIES < root.primaries {
         return Combined::Skipped;
     }
     if MOST_OVERFLOW < root.overflow {
         return Combined::Skipped;
     }
-    if MOST_KEYS < root.keys {
+    if MOST_RECORDS < root.capacity {
         return Combined::Skipped;
     }
     if root.overflow < root.free {
         return Combined::Skipped;
     }
-    if root.chains <= party.chain {
+    if root.primaries <= party.chain {
         return Combined::Skipped;
     }
-    if root.chains <= party.other {
+    if root.primaries <= party.other {
         return Combined::Skipped;
     }
     combine_both(root, party, q, pages)
@@ -162,10 +162,10 @@ pub fn step_26(
     pages: &mut [u32],
 ) -> StepAnswer
     requires { ⌜ (length (now root) ≡ recordWords) × AtHand (rootIn (now root)) (now party) q (now locks) (now pages) ⌝ }
-    ensures { λ a. ⌜ left a (rootIn (now (root .exit))) (now (party .exit)) q (now (locks .exit)) (now (pages .exit)) ≡ Merge.step26 (seen (rootIn (now (root .entry))) (now (party .entry)) q (now (locks .entry)) (now (pages .entry))) ⌝ }
+    ensures { λ a. ⌜ left a (rootIn (now (root .exit))) (now (party .exit)) q (now (locks .exit)) (now (pages .exit)) ≡ MergeBuild.step26 (seen (rootIn (now (root .entry))) (now (party .entry)) q (now (locks .entry)) (now (pages .entry))) ⌝ }
 {
     let r = records::root_of(&root[..]);
-    if addressing::merge_barred(r) {
+    if addresses::merge_barred(r) {
         return StepAnswer::Refused(DAMAGE);
     }
     let p = records::party_of(&party[..]);

@@ -13,16 +13,17 @@ use Rattle.model.specs.declared.Restructuring.the-variants as Restructuring
 use Rattle.model.specs.Records.{atStep, withChain, withOther}
 use Rattle.model.specs.LockWords.{claim, chainWord}
 use Rattle.model.specs.Addresses.{mergePartner}
-use Rattle.model.specs.Outcome.{View, Outcome, request}
+use Rattle.model.specs.Outcome.{View, Outcome}
+use Rattle.model.specs.LockRequests.{request, rootExclusive}
 use Rattle.model.specs.Ready.{Ready}
-use Rattle.model.specs.Steps.Split.{endedWith}
-use Rattle.model.specs.Steps.Merge.{rootExclusive, targetOf, mergeStops, merging, step24, step25}
+use Rattle.model.specs.Endings.{endedWith}
+use Rattle.model.specs.Steps.MergeLocks.{targetOf, mergeStops, merging, step24, step25}
 use Rattle.model.proofs.Laws.Retreat.{target-before}
 use Rattle.records.specs.Words.{recordWords, partyIn}
 use Rattle.records.proofs.Words.{chain-written, other-written}
 
 -- The target is one of the chains there are.
-pub target-is-chain : (v : View) → Ready v → mergeStops (v .root) ≡ false → targetOf (v .root) < v .root .chains
+pub target-is-chain : (v : View) → Ready v → mergeStops (v .root) ≡ false → targetOf (v .root) < v .root .primaries
 unfolding mergePartner
 target-is-chain v ready goes =
     let r = v .root in

@@ -5,7 +5,7 @@ ghost use mathlib.Core.Path.{_≡_};
 ghost use mathlib.Core.List.{List};
 ghost use Prim.Native.Nat.{ℕ};
 ghost use Rattle.model.specs.declared.Root.{Root};
-ghost use Rattle.model.specs.Steps.Merge as Merge;
+ghost use Rattle.model.specs.Steps.MergeLocks as MergeLocks;
 ghost use Rattle.records.specs.Words.{seen, left, AtHand};
 ghost use Rattle.lock_requests.specs.Words.{CanLock};
 use lock_requests::ROOT_WORD;
@@ -20,7 +20,7 @@ use records::OTHER;
 // "23 request exclusive on root."
 pub fn step_23(party: &mut [u32], q: u32, locks: &mut [u32]) -> StepAnswer
     requires { ⌜ CanLock (now party) q (now locks) ⌝ }
-    ensures { λ a. ⌜ ((r : Root) (ps : List ℕ) → left a r (now (party .exit)) q (now (locks .exit)) ps ≡ Merge.step23 (seen r (now (party .entry)) q (now (locks .entry)) ps)) ⌝ }
+    ensures { λ a. ⌜ ((r : Root) (ps : List ℕ) → left a r (now (party .exit)) q (now (locks .exit)) ps ≡ MergeLocks.step23 (seen r (now (party .entry)) q (now (locks .entry)) ps)) ⌝ }
 {
     let mode = Mode::Exclusive;
     lock_requests::request_step(party, q, locks, ROOT_WORD, mode, 24)
@@ -35,14 +35,14 @@ pub fn step_24(
     pages: &mut [u32],
 ) -> StepAnswer
     requires { ⌜ AtHand root (now party) q (now locks) (now pages) ⌝ }
-    ensures { λ a. ⌜ left a root (now (party .exit)) q (now (locks .exit)) (now (pages .exit)) ≡ Merge.step24 (seen root (now (party .entry)) q (now (locks .entry)) (now (pages .entry))) ⌝ }
+    ensures { λ a. ⌜ left a root (now (party .exit)) q (now (locks .exit)) (now (pages .exit)) ≡ MergeLocks.step24 (seen root (now (party .entry)) q (now (locks .entry)) (now (pages .entry))) ⌝ }
 {
-    if addressing::merge_barred(root) {
+    if addresses::merge_barred(root) {
         let made = Restructuring::MergeSkipped;
         return last_locks::ended_with_root(root, party, q, locks, pages, Mode::Exclusive, made);
     }
-    let target = addressing::merge_target(root);
-    let partner = addressing::merge_partner(root);
+    let target = addresses::merge_target(root);
+    let partner = addresses::merge_partner(root);
     let word = lock_requests::chain_word(target) as usize;
     if !lock_words::request(locks, word, q, Mode::Exclusive) {
         return StepAnswer::Waiting;
@@ -56,7 +56,7 @@ pub fn step_24(
 // "25 on the partner."
 pub fn step_25(party: &mut [u32], q: u32, locks: &mut [u32]) -> StepAnswer
     requires { ⌜ CanLock (now party) q (now locks) ⌝ }
-    ensures { λ a. ⌜ ((r : Root) (ps : List ℕ) → left a r (now (party .exit)) q (now (locks .exit)) ps ≡ Merge.step25 (seen r (now (party .entry)) q (now (locks .entry)) ps)) ⌝ }
+    ensures { λ a. ⌜ ((r : Root) (ps : List ℕ) → left a r (now (party .exit)) q (now (locks .exit)) ps ≡ MergeLocks.step25 (seen r (now (party .entry)) q (now (locks .entry)) ps)) ⌝ }
 {
     let word = lock_requests::chain_word(ChainAddress(party[OTHER]));
     lock_requests::request_step(party, q, locks, word, Mode::Exclusive, 26)
@@ -71,7 +71,7 @@ pub fn step_30(
     pages: &mut [u32],
 ) -> StepAnswer
     requires { ⌜ AtHand root (now party) q (now locks) (now pages) ⌝ }
-    ensures { λ a. ⌜ left a root (now (party .exit)) q (now (locks .exit)) (now (pages .exit)) ≡ Merge.step30 (seen root (now (party .entry)) q (now (locks .entry)) (now (pages .entry))) ⌝ }
+    ensures { λ a. ⌜ left a root (now (party .exit)) q (now (locks .exit)) (now (pages .exit)) ≡ MergeLocks.step30 (seen root (now (party .entry)) q (now (locks .entry)) (now (pages .entry))) ⌝ }
 {
     let made = Restructuring::Merged;
     last_locks::ended_with_merge(root, party, q, locks, pages, Mode::Selective, made)

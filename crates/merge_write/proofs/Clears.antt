@@ -15,8 +15,8 @@ use Rattle.model.specs.Pages.{pageOf, withPage, linkOf, linkSound, pageSound, z
 use Rattle.model.specs.Chains.{Checked, damaged, sound, soundIf, andThen, listFrom}
 use Rattle.model.specs.Outcome.{View, Outcome, refuse, damage, checked, moved}
 use Rattle.model.specs.Ready.{viewing}
-use Rattle.model.specs.Steps.Change.{roomToGiveBack, pagesGivenBack}
-use Rattle.model.specs.Steps.Merge.{mergedAway, partnerCleared, step29}
+use Rattle.model.specs.FreeList.{roomToGiveBack, pagesGivenBack}
+use Rattle.model.specs.Steps.MergeWrite.{mergedAway, partnerCleared, step29}
 use Rattle.records.specs.Words.{recordWords, rootIn}
 use Rattle.records.proofs.Words.{free-list-written}
 use Rattle.chains.specs.Walks.{counted}

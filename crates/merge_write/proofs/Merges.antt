@@ -14,8 +14,11 @@ use Rattle.model.specs.Records.{atStep, withNext, withLevel}
 use Rattle.model.specs.LockWords.{rootWord, holds, turnedSelective}
 use Rattle.model.specs.Addresses.{mergeLevel}
 use Rattle.model.specs.Pages.{levelOf, withPage, withLocalLevel, pageSound}
-use Rattle.model.specs.Outcome.{View, withRoot, withParty, withLocks, withPages, scratchOf, refuse, damage, moved, isHeld}
-use Rattle.model.specs.Steps.Merge.{mergeStops, rootMovedBack, step27, step28}
+use Rattle.model.specs.Outcome.{View, withRoot, withParty, withLocks, withPages, refuse, damage, moved}
+use Rattle.model.specs.ScratchPages.{scratchOf}
+use Rattle.model.specs.LockRequests.{isHeld}
+use Rattle.model.specs.Steps.MergeLocks.{mergeStops}
+use Rattle.model.specs.Steps.MergeWrite.{rootMovedBack, step27, step28}
 use Rattle.records.specs.Words.{recordWords, rootIn}
 use Rattle.records.proofs.Words.{level-written, next-written}
 

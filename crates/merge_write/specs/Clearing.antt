@@ -11,16 +11,16 @@ use Rattle.model.specs.Sizes.{pageWords}
 use Rattle.model.specs.Pages.{linkSound}
 use Rattle.model.specs.Chains.{andThen, soundIf, listFrom}
 use Rattle.model.specs.Outcome.{View, Outcome, checked}
-use Rattle.model.specs.Steps.Change.{roomToGiveBack}
-use Rattle.model.specs.Steps.Merge.{partnerCleared}
+use Rattle.model.specs.FreeList.{roomToGiveBack}
+use Rattle.model.specs.Steps.MergeWrite.{partnerCleared}
 
 -- The sizes are within their limits, the page memory has all primary and overflow pages, and the partner is one of the chains; the old link is sound.
 pub record CanClear (r : Root) (p : Party) (ps : List ℕ) : Type 0 where
-  pub chains-fit : r .chains ≤ 256
+  pub chains-fit : r .primaries ≤ 256
   pub overflow-fits : r .overflow ≤ 752
   pub free-fits : r .free ≤ r .overflow
-  pub pages-fit : pageWords * (r .chains + r .overflow) ≤ length ps
-  pub partner-fits : p .other < r .chains
+  pub pages-fit : pageWords * (r .primaries + r .overflow) ≤ length ps
+  pub partner-fits : p .other < r .primaries
   pub links : linkSound r (p .old) ≡ true
 
 -- Both lists, one after the other, are given back where the free count has room for them.

@@ -8,7 +8,7 @@ ghost use Prim.Native.Nat.{ℕ, _-_, _≤_};
 ghost use lib.ListN.{length};
 ghost use Rattle.model.specs.Pages.{levelOf, linkSound, withLocalLevel};
 ghost use Rattle.model.specs.Chains.{listFrom};
-ghost use Rattle.model.specs.Steps.Merge as Merge;
+ghost use Rattle.model.specs.Steps.MergeWrite as MergeWrite;
 ghost use Rattle.records.specs.Words.{recordWords, rootIn, partyIn, seen, left, AtHand};
 ghost use Rattle.chains.specs.Walks.{counted};
 ghost use Rattle.chains.specs.declared.Walked.the-variants as Walked;
@@ -16,12 +16,14 @@ ghost use Rattle.free_list.specs.Giving.{listed};
 ghost use Rattle.merge_write.specs.Clearing.{CanClear, roomyCleared, bothCleared};
 use chains::Walked;
 use lock_requests::ROOT_WORD;
+use model::DAMAGE;
 use model::Mode;
+use model::PAGE_WORDS;
+use model::Page;
 use model::PageAddress;
 use model::Root;
 use model::StepAnswer;
 use records::CHAIN;
-use records::DAMAGE;
 use records::FREE;
 use records::HEAD;
 use records::LEVEL;
@@ -39,10 +41,10 @@ pub fn step_27(
     pages: &mut [u32],
 ) -> StepAnswer
     requires { ⌜ (length (now root) ≡ recordWords) × AtHand (rootIn (now root)) (now party) q (now locks) (now pages) ⌝ }
-    ensures { λ a. ⌜ left a (rootIn (now (root .exit))) (now (party .exit)) q (now (locks .exit)) (now (pages .exit)) ≡ Merge.step27 (seen (rootIn (now (root .entry))) (now (party .entry)) q (now (locks .entry)) (now (pages .entry))) ⌝ }
+    ensures { λ a. ⌜ left a (rootIn (now (root .exit))) (now (party .exit)) q (now (locks .exit)) (now (pages .exit)) ≡ MergeWrite.step27 (seen (rootIn (now (root .entry))) (now (party .entry)) q (now (locks .entry)) (now (pages .entry))) ⌝ }
 {
     let r = records::root_of(&root[..]);
-    if addressing::merge_barred(r) {
+    if addresses::merge_barred(r) {
         return StepAnswer::Refused(DAMAGE);
     }
     let word = locks[ROOT_WORD as usize];
@@ -50,14 +52,14 @@ pub fn step_27(
         return StepAnswer::Refused(DAMAGE);
     }
     locks[ROOT_WORD as usize] = lock_words::turned_selective(word, q);
-    root[LEVEL] = addressing::merge_level(r);
+    root[LEVEL] = addresses::merge_level(r);
     root[NEXT] = party[CHAIN];
     records::at_step(party, 28);
     StepAnswer::Moved
 }
 
 // The page with its "local level lowered by one".
-fn lowered(w: [u32; 16]) -> [u32; 16]
+fn lowered(w: Page) -> Page
     requires { ⌜ 1 ≤ levelOf w ⌝ }
     ensures { λ r. ⌜ r ≡ withLocalLevel (levelOf w - 1) w ⌝ }
 {
@@ -75,7 +77,7 @@ pub fn step_28(
     pages: &mut [u32],
 ) -> StepAnswer
     requires { ⌜ AtHand root (now party) q (now locks) (now pages) ⌝ }
-    ensures { λ a. ⌜ left a root (now (party .exit)) q (now (locks .exit)) (now (pages .exit)) ≡ Merge.step28 (seen root (now (party .entry)) q (now (locks .entry)) (now (pages .entry))) ⌝ }
+    ensures { λ a. ⌜ left a root (now (party .exit)) q (now (locks .exit)) (now (pages .exit)) ≡ MergeWrite.step28 (seen root (now (party .entry)) q (now (locks .entry)) (now (pages .entry))) ⌝ }
 {
     let scratch = scratch_pages::scratch_of(root, q, &pages[..]);
     if !chains::page_sound(root, scratch) {
@@ -84,7 +86,7 @@ pub fn step_28(
     if chains::level_of(scratch) == 0 {
         return StepAnswer::Refused(DAMAGE);
     }
-    page_io::store(pages, PageAddress(party[CHAIN]), lowered(scratch));
+    pages::store(pages, PageAddress(party[CHAIN]), lowered(scratch));
     records::at_step(party, 29);
     StepAnswer::Moved
 }
@@ -106,8 +108,8 @@ fn lists_given_back(
     if r.overflow - r.free < n + m {
         return StepAnswer::Refused(DAMAGE);
     }
-    let after = page_lists::give_back_both(r, party[OLD], n, second, m, pages);
-    page_io::store(pages, PageAddress(party[OTHER]), [0; 16]);
+    let after = merge_lists::give_back_both(r, party[OLD], n, second, m, pages);
+    pages::store(pages, PageAddress(party[OTHER]), [0; PAGE_WORDS]);
     root[HEAD] = after.head;
     root[FREE] = after.free;
     records::at_step(party, 30);
@@ -138,10 +140,10 @@ pub fn step_29(
     pages: &mut [u32],
 ) -> StepAnswer
     requires { ⌜ (length (now root) ≡ recordWords) × AtHand (rootIn (now root)) (now party) q (now locks) (now pages) ⌝ }
-    ensures { λ a. ⌜ left a (rootIn (now (root .exit))) (now (party .exit)) q (now (locks .exit)) (now (pages .exit)) ≡ Merge.step29 (seen (rootIn (now (root .entry))) (now (party .entry)) q (now (locks .entry)) (now (pages .entry))) ⌝ }
+    ensures { λ a. ⌜ left a (rootIn (now (root .exit))) (now (party .exit)) q (now (locks .exit)) (now (pages .exit)) ≡ MergeWrite.step29 (seen (rootIn (now (root .entry))) (now (party .entry)) q (now (locks .entry)) (now (pages .entry))) ⌝ }
 {
     let r = records::root_of(&root[..]);
-    let partner = page_io::load(&pages[..], PageAddress(party[OTHER]));
+    let partner = pages::load(&pages[..], PageAddress(party[OTHER]));
     if !chains::link_sound(r, party[OLD]) {
         return StepAnswer::Refused(DAMAGE);
     }

@@ -8,6 +8,7 @@ pub mod Operations
 pub mod Moves
 pub mod Requests
 pub mod Releases
+pub mod Locating
 pub mod GiveUps
 pub mod Done
 pub mod RootGrants

@@ -2,7 +2,8 @@
 -- Main definitions: hash (h_i), addressOf, chainCount (n); splitNext, splitLevel; mergeTarget, mergePartner, mergeLevel; splitBarred, mergeBarred.
 use mathlib.Core.Bool.{Bool, cond}
 use Prim.Native.Nat.{ℕ, _+_, _-_, _*_, _%_, _^_}
-use lib.Dec.{ltb, eqb}
+use lib.Dec.{eqb, ltb}
+use Rattle.model.specs.declared.Root.{Root}
 
 -- The number whose remainder is a key's address: the key itself.
 unfoldable pub hashed : ℕ → ℕ
@@ -26,6 +27,10 @@ addressOf n level next k = hash n (addressLevel n level next k) k
 -- "n is N × 2^level + next, the number of chains outside a restructuring."
 unfoldable pub chainCount : ℕ → ℕ → ℕ → ℕ
 chainCount n level next = span n level + next
+
+-- n of a root record.
+abbrev pub countOfChains : Root → ℕ
+countOfChains r = chainCount (r .originals) (r .level) (r .next)
 
 -- Steps 20 and 21: next after a split, and level once next is that.
 unfoldable pub splitNext : ℕ → ℕ → ℕ → ℕ

@@ -1,8 +1,12 @@
--- Document 01's numbers and words for the cases of the answer enums, of operations and of restructurings.
--- Main definitions: operationNumber, answerNumber and answerOf (a party's answer so far), refusalNumber, restructuringOf (from what is owed).
-use mathlib.Core.Bool.{cond}
+-- Document 01's numbers and words for the cases of the answer enums, of operations and of restructurings; what an answer to a step says.
+-- Main definitions: operationNumber, answerNumber and answerOf (a party's answer so far), refusalNumber, restructuringOf (from what is owed); isMoved, performs.
+use mathlib.Core.Bool.{Bool, true, false, cond}
 use Prim.Native.Nat.{ℕ}
 use lib.Dec.{eqb}
+use Rattle.model.specs.declared.BeginAnswer.{BeginAnswer}
+use Rattle.model.specs.declared.BeginAnswer.the-variants as BeginAnswer
+use Rattle.model.specs.declared.FormatAnswer.{FormatAnswer}
+use Rattle.model.specs.declared.FormatAnswer.the-variants as FormatAnswer
 use Rattle.model.specs.declared.Operation.{Operation}
 use Rattle.model.specs.declared.Operation.the-variants as Operation
 use Rattle.model.specs.declared.OperationAnswer.{OperationAnswer}
@@ -11,16 +15,13 @@ use Rattle.model.specs.declared.Restructuring.{Restructuring}
 use Rattle.model.specs.declared.Restructuring.the-variants as Restructuring
 use Rattle.model.specs.declared.StepAnswer.{StepAnswer}
 use Rattle.model.specs.declared.StepAnswer.the-variants as StepAnswer
-use Rattle.model.specs.declared.BeginAnswer.{BeginAnswer}
-use Rattle.model.specs.declared.BeginAnswer.the-variants as BeginAnswer
-use Rattle.model.specs.declared.FormatAnswer.{FormatAnswer}
-use Rattle.model.specs.declared.FormatAnswer.the-variants as FormatAnswer
+use Rattle.model.specs.Records.{findOperation, insertOperation, deleteOperation, splitMade}
 
 -- "operation (0 idle, 1 find, 2 insert, 3 delete)".
 unfoldable pub operationNumber : Operation → ℕ
-operationNumber Operation.Find = 1
-operationNumber Operation.Insert = 2
-operationNumber Operation.Delete = 3
+operationNumber Operation.Find = findOperation
+operationNumber Operation.Insert = insertOperation
+operationNumber Operation.Delete = deleteOperation
 
 -- "answer so far (0 none, 1 inserted, 2 present, 3 deleted, 4 absent, 5 no page)". Found stands in no record; it is numbered after them.
 unfoldable pub answerNumber : OperationAnswer → ℕ
@@ -49,7 +50,7 @@ restructuringNumber Restructuring.MergeSkipped = 4
 
 -- "Done at 12, 14 or 22 reports split where owed is 3, else none."
 unfoldable pub restructuringOf : ℕ → Restructuring
-restructuringOf owed = cond (eqb owed 3) Restructuring.Split Restructuring.None
+restructuringOf owed = cond (eqb owed splitMade) Restructuring.Split Restructuring.None
 
 -- The number that a refused call returns; 0 where the call was not refused.
 unfoldable pub refusalNumber : StepAnswer → ℕ
@@ -65,3 +66,19 @@ beginRefusal (BeginAnswer.Refused n) = n
 unfoldable pub formatRefusal : FormatAnswer → ℕ
 formatRefusal FormatAnswer.Formatted = 0
 formatRefusal (FormatAnswer.Refused n) = n
+
+-- ---- What an answer to a step says
+
+-- Whether an answer is moved.
+unfoldable pub isMoved : StepAnswer → Bool
+isMoved StepAnswer.Waiting = false
+isMoved StepAnswer.Moved = true
+isMoved (StepAnswer.Done a s) = false
+isMoved (StepAnswer.Refused n) = false
+
+-- Whether a call performed a step: it moved or was done.
+unfoldable pub performs : StepAnswer → Bool
+performs StepAnswer.Waiting = false
+performs StepAnswer.Moved = true
+performs (StepAnswer.Done a s) = true
+performs (StepAnswer.Refused n) = false

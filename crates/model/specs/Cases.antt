@@ -7,8 +7,9 @@ use Rattle.model.specs.Records.{rootOfSizes, withLevel, withNext, idle}
 use Rattle.model.specs.Addresses.{addressOf}
 use Rattle.model.specs.Filling.{overflowNeeded}
 use Rattle.model.specs.Outcome.{View}
-use Rattle.model.specs.Steps.Split.{step20, step21}
-use Rattle.model.specs.Steps.Merge.{step23, step24, step27}
+use Rattle.model.specs.Steps.SplitWrite.{step20, step21}
+use Rattle.model.specs.Steps.MergeLocks.{step23, step24}
+use Rattle.model.specs.Steps.MergeWrite.{step27}
 
 -- A file with N, level and next, eight chains at most, as its one party sees it: no lock held. No page is read here.
 abbrev pub fileAt : ℕ → ℕ → ℕ → View

@@ -16,7 +16,7 @@ use Rattle.model.specs.Addresses.{span, hash, chainCount}
 use Rattle.model.specs.Entries.{hasKey}
 use Rattle.model.specs.Pages.{pageOf, entriesOf, primaryPage, scratchPage}
 use Rattle.model.specs.Chains.{sound, Chain, chainOf, listFrom, entriesOn}
-use Rattle.model.specs.Steps.Locate.{modeOf}
+use Rattle.model.specs.LockRequests.{modeOf}
 use Rattle.model.specs.Memory.{Memory, partyAt}
 use Rattle.model.specs.Calls.{stepCall}
 use Rattle.model.specs.Book.{Book, Entered, isIn}

@@ -21,15 +21,15 @@ use Rattle.model.specs.Sequential.{fileOf, performedOn, runAlone}
 -- Sizes N b P V Q within their limits.
 pub record Sizes : Type 0 where
   pub originals : ℕ
-  pub keys : ℕ
-  pub chains : ℕ
+  pub capacity : ℕ
+  pub primaries : ℕ
   pub overflow : ℕ
   pub parties : ℕ
-  pub fit : withinLimits (rootOfSizes originals keys chains overflow parties) ≡ true
+  pub fit : withinLimits (rootOfSizes originals capacity primaries overflow parties) ≡ true
 
 -- The memory that format leaves.
 abbrev pub start : Sizes → Memory
-start s = formatted (rootOfSizes (s .originals) (s .keys) (s .chains) (s .overflow) (s .parties))
+start s = formatted (rootOfSizes (s .originals) (s .capacity) (s .primaries) (s .overflow) (s .parties))
 
 -- The memory after a list of calls from formatted memory.
 abbrev pub Reached : Sizes → List Call → Memory

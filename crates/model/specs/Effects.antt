@@ -15,16 +15,15 @@ use Rattle.model.specs.declared.Restructuring.{Restructuring}
 use Rattle.model.specs.declared.StepAnswer.the-variants as StepAnswer
 use Rattle.model.specs.declared.BeginAnswer.the-variants as BeginAnswer
 use Rattle.model.specs.Records.{begun}
-use Rattle.model.specs.Answers.{operationNumber}
+use Rattle.model.specs.Answers.{operationNumber, performs}
 use Rattle.model.specs.LockWords.{Claim}
 use Rattle.model.specs.Pages.{pageOf, linkOf, scratchPage}
-use Rattle.model.specs.Outcome.{isGranted}
+use Rattle.model.specs.LockRequests.{isGranted}
 use Rattle.model.specs.Steps.Dispatch.{wants}
 use Rattle.model.specs.Memory.{Memory, partyAt, viewOf}
 use Rattle.model.specs.Calls.{withBegun, beginCall, stepCall}
 use Rattle.model.specs.Runs.{Call, beginFor, stepFor, toBegin, toStep, Event, eventOf, events}
 use Rattle.model.specs.Book.{Book, noteFor, bookAfter, isNoteOf, agrees}
-use Rattle.model.specs.Links.{performs}
 
 -- ---- A call of step
 

@@ -1,12 +1,15 @@
 -- The free list (document 01: "Pages are taken from the head; a page given back becomes the head").
--- Main definitions: tooFew, Taken and takenFrom (pages taken, with the tests of damage); GivenBack and givenBack (pages given back, in order).
-use mathlib.Core.Bool.{Bool, false, cond, not, _&&_, _||_}
+-- Main definitions: tooFew, Taken and takenFrom (pages taken, with the tests of damage), rootAfterTaking; GivenBack and givenBack (pages given back, in order), pagesGivenBack.
+use mathlib.Core.Bool.{Bool, false, cond, _&&_, not, _||_}
 use mathlib.Core.List.{List, [], _∷_}
-use Prim.Native.Nat.{ℕ, zero, suc}
-use lib.Dec.{ltb, eqb}
+use Prim.Native.Nat.{ℕ, _+_, _-_, zero, suc}
+use lib.Dec.{eqb, ltb, leb}
+use lib.ListN.{length}
 use Rattle.model.specs.declared.Root.{Root}
+use Rattle.model.specs.Records.{withFreeList}
 use Rattle.model.specs.Pages.{pageOf, withPage, linkOf, freePage, namesOverflow, linkedPage, linkTo}
 use Rattle.model.specs.Chains.{Checked, damaged, sound, andThen}
+use Rattle.model.specs.Outcome.{View, withRoot, withPages}
 
 -- Whether fewer pages are free than wanted: the free count alone decides.
 unfoldable pub tooFew : Root → ℕ → Bool
@@ -37,6 +40,10 @@ takenFrom r ps (suc k) l before =
 unfoldable pub pagesTaken : Root → List ℕ → ℕ → Checked Taken
 pagesTaken r ps k = takenFrom r ps k (r .head) []
 
+-- The root with k pages less in the free list.
+unfoldable pub rootAfterTaking : Taken → ℕ → Root → Root
+rootAfterTaking t k r = withFreeList (t .head) (r .free - k) r
+
 -- The page memory and the head after a give-back.
 pub record GivenBack : Type 0 where
   pub pages : List ℕ
@@ -46,3 +53,13 @@ pub record GivenBack : Type 0 where
 unfoldable pub givenBack : List ℕ → ℕ → List ℕ → GivenBack
 givenBack ps head [] = record { pages = ps; head = head }
 givenBack ps head (x ∷ xs) = givenBack (withPage ps x (freePage head)) (linkTo x) xs
+
+-- Whether giving back n pages keeps the free count within V.
+unfoldable pub roomToGiveBack : Root → ℕ → Bool
+roomToGiveBack r n = leb (r .free + n) (r .overflow)
+
+-- The memory with the pages xs given back.
+unfoldable pub pagesGivenBack : List ℕ → View → View
+pagesGivenBack xs v =
+    let g = givenBack (v .pages) (v .root .head) xs in
+    withRoot (withFreeList (g .head) (v .root .free + length xs) (v .root)) (withPages (g .pages) v)

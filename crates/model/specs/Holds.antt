@@ -14,11 +14,9 @@ use Rattle.model.specs.LockWords.{Claim}
 use Rattle.model.specs.Memory.{Memory, partyAt}
 use Rattle.model.specs.Calls.{stepCall}
 use Rattle.model.specs.Runs.{Call, beginFor, stepFor, afterCall}
-use Rattle.model.specs.Links.{isMoved}
-use Rattle.model.specs.Steps.Locate.{rootRead, chainLock, otherLock}
-use Rattle.model.specs.Steps.Change.{chainSelective, chainExclusive}
-use Rattle.model.specs.Steps.Split.{rootSelective}
-use Rattle.model.specs.Steps.Merge.{rootExclusive, mergeLocks}
+use Rattle.model.specs.Answers.{isMoved}
+use Rattle.model.specs.LockRequests.{rootRead, chainLock, otherLock, chainSelective, chainExclusive, rootSelective, rootExclusive}
+use Rattle.model.specs.Steps.MergeLocks.{mergeLocks}
 use Rattle.model.specs.Steps.Dispatch.{wants}
 
 -- Table I: a request (first) beside a lock held (second): true to grant, false to wait.

@@ -8,8 +8,11 @@ pub mod Entries
 pub mod Pages
 pub mod Chains
 pub mod Filling
-pub mod FreeList
 pub mod Outcome
+pub mod FreeList
+pub mod LockRequests
+pub mod ScratchPages
+pub mod Endings
 pub mod Steps
 pub mod Memory
 pub mod Refusals

@@ -7,10 +7,12 @@ use Prim.Native.Nat.{ℕ, _+_}
 use lib.Dec.{ltb, eqb}
 use Rattle.model.specs.declared.StepAnswer.{StepAnswer}
 use Rattle.model.specs.declared.StepAnswer.the-variants as StepAnswer
+use Rattle.model.specs.Answers.{isMoved, performs}
 use Rattle.model.specs.Pages.{pageOf, linkOf, primaryPage, linkedPage}
 use Rattle.model.specs.Chains.{Checked, damaged, sound, Chain, chainOf, listFrom}
 use Rattle.model.specs.FreeList.{isAmong}
-use Rattle.model.specs.Outcome.{View, scratchOf}
+use Rattle.model.specs.Outcome.{View}
+use Rattle.model.specs.ScratchPages.{scratchOf}
 use Rattle.model.specs.Memory.{Memory, partyAt, viewOf}
 use Rattle.model.specs.Calls.{stepCall}
 use Rattle.model.specs.Runs.{Call, beginFor, stepFor, afterCall}
@@ -61,13 +63,6 @@ unfoldable pub walkedFrom : ℕ → ℕ → List ℕ → List Follow
 walkedFrom s t [] = []
 walkedFrom s t (x ∷ xs) = follow s x ∷ readNow t xs
 
--- Whether an answer is moved.
-unfoldable pub isMoved : StepAnswer → Bool
-isMoved StepAnswer.Waiting = false
-isMoved StepAnswer.Moved = true
-isMoved (StepAnswer.Done a s) = false
-isMoved (StepAnswer.Refused n) = false
-
 -- 9: a move follows the scratch page's link and reads the next one into scratch.
 unfoldable pub traceNine : View → ℕ → StepAnswer → Trace
 traceNine v s a = cond (isMoved a) (trace (follow s (linkedPage (linkOf (scratchOf v))) ∷ []) true false []) noTrace
@@ -113,13 +108,6 @@ pub record Clock : Type 0 where
 
 unfoldable pub clockStart : Clock
 clockStart = record { calls = 0; scratchRead = λ q. 0; oldRead = λ q. 0; givenAt = λ x. 0 }
-
--- Whether a call performed a step: it moved or was done.
-unfoldable pub performs : StepAnswer → Bool
-performs StepAnswer.Waiting = false
-performs StepAnswer.Moved = true
-performs (StepAnswer.Done a s) = true
-performs (StepAnswer.Refused n) = false
 
 -- What call number t does with links.
 unfoldable pub traceOfStep : Clock → Memory → ℕ → Trace

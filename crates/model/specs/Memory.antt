@@ -40,10 +40,10 @@ freePages x (suc n) = freePage (cond (eqb n 0) 0 (linkTo (x + 1))) ++ freePages 
 
 -- "Format makes N empty chains of level 0, lists overflow pages ascending and zeroes the rest."
 unfoldable pub formattedRoot : Root → Root
-formattedRoot r = withFreeList (cond (eqb (r .overflow) 0) 0 (linkTo (r .chains))) (r .overflow) r
+formattedRoot r = withFreeList (cond (eqb (r .overflow) 0) 0 (linkTo (r .primaries))) (r .overflow) r
 
 unfoldable pub formattedPages : Root → List ℕ
-formattedPages r = replicate (pageWords * r .chains) 0 ++ (freePages (r .chains) (r .overflow) ++ replicate (pageWords * r .parties) 0)
+formattedPages r = replicate (pageWords * r .primaries) 0 ++ (freePages (r .primaries) (r .overflow) ++ replicate (pageWords * r .parties) 0)
 
 unfoldable pub formatted : Root → Memory
 formatted r = record {

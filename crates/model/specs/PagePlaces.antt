@@ -11,7 +11,7 @@ use Rattle.model.specs.Sizes.{within}
 use Rattle.model.specs.Pages.{pageOf, linkOf, primaryPage}
 use Rattle.model.specs.Chains.{Checked, damaged, sound, chainOf, listFrom}
 use Rattle.model.specs.FreeList.{Taken, pagesTaken}
-use Rattle.model.specs.Steps.Change.{isChange}
+use Rattle.model.specs.Steps.Write.{isChange}
 use Rattle.model.specs.Memory.{Memory, partyAt}
 use Rattle.model.specs.Links.{pagesIn, pagesListed}
 use Rattle.model.specs.Effects.{scratchLink}
@@ -66,5 +66,5 @@ placesOf m n = freeList m ++ (chainedFrom m n 0 ++ inHands m (m .root .parties) 
 
 -- No overflow page is lost: each is free, chained, built or about to be given back, in exactly one place. No other page is in any.
 pub record PagesPlaced (m : Memory) (n : ℕ) : Type 0 where
-  pub once : (x : ℕ) → m .root .chains ≤ x → x < m .root .chains + m .root .overflow → count x (placesOf m n) ≡ 1
-  pub inside : (x : ℕ) → count x (placesOf m n) ≢ 0 → (m .root .chains ≤ x) × (x < m .root .chains + m .root .overflow)
+  pub once : (x : ℕ) → m .root .primaries ≤ x → x < m .root .primaries + m .root .overflow → count x (placesOf m n) ≡ 1
+  pub inside : (x : ℕ) → count x (placesOf m n) ≢ 0 → (m .root .primaries ≤ x) × (x < m .root .primaries + m .root .overflow)

@@ -6,7 +6,7 @@ use Prim.Native.Nat.{ℕ, _+_, _-_, _*_}
 use lib.ListN.{length, getD, take, drop, replicate}
 use lib.Dec.{ltb, leb, eqb}
 use Rattle.model.specs.declared.Root.{Root}
-use Rattle.model.specs.Sizes.{pageWords, mostKeys}
+use Rattle.model.specs.Sizes.{pageWords, mostRecords}
 use Rattle.model.specs.Entries.{Entry}
 
 -- The sixteen words of page p.
@@ -33,7 +33,7 @@ entriesOf w = take (countOf w) (drop 3 w)
 
 -- A page made of a local level, a run of records and a link; "word 15 zero. Unused key words are zero."
 unfoldable pub filledPage : ℕ → List Entry → ℕ → List ℕ
-filledPage level es link = level ∷ (length es ∷ (link ∷ (es ++ replicate (mostKeys + 1 - length es) 0)))
+filledPage level es link = level ∷ (length es ∷ (link ∷ (es ++ replicate (mostRecords + 1 - length es) 0)))
 
 -- "A free page is zero except word 2, its link in the free list."
 unfoldable pub freePage : ℕ → List ℕ
@@ -51,7 +51,7 @@ abbrev pub primaryPage : ℕ → ℕ
 primaryPage c = c
 
 abbrev pub scratchPage : Root → ℕ → ℕ
-scratchPage r q = r .chains + r .overflow + q
+scratchPage r q = r .primaries + r .overflow + q
 
 -- The page that a link word other than 0 names, and the link word that names a page.
 abbrev pub linkedPage : ℕ → ℕ
@@ -67,7 +67,7 @@ linkToFirst (x ∷ xs) = linkTo x
 
 -- Whether a link word names an overflow page.
 unfoldable pub namesOverflow : Root → ℕ → Bool
-namesOverflow r l = ltb (r .chains) l && leb l (r .chains + r .overflow)
+namesOverflow r l = ltb (r .primaries) l && leb l (r .primaries + r .overflow)
 
 -- Whether a link word names no page or an overflow page.
 unfoldable pub linkSound : Root → ℕ → Bool
@@ -79,4 +79,4 @@ mostLevel = 9
 
 -- "on a page the step follows, count above b, local level above 9 ... or a link to no overflow page" is damage.
 unfoldable pub pageSound : Root → List ℕ → Bool
-pageSound r w = leb (countOf w) (r .keys) && leb (levelOf w) mostLevel && linkSound r (linkOf w)
+pageSound r w = leb (countOf w) (r .capacity) && leb (levelOf w) mostLevel && linkSound r (linkOf w)

@@ -7,7 +7,7 @@ use Rattle.model.specs.Refusals.{isIdle}
 use Rattle.model.specs.Memory.{Memory, partyAt}
 use Rattle.model.specs.Calls.{stepCall}
 use Rattle.model.specs.Runs.{Call, afterCall}
-use Rattle.model.specs.Links.{performs}
+use Rattle.model.specs.Answers.{performs}
 
 -- Whether party q has an operation under way.
 unfoldable pub underWay : Memory → ℕ → Bool

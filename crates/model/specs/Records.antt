@@ -1,16 +1,44 @@
 -- The root record and a party's record, changed one field at a time (document 01, "The lent memory").
 -- Here alone a record is written out in full: everything else goes through these updates, so that a new field is added in one place.
--- Main definitions: idle (the zero record), atStep and the other updates.
+-- Main definitions: the numbers of operations and of what is owed; idle (the zero record), atStep and the other updates.
 use Prim.Native.Nat.{ℕ}
 use Rattle.model.specs.declared.Root.{Root}
 use Rattle.model.specs.declared.Party.{Party}
+
+-- "operation (0 idle, 1 find, 2 insert, 3 delete)".
+abbrev pub idleOperation : ℕ
+idleOperation = 0
+
+abbrev pub findOperation : ℕ
+findOperation = 1
+
+abbrev pub insertOperation : ℕ
+insertOperation = 2
+
+abbrev pub deleteOperation : ℕ
+deleteOperation = 3
+
+-- "restructure owed (0 none, 1 split, 2 merge, 3 split made)".
+abbrev pub owesNone : ℕ
+owesNone = 0
+
+abbrev pub owesSplit : ℕ
+owesSplit = 1
+
+abbrev pub owesMerge : ℕ
+owesMerge = 2
+
+abbrev pub splitMade : ℕ
+splitMade = 3
+
+-- ---- Updates
 
 -- The root with another level.
 abbrev pub withLevel : ℕ → Root → Root
 withLevel x r = record {
   originals = r .originals;
-  keys = r .keys;
-  chains = r .chains;
+  capacity = r .capacity;
+  primaries = r .primaries;
   overflow = r .overflow;
   parties = r .parties;
   level = x;
@@ -23,8 +51,8 @@ withLevel x r = record {
 abbrev pub withNext : ℕ → Root → Root
 withNext x r = record {
   originals = r .originals;
-  keys = r .keys;
-  chains = r .chains;
+  capacity = r .capacity;
+  primaries = r .primaries;
   overflow = r .overflow;
   parties = r .parties;
   level = r .level;
@@ -37,8 +65,8 @@ withNext x r = record {
 abbrev pub withFreeList : ℕ → ℕ → Root → Root
 withFreeList h n r = record {
   originals = r .originals;
-  keys = r .keys;
-  chains = r .chains;
+  capacity = r .capacity;
+  primaries = r .primaries;
   overflow = r .overflow;
   parties = r .parties;
   level = r .level;
@@ -49,7 +77,7 @@ withFreeList h n r = record {
 
 -- A root record of the sizes given, N b P V Q, all else zero.
 abbrev pub rootOfSizes : ℕ → ℕ → ℕ → ℕ → ℕ → Root
-rootOfSizes n b p v q = record { originals = n; keys = b; chains = p; overflow = v; parties = q; level = 0; next = 0; head = 0; free = 0 }
+rootOfSizes n b p v q = record { originals = n; capacity = b; primaries = p; overflow = v; parties = q; level = 0; next = 0; head = 0; free = 0 }
 
 -- The zero record: a party that is idle.
 abbrev pub idle : Party

@@ -7,6 +7,7 @@ use lib.ListN.{length}
 use lib.Dec.{ltb, leb, eqb}
 use Rattle.model.specs.declared.Root.{Root}
 use Rattle.model.specs.declared.Party.{Party}
+use Rattle.model.specs.Records.{idleOperation, deleteOperation, splitMade}
 use Rattle.model.specs.Sizes.{withinLimits, lockWords, allPageWords}
 use Rattle.model.specs.Addresses.{span, chainCount}
 use Rattle.model.specs.Outcome.{damage}
@@ -30,38 +31,54 @@ firstCause (x ∷ xs) = cond (x .met) (x .number) (firstCause xs)
 unfoldable pub lengthsFit : Root → Memory → Bool
 lengthsFit r m = eqb (length (m .parties)) (r .parties) && eqb (length (m .locks)) (lockWords r) && eqb (length (m .pages)) (allPageWords r)
 
+-- The table's numbers; that of a damaged number is `damage`.
+abbrev pub sizeRefusal : ℕ
+sizeRefusal = 2
+
+abbrev pub lengthRefusal : ℕ
+lengthRefusal = 1
+
+abbrev pub partyRefusal : ℕ
+partyRefusal = 3
+
+abbrev pub busyRefusal : ℕ
+busyRefusal = 4
+
+abbrev pub idleRefusal : ℕ
+idleRefusal = 5
+
 -- The rows, each with the causes in document 01's words.
 abbrev pub sizeRow : Root → Row
-sizeRow r = row (not (withinLimits r)) 2
+sizeRow r = row (not (withinLimits r)) sizeRefusal
 
 abbrev pub lengthRow : Root → Memory → Row
-lengthRow r m = row (not (lengthsFit r m)) 1
+lengthRow r m = row (not (lengthsFit r m)) lengthRefusal
 
 abbrev pub partyRow : Root → ℕ → Row
-partyRow r q = row (leb (r .parties) q) 3
+partyRow r q = row (leb (r .parties) q) partyRefusal
 
 abbrev pub isIdle : Party → Bool
-isIdle p = eqb (p .operation) 0
+isIdle p = eqb (p .operation) idleOperation
 
 abbrev pub busyRow : Party → Row
-busyRow p = row (not (isIdle p)) 4
+busyRow p = row (not (isIdle p)) busyRefusal
 
 abbrev pub idleRow : Party → Row
-idleRow p = row (isIdle p) 5
+idleRow p = row (isIdle p) idleRefusal
 
 -- ---- Damage, on the root and the party's record
 
 -- "level above 8, next not below N × 2^level, n above P, or free count above V".
 unfoldable pub rootSound : Root → Bool
 rootSound r =
-    leb (r .level) 8 && ltb (r .next) (span (r .originals) (r .level)) && leb (chainCount (r .originals) (r .level) (r .next)) (r .chains)
+    leb (r .level) 8 && ltb (r .next) (span (r .originals) (r .level)) && leb (chainCount (r .originals) (r .level) (r .next)) (r .primaries)
     && leb (r .free) (r .overflow)
 
 -- "operation above 3; a step the operation lacks; lev above 9; owed above 3; an answer above 5, or 0 from step 12 on; a chain or other chain at or above P".
 unfoldable pub partySound : Root → Party → Bool
 partySound r p =
-    leb (p .operation) 3 && hasStep (p .operation) (p .step) && leb (p .lev) 9 && leb (p .owed) 3
-    && leb (p .answer) 5 && (ltb (p .step) 12 || not (eqb (p .answer) 0)) && ltb (p .chain) (r .chains) && ltb (p .other) (r .chains)
+    leb (p .operation) deleteOperation && hasStep (p .operation) (p .step) && leb (p .lev) 9 && leb (p .owed) splitMade
+    && leb (p .answer) 5 && (ltb (p .step) 12 || not (eqb (p .answer) 0)) && ltb (p .chain) (r .primaries) && ltb (p .other) (r .primaries)
 
 unfoldable pub recordSound : Root → Party → Bool
 recordSound r p = rootSound r && partySound r p

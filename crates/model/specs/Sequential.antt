@@ -20,7 +20,7 @@ use Rattle.model.specs.Addresses.{addressOf, chainCount, splitNext, spli
 use Rattle.model.specs.Entries.{Entry, entryOf, hasKey, insertedInto, removedFrom, joined, staying, going}
 use Rattle.model.specs.Chains.{Checked, damaged, sound, Chain, chainOf}
 use Rattle.model.specs.Filling.{pagesFor}
-use Rattle.model.specs.Steps.Change.{splitOwed, mergeOwed}
+use Rattle.model.specs.Steps.Rebuild.{splitOwed, mergeOwed}
 use Rattle.model.specs.Memory.{Memory}
 use Rattle.model.specs.Calls.{Called, stepCall}
 
@@ -45,7 +45,7 @@ pagesInUse b [] = 0
 pagesInUse b (es ∷ rest) = pagesFor b es + pagesInUse b rest
 
 unfoldable pub freeIn : Root → File → ℕ
-freeIn r f = r .overflow - pagesInUse (r .keys) (f .chains)
+freeIn r f = r .overflow - pagesInUse (r .capacity) (f .chains)
 
 -- Whether fewer pages are free than these records need: a chain is rebuilt in free pages before its old ones are free.
 unfoldable pub shortOf : Root → File → ℕ → Bool
@@ -77,8 +77,8 @@ splitFile r f a =
     let es = recordsAt f (f .next) in
     let stay = staying (r .originals) (f .level + 1) (f .next) es in
     let go = going (r .originals) (f .level + 1) (f .next) es in
-    let k = pagesFor (r .keys) stay + pagesFor (r .keys) go in
-    cond (splitBarred (chainsIn r f) (r .chains) || shortOf r f k) (finishes a Restructuring.SplitSkipped f) (finishes a Restructuring.Split (parted r f stay go))
+    let k = pagesFor (r .capacity) stay + pagesFor (r .capacity) go in
+    cond (splitBarred (chainsIn r f) (r .primaries) || shortOf r f k) (finishes a Restructuring.SplitSkipped f) (finishes a Restructuring.Split (parted r f stay go))
 
 -- The last chain joined to its target; level and next taken back.
 unfoldable pub rejoined : Root → File → ℕ → List Entry → File
@@ -92,7 +92,7 @@ unfoldable pub mergeFile : Root → File → OperationAnswer → Finished
 mergeFile r f a =
     let target = mergeTarget (r .originals) (f .level) (f .next) in
     let es = joined (recordsAt f target) (recordsAt f (mergePartner (r .originals) (f .level) (f .next))) in
-    cond (mergeBarred (chainsIn r f) (r .originals) || shortOf r f (pagesFor (r .keys) es))
+    cond (mergeBarred (chainsIn r f) (r .originals) || shortOf r f (pagesFor (r .capacity) es))
     (finishes a Restructuring.MergeSkipped f)
     (finishes a Restructuring.Merged (rejoined r f target es))
 
@@ -105,8 +105,8 @@ findIn r f k = finishes (cond (hasKey k (recordsAt f (homeIn r f k))) OperationA
 unfoldable pub added : Root → File → ℕ → List Entry → List Entry → Finished
 added r f c es new =
     let g = withRecords f c new in
-    let rest = cond (splitOwed (pagesFor (r .keys) es) (pagesFor (r .keys) new)) (splitFile r g OperationAnswer.Inserted) (finishes OperationAnswer.Inserted Restructuring.None g) in
-    cond (shortOf r f (pagesFor (r .keys) new)) (finishes OperationAnswer.NoPage Restructuring.None f) rest
+    let rest = cond (splitOwed (pagesFor (r .capacity) es) (pagesFor (r .capacity) new)) (splitFile r g OperationAnswer.Inserted) (finishes OperationAnswer.Inserted Restructuring.None g) in
+    cond (shortOf r f (pagesFor (r .capacity) new)) (finishes OperationAnswer.NoPage Restructuring.None f) rest
 
 unfoldable pub insertIn : Root → File → ℕ → Finished
 insertIn r f k =
@@ -119,7 +119,7 @@ unfoldable pub removed : Root → File → ℕ → List Entry → Finished
 removed r f c new =
     let g = withRecords f c new in
     let rest = cond (mergeOwed new) (mergeFile r g OperationAnswer.Deleted) (finishes OperationAnswer.Deleted Restructuring.None g) in
-    cond (shortOf r f (pagesFor (r .keys) new)) (finishes OperationAnswer.NoPage Restructuring.None f) rest
+    cond (shortOf r f (pagesFor (r .capacity) new)) (finishes OperationAnswer.NoPage Restructuring.None f) rest
 
 unfoldable pub deleteIn : Root → File → ℕ → Finished
 deleteIn r f k =

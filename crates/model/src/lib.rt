@@ -1,12 +1,97 @@
-// The types of the bead index: what the definitions in specs/ speak of and the code works on.
-// There is no code here. The root record, a party's record, lock modes, answers, and the two kinds of address.
+// The types and the numbers of the bead index: what the definitions in specs/ speak of and the code works on.
+// There is no code here. Limits, the layout of a page, the numbers that records hold and calls return; the root record, a party's record, lock modes,
+// answers, and the two kinds of address.
+
+// ---- Limits (document 01, "What it covers")
+
+// "P chains at most, 1 to 256."
+pub const MOST_PRIMARIES: u32 = 256;
+
+// "V overflow pages, 0 to 752."
+pub const MOST_OVERFLOW: u32 = 752;
+
+// "Q parties, 1 to 16."
+pub const MOST_PARTIES: u32 = 16;
+
+// "b keys a page, 1 to 12."
+pub const MOST_RECORDS: u32 = 12;
+
+// ---- A page (document 01, "The lent memory")
+
+// "Pages are lent as 32-bit words, sixteen to a page."
+pub const PAGE_WORDS: usize = 16;
+
+// The words of one page, by value.
+pub type Page = [u32; PAGE_WORDS];
+
+// "Word 0 is the local level ..., word 1 the key count, word 2 the link ..., words 3 to 14 the keys".
+pub const LEVEL_WORD: usize = 0;
+
+pub const COUNT_WORD: usize = 1;
+
+pub const LINK_WORD: usize = 2;
+
+pub const FIRST_RECORD: usize = 3;
+
+// ---- Numbers in a party's record (document 01, "The lent memory")
+
+// "operation (0 idle, 1 find, 2 insert, 3 delete)".
+pub const IDLE: u32 = 0;
+
+pub const FIND: u32 = 1;
+
+pub const INSERT: u32 = 2;
+
+pub const DELETE: u32 = 3;
+
+// "restructure owed (0 none, 1 split, 2 merge, 3 split made)".
+pub const OWES_NONE: u32 = 0;
+
+pub const OWES_SPLIT: u32 = 1;
+
+pub const OWES_MERGE: u32 = 2;
+
+pub const SPLIT_MADE: u32 = 3;
+
+// "answer so far (0 none, 1 inserted, 2 present, 3 deleted, 4 absent, 5 no page)".
+pub const NO_ANSWER: u32 = 0;
+
+pub const INSERTED: u32 = 1;
+
+pub const PRESENT: u32 = 2;
+
+pub const DELETED: u32 = 3;
+
+pub const ABSENT: u32 = 4;
+
+pub const NO_PAGE: u32 = 5;
+
+// ---- Refusals (document 01, "Refused calls"), in the table's order; 0 is no cause.
+
+pub const NO_CAUSE: u32 = 0;
+
+pub const SIZE_REFUSED: u32 = 2;
+
+pub const LENGTH_REFUSED: u32 = 1;
+
+pub const PARTY_REFUSED: u32 = 3;
+
+pub const BUSY_REFUSED: u32 = 4;
+
+pub const IDLE_REFUSED: u32 = 5;
+
+pub const DAMAGE: u32 = 6;
+
+// ---- Records
 
 // The root record (document 01, "The lent memory"). Document 01 calls the first five N, b, P, V and Q.
 #[repr(C)]
 pub struct Root {
     pub originals: u32,
-    pub keys: u32,
-    pub chains: u32,
+    // The most records that a page holds.
+    pub capacity: u32,
+    // Primary pages, one a chain: the most chains that there may be.
+    pub primaries: u32,
     pub overflow: u32,
     pub parties: u32,
     pub level: u32,

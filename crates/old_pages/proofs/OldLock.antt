@@ -9,8 +9,9 @@ use Rattle.model.specs.declared.Mode.the-variants.{Exclusive}
 use Rattle.model.specs.Records.{atStep}
 use Rattle.model.specs.LockWords.{claim, chainWord}
 use Rattle.model.specs.Pages.{namesOverflow}
-use Rattle.model.specs.Outcome.{View, Outcome, refuse, damage, request}
-use Rattle.model.specs.Steps.Change.{step13}
+use Rattle.model.specs.Outcome.{View, Outcome, refuse, damage}
+use Rattle.model.specs.LockRequests.{request}
+use Rattle.model.specs.Steps.OldPages.{step13}
 
 module _ (v : View) {b : Bool} (e : b ≡ namesOverflow (v .root) (v .party .old)) where
   pub unnamed-refused : not b ≡ true → refuse damage v ≡ step13 v

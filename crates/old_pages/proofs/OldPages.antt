@@ -14,9 +14,12 @@ use Rattle.model.specs.Records.{withOld, withFreeList}
 use Rattle.model.specs.LockWords.{chainWord, holds}
 use Rattle.model.specs.Pages.{namesOverflow}
 use Rattle.model.specs.Chains.{Checked, damaged, sound, listFrom}
-use Rattle.model.specs.Outcome.{View, Outcome, refuse, damage, checked, isHeld, heldAll, withoutHold, givenUp}
+use Rattle.model.specs.Outcome.{View, Outcome, refuse, damage, checked}
+use Rattle.model.specs.LockRequests.{isHeld, heldAll, withoutHold, givenUp}
 use Rattle.model.specs.Ready.{viewing}
-use Rattle.model.specs.Steps.Change.{onward, roomToGiveBack, pagesGivenBack, oldGivenBack, step14}
+use Rattle.model.specs.Endings.{onward}
+use Rattle.model.specs.FreeList.{roomToGiveBack, pagesGivenBack}
+use Rattle.model.specs.Steps.OldPages.{oldGivenBack, step14}
 use Rattle.chains.specs.Walks.{counted}
 use Rattle.chains.specs.declared.Walked.the-variants as Walked
 use Rattle.lock_requests.specs.Words.{leftAfter}

@@ -6,18 +6,18 @@ ghost use mathlib.Core.Bool.{true};
 ghost use lib.ListN.{length};
 ghost use Rattle.model.specs.Pages.{namesOverflow};
 ghost use Rattle.model.specs.Chains.{listFrom};
-ghost use Rattle.model.specs.Steps.Change as Change;
+ghost use Rattle.model.specs.Steps.OldPages as OldPages;
 ghost use Rattle.records.specs.Words.{recordWords, rootIn, partyIn, seen, left, AtHand};
 ghost use Rattle.chains.specs.Walks.{counted};
 ghost use Rattle.chains.specs.declared.Walked.the-variants as Walked;
 ghost use Rattle.free_list.specs.Giving.{listed};
 use chains::Walked;
 use model::ChainAddress;
+use model::DAMAGE;
 use model::Mode;
 use model::Root;
 use model::StepAnswer;
 use records::CHAIN;
-use records::DAMAGE;
 use records::FREE;
 use records::HEAD;
 use records::OLD;
@@ -31,7 +31,7 @@ pub fn step_13(
     pages: &mut [u32],
 ) -> StepAnswer
     requires { ⌜ AtHand root (now party) q (now locks) (now pages) ⌝ }
-    ensures { λ a. ⌜ left a root (now (party .exit)) q (now (locks .exit)) (now (pages .exit)) ≡ Change.step13 (seen root (now (party .entry)) q (now (locks .entry)) (now (pages .entry))) ⌝ }
+    ensures { λ a. ⌜ left a root (now (party .exit)) q (now (locks .exit)) (now (pages .exit)) ≡ OldPages.step13 (seen root (now (party .entry)) q (now (locks .entry)) (now (pages .entry))) ⌝ }
 {
     if !chains::names_overflow(root, party[OLD]) {
         return StepAnswer::Refused(DAMAGE);
@@ -51,7 +51,7 @@ fn old_given_back(
     pages: &mut [u32],
 ) -> StepAnswer
     requires { ⌜ (length (now root) ≡ recordWords) × (AtHand (rootIn (now root)) (now party) q (now locks) (now pages)) × (namesOverflow (rootIn (now root)) (partyIn (now party) .old) ≡ true) × (counted (listFrom (rootIn (now root)) (now pages) (partyIn (now party) .old)) ≡ Walked.Pages n) ⌝ }
-    ensures { λ a. ⌜ left a (rootIn (now (root .exit))) (now (party .exit)) q (now (locks .exit)) (now (pages .exit)) ≡ Change.oldGivenBack (seen (rootIn (now (root .entry))) (now (party .entry)) q (now (locks .entry)) (now (pages .entry))) (listed (listFrom (rootIn (now (root .entry))) (now (pages .entry)) (partyIn (now (party .entry)) .old))) ⌝ }
+    ensures { λ a. ⌜ left a (rootIn (now (root .exit))) (now (party .exit)) q (now (locks .exit)) (now (pages .exit)) ≡ OldPages.oldGivenBack (seen (rootIn (now (root .entry))) (now (party .entry)) q (now (locks .entry)) (now (pages .entry))) (listed (listFrom (rootIn (now (root .entry))) (now (pages .entry)) (partyIn (now (party .entry)) .old))) ⌝ }
 {
     let r = records::root_of(&root[..]);
     if r.overflow - r.free < n {
@@ -77,7 +77,7 @@ pub fn step_14(
     pages: &mut [u32],
 ) -> StepAnswer
     requires { ⌜ (length (now root) ≡ recordWords) × AtHand (rootIn (now root)) (now party) q (now locks) (now pages) ⌝ }
-    ensures { λ a. ⌜ left a (rootIn (now (root .exit))) (now (party .exit)) q (now (locks .exit)) (now (pages .exit)) ≡ Change.step14 (seen (rootIn (now (root .entry))) (now (party .entry)) q (now (locks .entry)) (now (pages .entry))) ⌝ }
+    ensures { λ a. ⌜ left a (rootIn (now (root .exit))) (now (party .exit)) q (now (locks .exit)) (now (pages .exit)) ≡ OldPages.step14 (seen (rootIn (now (root .entry))) (now (party .entry)) q (now (locks .entry)) (now (pages .entry))) ⌝ }
 {
     let r = records::root_of(&root[..]);
     if !chains::names_overflow(r, party[OLD]) {

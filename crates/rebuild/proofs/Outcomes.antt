@@ -10,7 +10,7 @@ use Rattle.model.specs.Records.{atStep, withAnswer, withOld, withOwed, withFree
 use Rattle.model.specs.Pages.{pageOf, linkOf, primaryPage}
 use Rattle.model.specs.Outcome.{refuse, damage, moved}
 use Rattle.model.specs.Ready.{viewing}
-use Rattle.model.specs.Steps.Change.{step10}
+use Rattle.model.specs.Steps.Rebuild.{step10}
 use Rattle.records.specs.Words.{recordWords, partyIn}
 use Rattle.records.proofs.Words.{answer-written, old-written, owed-written}
 use Rattle.chain_change.specs.declared.Rebuilt.{Rebuilt}

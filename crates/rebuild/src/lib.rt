@@ -8,19 +8,19 @@ ghost use Prim.Native.Nat.{ℕ, _-_};
 ghost use lib.ListN.{length};
 ghost use Rattle.model.specs.Records.{atStep, withAnswer, withOld, withOwed, withFreeList};
 ghost use Rattle.model.specs.Ready.{viewing};
-ghost use Rattle.model.specs.Steps.Change as Change;
+ghost use Rattle.model.specs.Steps.Rebuild as Rebuild;
 ghost use Rattle.records.specs.Words.{recordWords, rootIn, partyIn, seen, left, AtHand};
 ghost use Rattle.chain_change.specs.Changing.{afterChange, CanChange};
 use chain_change::Changed;
 use chain_change::Rebuilt;
 use chains::Walked;
 use model::ChainAddress;
+use model::DAMAGE;
 use model::PageAddress;
 use model::Party;
 use model::Root;
 use model::StepAnswer;
 use records::ANSWER;
-use records::DAMAGE;
 use records::FREE;
 use records::HEAD;
 use records::OLD;
@@ -29,7 +29,7 @@ use records::OWED;
 // "10 look through the whole chain in the file, then change it beside the file."
 fn change(root: Root, party: Party, q: u32, pages: &mut [u32]) -> Changed
     requires { ⌜ CanChange root q (party .chain) (now pages) ⌝ }
-    ensures { λ r. ⌜ ((ls : List ℕ) → afterChange (viewing root party q ls (now (pages .entry))) (now (pages .exit)) r ≡ Change.step10 (viewing root party q ls (now (pages .entry)))) ⌝ }
+    ensures { λ r. ⌜ ((ls : List ℕ) → afterChange (viewing root party q ls (now (pages .entry))) (now (pages .exit)) r ≡ Rebuild.step10 (viewing root party q ls (now (pages .entry)))) ⌝ }
 {
     match chain_keys::walk(root, ChainAddress(party.chain), &pages[..]) {
         Walked::Damaged => Changed::Damaged,
@@ -81,7 +81,7 @@ pub fn step_10(
     pages: &mut [u32],
 ) -> StepAnswer
     requires { ⌜ (length (now root) ≡ recordWords) × AtHand (rootIn (now root)) (now party) q (now locks) (now pages) ⌝ }
-    ensures { λ a. ⌜ left a (rootIn (now (root .exit))) (now (party .exit)) q (now (locks .exit)) (now (pages .exit)) ≡ Change.step10 (seen (rootIn (now (root .entry))) (now (party .entry)) q (now (locks .entry)) (now (pages .entry))) ⌝ }
+    ensures { λ a. ⌜ left a (rootIn (now (root .exit))) (now (party .exit)) q (now (locks .exit)) (now (pages .exit)) ≡ Rebuild.step10 (seen (rootIn (now (root .entry))) (now (party .entry)) q (now (locks .entry)) (now (pages .entry))) ⌝ }
 {
     let r = records::root_of(&root[..]);
     let p = records::party_of(&party[..]);

@@ -18,8 +18,8 @@ recordWords = 9
 abbrev pub rootIn : List ℕ → Root
 rootIn w = record {
   originals = getD w 0 0;
-  keys = getD w 1 0;
-  chains = getD w 2 0;
+  capacity = getD w 1 0;
+  primaries = getD w 2 0;
   overflow = getD w 3 0;
   parties = getD w 4 0;
   level = getD w 5 0;

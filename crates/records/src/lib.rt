@@ -8,6 +8,9 @@ ghost use Rattle.model.specs.Records as Records;
 ghost use Rattle.model.specs.Records.{rootOfSizes, atStep};
 ghost use Rattle.model.specs.Answers.{operationNumber};
 ghost use Rattle.records.specs.Words.{recordWords, rootIn, partyIn};
+use model::DELETE;
+use model::FIND;
+use model::INSERT;
 use model::Operation;
 use model::Party;
 use model::Root;
@@ -40,26 +43,14 @@ pub const OWED: usize = 7;
 
 pub const ANSWER: usize = 8;
 
-// "operation (0 idle, 1 find, 2 insert, 3 delete)".
-pub const IDLE: u32 = 0;
-
-pub const FIND: u32 = 1;
-
-pub const INSERT: u32 = 2;
-
-pub const DELETE: u32 = 3;
-
-// The refusal of a damaged number.
-pub const DAMAGE: u32 = 6;
-
 // A root record of the sizes N b P V Q, all else zero.
 pub fn root_of_sizes(n: u32, b: u32, p: u32, v: u32, q: u32) -> Root
     ensures { λ r. ⌜ r ≡ rootOfSizes n b p v q ⌝ }
 {
     Root {
         originals: n,
-        keys: b,
-        chains: p,
+        capacity: b,
+        primaries: p,
         overflow: v,
         parties: q,
         level: 0,
@@ -114,8 +105,8 @@ pub fn words_of_root(r: Root) -> [u32; 9]
 {
     [
         r.originals,
-        r.keys,
-        r.chains,
+        r.capacity,
+        r.primaries,
         r.overflow,
         r.parties,
         r.level,
@@ -149,8 +140,8 @@ pub fn root_of(w: &[u32]) -> Root
 {
     Root {
         originals: w[0],
-        keys: w[1],
-        chains: w[2],
+        capacity: w[1],
+        primaries: w[2],
         overflow: w[3],
         parties: w[4],
         level: w[LEVEL],

@@ -7,8 +7,8 @@ use Prim.Native.Nat.{ℕ}
 use Rattle.model.specs.declared.Party.{Party}
 use Rattle.model.specs.Records.{atStep}
 use Rattle.model.specs.Pages.{withPage, pageSound}
-use Rattle.model.specs.Outcome.{View, refuse, damage, moved, withParty, withPages, scratchOf}
-use Rattle.model.specs.Steps.Change.{primaryWritten}
+use Rattle.model.specs.Outcome.{View, refuse, damage, moved, withParty, withPages}
+use Rattle.model.specs.ScratchPages.{scratchOf, primaryWritten}
 
 -- w is the scratch page as the code read it, b what its test of w answered.
 module _ (v : View) (next : ℕ) {w : List ℕ} (ew : w ≡ scratchOf v) {b : Bool} (eb : b ≡ pageSound (v .root) w) where

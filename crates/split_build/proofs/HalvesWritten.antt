@@ -28,7 +28,7 @@ module _ (r : Root) (ps : List ℕ) (d : Division) (scratch other : PageAddress)
   goPlan level = record { level = level; left = d .going; source = goingFrom d; to = other }
 
   abbrev lastNeed : ℕ
-  lastNeed = overflowNeeded (r .keys) (d .going)
+  lastNeed = overflowNeeded (r .capacity) (d .going)
 
   -- The pages of the staying half, and those of the other.
   abbrev firsts : List ℕ
@@ -37,7 +37,7 @@ module _ (r : Root) (ps : List ℕ) (d : Division) (scratch other : PageAddress)
   abbrev lasts : List ℕ
   lasts = linkedPages ps lastNeed (linkAfter ps (firstNeed r d) (r .head))
 
-  pub can-write-both : (level : ℕ) → CanWrite (r .keys) (stayPlan level) (r .head) (Chain (goPlan level)) ps
+  pub can-write-both : (level : ℕ) → CanWrite (r .capacity) (stayPlan level) (r .head) (Chain (goPlan level)) ps
   can-write-both level = record {
     some-key = can .some-key;
     keys-fit = can .keys-fit;
@@ -68,11 +68,11 @@ module _ (r : Root) (ps : List ℕ) (d : Division) (scratch other : PageAddress)
       ∙ drop-at firsts lasts (firstNeed r d) (length-linkedPages ps (firstNeed r d) (r .head))
 
   pub both-written :
-      allWritten (r .keys) (stayPlan (r .level + 1)) (r .head) (Chain (goPlan (r .level + 1))) ps
-      ≡ bothWritten (r .keys) (r .level + 1) (other .0) (scratch .0) (both (keysOf ps (stayingFrom d)) (keysOf ps (goingFrom d))) (firstNeed r d) (linkedPages ps (bothNeed r d) (r .head)) ps
+      allWritten (r .capacity) (stayPlan (r .level + 1)) (r .head) (Chain (goPlan (r .level + 1))) ps
+      ≡ bothWritten (r .capacity) (r .level + 1) (other .0) (scratch .0) (both (keysOf ps (stayingFrom d)) (keysOf ps (goingFrom d))) (firstNeed r d) (linkedPages ps (bothNeed r d) (r .head)) ps
   unfolding bothWritten restWritten
   both-written =
-      let b = r .keys in
+      let b = r .capacity in
       let es = keysOf ps (stayingFrom d) in
       let fs = keysOf ps (goingFrom d) in
       let write = can-write-both (r .level + 1) in

@@ -13,7 +13,7 @@ use Rattle.model.specs.Chains.{sound, chainOf}
 use Rattle.model.specs.Entries.{Entry, staying, going}
 use Rattle.model.specs.Filling.{overflowNeeded, pagesFor}
 use Rattle.model.specs.FreeList.{Taken, pagesTaken}
-use Rattle.model.specs.Steps.Split.{Halves, halvesNeed}
+use Rattle.model.specs.Steps.SplitBuild.{Halves, halvesNeed}
 use Rattle.model.proofs.Laws.Lists.{All, all-left, all-map}
 use Rattle.model.proofs.Laws.Filling.{IsOverflow}
 use Rattle.records.specs.Words.{partyIn, AtHand}
@@ -127,15 +127,15 @@ module _ (r : Root) (p : List ℕ) (q : ℕ) (ls ps : List ℕ) (hand : AtHand r
       both-few =
           let some = hand .ready .some-key in
           let all = halved-length (halvingOf r (record { 0 = here })) (looks .chain .entries) in
-          omega (arith, needed-at-most (r .keys) (d .staying) some, needed-at-most (r .keys) (d .going) some, stay-is, go-is, all, looks .count)
+          omega (arith, needed-at-most (r .capacity) (d .staying) some, needed-at-most (r .capacity) (d .going) some, stay-is, go-is, all, looks .count)
 
-      pub first-is : firstNeed r d ≡ pagesFor (r .keys) (halves .stay)
+      pub first-is : firstNeed r d ≡ pagesFor (r .capacity) (halves .stay)
       unfolding pagesFor
-      first-is = ap (overflowNeeded (r .keys)) stay-is
+      first-is = ap (overflowNeeded (r .capacity)) stay-is
 
-      pub all-are : bothNeed r d ≡ halvesNeed (r .keys) halves
+      pub all-are : bothNeed r d ≡ halvesNeed (r .capacity) halves
       unfolding halvesNeed pagesFor
-      all-are = ap₂ (λ (m n : ℕ). m + n) first-is (ap (overflowNeeded (r .keys)) go-is)
+      all-are = ap₂ (λ (m n : ℕ). m + n) first-is (ap (overflowNeeded (r .capacity)) go-is)
 
       pub halves-are : both (keysOf ps (stayingFrom d)) (keysOf ps (goingFrom d)) ≡ halves
       halves-are = ap₂ both (divides .stay) (divides .go) ∙ same
@@ -144,7 +144,7 @@ module _ (r : Root) (p : List ℕ) (q : ℕ) (ls ps : List ℕ) (hand : AtHand r
       can-write-halves t taken =
           let ready = hand .ready in
           let drawn = taken-drawn r ps (bothNeed r d) t taken in
-          let last = overflowNeeded (r .keys) (d .going) in
+          let last = overflowNeeded (r .capacity) (d .going) in
           let over = drawn-overflow r ps (drawn .can) in
           let front : All (IsOverflow r) (linkedPages ps (firstNeed r d) (r .head))
           = all-left (IsOverflow r) (linkedPages ps (firstNeed r d) (r .head)) (linkedPages ps last (linkAfter ps (firstNeed r d) (r .head))) (rw (pages-append ps (firstNeed r d) last (r .head)) at over) in

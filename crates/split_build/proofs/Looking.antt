@@ -7,7 +7,7 @@ use Prim.Native.Nat.{ℕ, _≤_}
 use native.Mathlib.Omega.{arith}
 use lib.ListN.{length}
 use Rattle.model.specs.declared.Root.{Root}
-use Rattle.model.specs.Sizes.{mostKeys}
+use Rattle.model.specs.Sizes.{mostRecords}
 use Rattle.model.specs.Entries.{ascending}
 use Rattle.model.specs.Pages.{pageOf, linkOf}
 use Rattle.model.specs.Chains.{sound, soundIf, Chain, entriesOn, readChain, ascendingChain, chainOf}
@@ -32,7 +32,7 @@ pub record Looks (r : Root) (ps : List ℕ) (c : ℕ) (l : Looked) : Type 0 wher
   pub link : linkOf (pageOf ps c) ≡ chain .link
   pub count : l .count ≡ length (chain .entries)
 
-module _ (r : Root) (ps : List ℕ) (c : ℕ) (l : Looked) (keys : r .keys ≤ mostKeys) (overflow : r .overflow ≤ 752) (can : CanWalk r ps c) where
+module _ (r : Root) (ps : List ℕ) (c : ℕ) (l : Looked) (keys : r .capacity ≤ mostRecords) (overflow : r .overflow ≤ 752) (can : CanWalk r ps c) where
   pub chain-looked : Scan.Sound l ≡ scanned 0 (chainOf r ps c) → Looks r ps c l
   unfolding recordsOf readChain ascendingChain
   chain-looked e = walked (counted (overflowOf r ps c)) refl

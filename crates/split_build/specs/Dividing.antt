@@ -7,13 +7,13 @@ use mathlib.Core.List.{List, _++_}
 use Prim.Native.Nat.{ℕ, _+_, _*_, _≤_}
 use lib.ListN.{length, take, drop}
 use Rattle.model.specs.declared.Root.{Root}
-use Rattle.model.specs.Sizes.{pageWords, mostKeys}
-use Rattle.model.specs.Addresses.{splitBarred}
+use Rattle.model.specs.Sizes.{pageWords, mostRecords}
+use Rattle.model.specs.Addresses.{splitBarred, countOfChains}
 use Rattle.model.specs.Entries.{Entry, staying, going}
 use Rattle.model.specs.Pages.{pageOf, withPage, linkOf, entriesOf}
 use Rattle.model.specs.Chains.{chainOf}
 use Rattle.model.specs.Filling.{overflowNeeded, primaryOf, overflowWritten}
-use Rattle.model.specs.Steps.Split.{Halves, countOfChains}
+use Rattle.model.specs.Steps.SplitBuild.{Halves}
 use Rattle.model.proofs.Laws.Distinct.{Outside}
 use Rattle.records.specs.Words.{recordWords, rootIn, partyIn, AtHand}
 use Rattle.chain_keys.specs.Gathering.{entriesFrom}
@@ -69,15 +69,15 @@ pub record CanDivide (r : Root) (ps : List ℕ) (c : ℕ) (l : Looked) : Type 0 
 
 -- The overflow pages that the staying half needs, and both.
 abbrev pub firstNeed : Root → Division → ℕ
-firstNeed r d = overflowNeeded (r .keys) (d .staying)
+firstNeed r d = overflowNeeded (r .capacity) (d .staying)
 
 abbrev pub bothNeed : Root → Division → ℕ
-bothNeed r d = firstNeed r d + overflowNeeded (r .keys) (d .going)
+bothNeed r d = firstNeed r d + overflowNeeded (r .capacity) (d .going)
 
 -- Both halves can be read, the pages at the head of the free list can be filled, and the memory has the places of both primary pages.
 pub record CanWriteHalves (r : Root) (ps : List ℕ) (d : Division) (scratch other : ℕ) : Type 0 where
-  pub some-key : 1 ≤ r .keys
-  pub keys-fit : r .keys ≤ mostKeys
+  pub some-key : 1 ≤ r .capacity
+  pub keys-fit : r .capacity ≤ mostRecords
   pub level-fits : r .level ≤ 8
   pub sits : Sits ps (d .place)
   pub can-halve : CanHalve (d .halving)
@@ -100,5 +100,5 @@ bothWritten b level other scratch h first taken ps =
 pub record CanSplit (w p : List ℕ) (q : ℕ) (l : Looked) (ls ps : List ℕ) : Type 0 where
   pub words : length w ≡ recordWords
   pub at-hand : AtHand (rootIn w) p q ls ps
-  pub not-barred : splitBarred (countOfChains (rootIn w)) (rootIn w .chains) ≡ false
+  pub not-barred : splitBarred (countOfChains (rootIn w)) (rootIn w .primaries) ≡ false
   pub looked : Scan.Sound l ≡ scanned 0 (chainOf (rootIn w) ps (partyIn p .chain))

@@ -4,7 +4,7 @@
 ghost use mathlib.Core.Path.{_≡_};
 ghost use Prim.Native.Nat.{_+_};
 ghost use lib.ListN.{length};
-ghost use Rattle.model.specs.Steps.Split as Split;
+ghost use Rattle.model.specs.Steps.SplitBuild as SplitBuild;
 ghost use Rattle.records.specs.Words.{recordWords, rootIn, seen, left, AtHand};
 ghost use Rattle.key_source.specs.Sources.{keysOf};
 ghost use Rattle.chain_writer.specs.Writing.{linkedPages};
@@ -19,12 +19,12 @@ use key_source::Halving;
 use key_source::Place;
 use key_source::Source;
 use model::ChainAddress;
+use model::DAMAGE;
 use model::PageAddress;
 use model::Restructuring;
 use model::Root;
 use model::StepAnswer;
 use records::CHAIN;
-use records::DAMAGE;
 use records::FREE;
 use records::HEAD;
 use records::OLD;
@@ -71,7 +71,7 @@ fn write_halves(
     pages: &mut [u32],
 )
     requires { ⌜ CanWriteHalves root (now pages) d (scratch .0) (other .0) ⌝ }
-    ensures { λ _. ⌜ now (pages .exit) ≡ bothWritten (root .keys) (root .level + 1) (other .0) (scratch .0) (both (keysOf (now (pages .entry)) (stayingFrom d)) (keysOf (now (pages .entry)) (goingFrom d))) (firstNeed root d) (linkedPages (now (pages .entry)) (bothNeed root d) (root .head)) (now (pages .entry)) ⌝ }
+    ensures { λ _. ⌜ now (pages .exit) ≡ bothWritten (root .capacity) (root .level + 1) (other .0) (scratch .0) (both (keysOf (now (pages .entry)) (stayingFrom d)) (keysOf (now (pages .entry)) (goingFrom d))) (firstNeed root d) (linkedPages (now (pages .entry)) (bothNeed root d) (root .head)) (now (pages .entry)) ⌝ }
 {
     let level = root.level + 1;
     let halving = d.halving;
@@ -94,7 +94,7 @@ fn write_halves(
         },
         to: other,
     };
-    chain_writer::write_chain(root.keys, stay, root.head, Rest::Chain(go), pages);
+    chain_writer::write_chain(root.capacity, stay, root.head, Rest::Chain(go), pages);
 }
 
 // "Too few free pages: take none, give up both locks, done, split skipped."
@@ -107,13 +107,13 @@ fn divide(
     pages: &mut [u32],
 ) -> StepAnswer
     requires { ⌜ CanSplit (now root) (now party) q l (now locks) (now pages) ⌝ }
-    ensures { λ a. ⌜ left a (rootIn (now (root .exit))) (now (party .exit)) q (now (locks .exit)) (now (pages .exit)) ≡ Split.step17 (seen (rootIn (now (root .entry))) (now (party .entry)) q (now (locks .entry)) (now (pages .entry))) ⌝ }
+    ensures { λ a. ⌜ left a (rootIn (now (root .exit))) (now (party .exit)) q (now (locks .exit)) (now (pages .exit)) ≡ SplitBuild.step17 (seen (rootIn (now (root .entry))) (now (party .entry)) q (now (locks .entry)) (now (pages .entry))) ⌝ }
 {
     let r = records::root_of(&root[..]);
     let chain = party[CHAIN];
     let d = division_of(r, ChainAddress(chain), l, &pages[..]);
-    let first = page_fill::pages_for(r.keys, d.staying as usize);
-    let k = (first + page_fill::pages_for(r.keys, d.going as usize)) as u32;
+    let first = filling::pages_for(r.capacity, d.staying as usize);
+    let k = (first + filling::pages_for(r.capacity, d.going as usize)) as u32;
     if r.free < k {
         let made = Restructuring::SplitSkipped;
         return last_locks::ended_with_split(r, party, q, locks, pages, made);
@@ -142,10 +142,10 @@ pub fn step_17(
     pages: &mut [u32],
 ) -> StepAnswer
     requires { ⌜ (length (now root) ≡ recordWords) × AtHand (rootIn (now root)) (now party) q (now locks) (now pages) ⌝ }
-    ensures { λ a. ⌜ left a (rootIn (now (root .exit))) (now (party .exit)) q (now (locks .exit)) (now (pages .exit)) ≡ Split.step17 (seen (rootIn (now (root .entry))) (now (party .entry)) q (now (locks .entry)) (now (pages .entry))) ⌝ }
+    ensures { λ a. ⌜ left a (rootIn (now (root .exit))) (now (party .exit)) q (now (locks .exit)) (now (pages .exit)) ≡ SplitBuild.step17 (seen (rootIn (now (root .entry))) (now (party .entry)) q (now (locks .entry)) (now (pages .entry))) ⌝ }
 {
     let r = records::root_of(&root[..]);
-    if addressing::split_barred(r) {
+    if addresses::split_barred(r) {
         return StepAnswer::Refused(DAMAGE);
     }
     match chain_scan::look_through(r, ChainAddress(party[CHAIN]), 0, &pages[..]) {

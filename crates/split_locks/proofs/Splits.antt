@@ -13,12 +13,12 @@ use Rattle.model.specs.declared.Mode.the-variants.{Selective}
 use Rattle.model.specs.declared.Restructuring.the-variants as Restructuring
 use Rattle.model.specs.Records.{atStep, withChain, withOther, withOwed}
 use Rattle.model.specs.LockWords.{claim, rootWord, chainWord, holds}
-use Rattle.model.specs.Addresses.{chainCount, splitBarred}
-use Rattle.model.specs.Outcome.{View, Outcome, withParty, refuse, damage, moved, request, withoutHold, givenUp}
+use Rattle.model.specs.Addresses.{chainCount, splitBarred, countOfChains}
+use Rattle.model.specs.Outcome.{View, Outcome, withParty, refuse, damage, moved}
+use Rattle.model.specs.LockRequests.{request, withoutHold, givenUp, release, rootSelective}
 use Rattle.model.specs.Ready.{Ready, viewing}
-use Rattle.model.specs.Steps.Locate.{release}
-use Rattle.model.specs.Steps.Change.{oldPagesFirst, finished}
-use Rattle.model.specs.Steps.Split.{countOfChains, rootSelective, endedWith, splitting, step16, step19, step22}
+use Rattle.model.specs.Endings.{oldPagesFirst, finished, endedWith}
+use Rattle.model.specs.Steps.SplitLocks.{splitting, step16, step19, step22}
 use Rattle.records.specs.Words.{recordWords, partyIn}
 use Rattle.records.proofs.Words.{chain-written, other-written}
 use Rattle.lock_requests.specs.Words.{leftAfter}
@@ -26,14 +26,14 @@ use Rattle.lock_requests.proofs.Releases.{held-goes-on, not-held-refused}
 use Rattle.split_locks.specs.Leaving.{splitMade}
 
 -- Chain next is one of the chains there are.
-pub next-is-chain : (v : View) → Ready v → v .root .next < v .root .chains
+pub next-is-chain : (v : View) → Ready v → v .root .next < v .root .primaries
 unfolding chainCount
 next-is-chain v ready = omega (arith, ready .next-fits, ready .count-fits)
 
 -- ---- 16
 
 -- b is what the code's test of n = P answered.
-module _ (v : View) {b : Bool} (e : b ≡ splitBarred (countOfChains (v .root)) (v .root .chains)) where
+module _ (v : View) {b : Bool} (e : b ≡ splitBarred (countOfChains (v .root)) (v .root .primaries)) where
   pub barred-ends : b ≡ true → {o : Outcome} → o ≡ endedWith v (rootSelective ∷ []) Restructuring.SplitSkipped → o ≡ step16 v
   unfolding step16
   barred-ends h eo = rw (← e, h) eo

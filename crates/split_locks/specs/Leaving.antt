@@ -2,7 +2,7 @@
 -- Main definition: splitMade.
 use Rattle.model.specs.Records.{withOwed}
 use Rattle.model.specs.Outcome.{View, Outcome, withParty}
-use Rattle.model.specs.Steps.Change.{oldPagesFirst, finished}
+use Rattle.model.specs.Endings.{oldPagesFirst, finished}
 
 -- Step 22 once root is given up.
 abbrev pub splitMade : View → Outcome

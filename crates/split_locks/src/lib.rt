@@ -6,30 +6,28 @@ ghost use mathlib.Core.List.{List};
 ghost use Prim.Native.Nat.{ℕ};
 ghost use lib.ListN.{length};
 ghost use Rattle.model.specs.declared.Root.{Root};
-ghost use Rattle.model.specs.Steps.Split as Split;
+ghost use Rattle.model.specs.Steps.SplitLocks as SplitLocks;
 ghost use Rattle.records.specs.Words.{recordWords, seen, left, AtHand};
 ghost use Rattle.lock_requests.specs.Words.{CanLock};
 ghost use Rattle.endings.specs.Scratch.{HasScratch};
 ghost use Rattle.split_locks.specs.Leaving.{splitMade};
 use lock_requests::ROOT_WORD;
 use model::ChainAddress;
+use model::DAMAGE;
 use model::Mode;
 use model::Restructuring;
 use model::Root;
+use model::SPLIT_MADE;
 use model::StepAnswer;
 use records::CHAIN;
-use records::DAMAGE;
 use records::OLD;
 use records::OTHER;
 use records::OWED;
 
-// "restructure owed (0 none, 1 split, 2 merge, 3 split made)".
-const SPLIT_MADE: u32 = 3;
-
 // "15 request selective on root."
 pub fn step_15(party: &mut [u32], q: u32, locks: &mut [u32]) -> StepAnswer
     requires { ⌜ CanLock (now party) q (now locks) ⌝ }
-    ensures { λ a. ⌜ ((r : Root) (ps : List ℕ) → left a r (now (party .exit)) q (now (locks .exit)) ps ≡ Split.step15 (seen r (now (party .entry)) q (now (locks .entry)) ps)) ⌝ }
+    ensures { λ a. ⌜ ((r : Root) (ps : List ℕ) → left a r (now (party .exit)) q (now (locks .exit)) ps ≡ SplitLocks.step15 (seen r (now (party .entry)) q (now (locks .entry)) ps)) ⌝ }
 {
     lock_requests::request_step(party, q, locks, ROOT_WORD, Mode::Selective, 16)
 }
@@ -43,9 +41,9 @@ pub fn step_16(
     pages: &mut [u32],
 ) -> StepAnswer
     requires { ⌜ AtHand root (now party) q (now locks) (now pages) ⌝ }
-    ensures { λ a. ⌜ left a root (now (party .exit)) q (now (locks .exit)) (now (pages .exit)) ≡ Split.step16 (seen root (now (party .entry)) q (now (locks .entry)) (now (pages .entry))) ⌝ }
+    ensures { λ a. ⌜ left a root (now (party .exit)) q (now (locks .exit)) (now (pages .exit)) ≡ SplitLocks.step16 (seen root (now (party .entry)) q (now (locks .entry)) (now (pages .entry))) ⌝ }
 {
-    if addressing::split_barred(root) {
+    if addresses::split_barred(root) {
         let made = Restructuring::SplitSkipped;
         return last_locks::ended_with_root(root, party, q, locks, pages, Mode::Selective, made);
     }
@@ -54,7 +52,7 @@ pub fn step_16(
         return StepAnswer::Waiting;
     }
     party[CHAIN] = root.next;
-    party[OTHER] = addressing::chain_count(root);
+    party[OTHER] = addresses::chain_count(root);
     records::at_step(party, 17);
     StepAnswer::Moved
 }
@@ -62,7 +60,7 @@ pub fn step_16(
 // "19 give up the chain."
 pub fn step_19(party: &mut [u32], q: u32, locks: &mut [u32]) -> StepAnswer
     requires { ⌜ CanLock (now party) q (now locks) ⌝ }
-    ensures { λ a. ⌜ ((r : Root) (ps : List ℕ) → left a r (now (party .exit)) q (now (locks .exit)) ps ≡ Split.step19 (seen r (now (party .entry)) q (now (locks .entry)) ps)) ⌝ }
+    ensures { λ a. ⌜ ((r : Root) (ps : List ℕ) → left a r (now (party .exit)) q (now (locks .exit)) ps ≡ SplitLocks.step19 (seen r (now (party .entry)) q (now (locks .entry)) ps)) ⌝ }
 {
     let word = lock_requests::chain_word(ChainAddress(party[CHAIN]));
     lock_requests::release_step(party, q, locks, word, Mode::Selective, 20)
@@ -91,7 +89,7 @@ pub fn step_22(
     pages: &mut [u32],
 ) -> StepAnswer
     requires { ⌜ AtHand root (now party) q (now locks) (now pages) ⌝ }
-    ensures { λ a. ⌜ left a root (now (party .exit)) q (now (locks .exit)) (now (pages .exit)) ≡ Split.step22 (seen root (now (party .entry)) q (now (locks .entry)) (now (pages .entry))) ⌝ }
+    ensures { λ a. ⌜ left a root (now (party .exit)) q (now (locks .exit)) (now (pages .exit)) ≡ SplitLocks.step22 (seen root (now (party .entry)) q (now (locks .entry)) (now (pages .entry))) ⌝ }
 {
     if !lock_requests::give_up(locks, ROOT_WORD, q, Mode::Selective) {
         return StepAnswer::Refused(DAMAGE);

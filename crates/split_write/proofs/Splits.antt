@@ -6,7 +6,7 @@ use Rattle.model.specs.declared.Party.{Party}
 use Rattle.model.specs.Records.{atStep, withNext, withLevel}
 use Rattle.model.specs.Addresses.{splitNext, splitLevel}
 use Rattle.model.specs.Outcome.{View, withRoot, withParty, moved}
-use Rattle.model.specs.Steps.Split.{step20, step21}
+use Rattle.model.specs.Steps.SplitWrite.{step20, step21}
 
 module _ (v : View) {p : Party} where
   pub next-moved : {n : ℕ} → n ≡ splitNext (v .root .originals) (v .root .level) (v .root .next) → p ≡ atStep 21 (v .party)

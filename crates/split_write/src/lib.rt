@@ -3,7 +3,7 @@
 
 ghost use mathlib.Core.Path.{_≡_};
 ghost use lib.ListN.{length};
-ghost use Rattle.model.specs.Steps.Split as Split;
+ghost use Rattle.model.specs.Steps.SplitWrite as SplitWrite;
 ghost use Rattle.records.specs.Words.{recordWords, rootIn, seen, left, AtHand};
 use model::Root;
 use model::StepAnswer;
@@ -19,7 +19,7 @@ pub fn step_18(
     pages: &mut [u32],
 ) -> StepAnswer
     requires { ⌜ AtHand root (now party) q (now locks) (now pages) ⌝ }
-    ensures { λ a. ⌜ left a root (now (party .exit)) q (now (locks .exit)) (now (pages .exit)) ≡ Split.step18 (seen root (now (party .entry)) q (now (locks .entry)) (now (pages .entry))) ⌝ }
+    ensures { λ a. ⌜ left a root (now (party .exit)) q (now (locks .exit)) (now (pages .exit)) ≡ SplitWrite.step18 (seen root (now (party .entry)) q (now (locks .entry)) (now (pages .entry))) ⌝ }
 {
     scratch_pages::primary_written(root, party, q, pages, 19)
 }
@@ -33,10 +33,10 @@ pub fn step_20(
     pages: &mut [u32],
 ) -> StepAnswer
     requires { ⌜ (length (now root) ≡ recordWords) × AtHand (rootIn (now root)) (now party) q (now locks) (now pages) ⌝ }
-    ensures { λ a. ⌜ left a (rootIn (now (root .exit))) (now (party .exit)) q (now (locks .exit)) (now (pages .exit)) ≡ Split.step20 (seen (rootIn (now (root .entry))) (now (party .entry)) q (now (locks .entry)) (now (pages .entry))) ⌝ }
+    ensures { λ a. ⌜ left a (rootIn (now (root .exit))) (now (party .exit)) q (now (locks .exit)) (now (pages .exit)) ≡ SplitWrite.step20 (seen (rootIn (now (root .entry))) (now (party .entry)) q (now (locks .entry)) (now (pages .entry))) ⌝ }
 {
     let r = records::root_of(&root[..]);
-    root[NEXT] = addressing::split_next(r);
+    root[NEXT] = addresses::split_next(r);
     records::at_step(party, 21);
     StepAnswer::Moved
 }
@@ -50,10 +50,10 @@ pub fn step_21(
     pages: &mut [u32],
 ) -> StepAnswer
     requires { ⌜ (length (now root) ≡ recordWords) × AtHand (rootIn (now root)) (now party) q (now locks) (now pages) ⌝ }
-    ensures { λ a. ⌜ left a (rootIn (now (root .exit))) (now (party .exit)) q (now (locks .exit)) (now (pages .exit)) ≡ Split.step21 (seen (rootIn (now (root .entry))) (now (party .entry)) q (now (locks .entry)) (now (pages .entry))) ⌝ }
+    ensures { λ a. ⌜ left a (rootIn (now (root .exit))) (now (party .exit)) q (now (locks .exit)) (now (pages .exit)) ≡ SplitWrite.step21 (seen (rootIn (now (root .entry))) (now (party .entry)) q (now (locks .entry)) (now (pages .entry))) ⌝ }
 {
     let r = records::root_of(&root[..]);
-    root[LEVEL] = addressing::split_level(r);
+    root[LEVEL] = addresses::split_level(r);
     records::at_step(party, 22);
     StepAnswer::Moved
 }

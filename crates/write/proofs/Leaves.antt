@@ -11,9 +11,11 @@ use Rattle.model.specs.declared.Party.{Party}
 use Rattle.model.specs.declared.Mode.the-variants.{Selective}
 use Rattle.model.specs.Records.{atStep}
 use Rattle.model.specs.LockWords.{claim, chainWord, holds}
-use Rattle.model.specs.Outcome.{View, withParty, refuse, damage, guarded, moved, heldAll, withoutHold, givenUp}
+use Rattle.model.specs.Outcome.{View, withParty, refuse, damage, guarded, moved}
+use Rattle.model.specs.LockRequests.{heldAll, withoutHold, givenUp}
 use Rattle.model.specs.Ready.{viewing}
-use Rattle.model.specs.Steps.Change.{isChange, oldPagesFirst, onward, finished, step12}
+use Rattle.model.specs.Steps.Write.{isChange, step12}
+use Rattle.model.specs.Endings.{oldPagesFirst, onward, finished}
 use Rattle.lock_requests.specs.Words.{leftAfter}
 use Rattle.lock_requests.proofs.Releases.{held-goes-on, not-held-refused}
 use Rattle.write.specs.Leaving.{afterLeaving}

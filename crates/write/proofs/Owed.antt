@@ -4,7 +4,7 @@ use mathlib.Core.Path.{_≡_, refl}
 use borrow.Author.Tests.{eq-eqb, ne-eqb}
 use Rattle.model.specs.Records.{atStep}
 use Rattle.model.specs.Outcome.{View, withParty, moved}
-use Rattle.model.specs.Steps.Change.{onward, finished}
+use Rattle.model.specs.Endings.{onward, finished}
 
 module _ (v : View) where
   pub owed-split-moves : v .party .owed ≡ 1 → moved (withParty (atStep 15 (v .party)) v) ≡ onward v

@@ -2,7 +2,8 @@
 -- Main definition: afterLeaving.
 use mathlib.Core.Bool.{cond}
 use Rattle.model.specs.Outcome.{View, Outcome}
-use Rattle.model.specs.Steps.Change.{isChange, oldPagesFirst, onward, finished}
+use Rattle.model.specs.Steps.Write.{isChange}
+use Rattle.model.specs.Endings.{oldPagesFirst, onward, finished}
 
 -- Step 12 once the chain is given up.
 abbrev pub afterLeaving : View → Outcome

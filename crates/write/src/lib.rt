@@ -5,40 +5,35 @@ ghost use mathlib.Core.Path.{_≡_};
 ghost use mathlib.Core.List.{List};
 ghost use Prim.Native.Nat.{ℕ};
 ghost use lib.ListN.{length};
-ghost use Rattle.model.specs.Steps.Change as Change;
+ghost use Rattle.model.specs.Endings as Endings;
+ghost use Rattle.model.specs.Steps.Write as Write;
 ghost use Rattle.records.specs.Words.{recordWords, seen, left, AtHand};
 ghost use Rattle.endings.specs.Scratch.{HasScratch};
 ghost use Rattle.write.specs.Leaving.{afterLeaving};
 use model::ChainAddress;
+use model::DAMAGE;
+use model::DELETED;
+use model::INSERTED;
 use model::Mode;
+use model::OWES_MERGE;
+use model::OWES_SPLIT;
 use model::Root;
 use model::StepAnswer;
 use records::ANSWER;
 use records::CHAIN;
-use records::DAMAGE;
 use records::OLD;
 use records::OWED;
-
-// "answer so far (0 none, 1 inserted, 2 present, 3 deleted, 4 absent, 5 no page)".
-const INSERTED: u32 = 1;
-
-const DELETED: u32 = 3;
-
-// "restructure owed (0 none, 1 split, 2 merge, 3 split made)".
-const SPLIT: u32 = 1;
-
-const MERGE: u32 = 2;
 
 // "an owed split goes to 15 and an owed merge to 23; else the operation is done".
 pub fn onward(root: Root, party: &mut [u32], q: u32, pages: &mut [u32]) -> StepAnswer
     requires { ⌜ (length (now party) ≡ recordWords) × HasScratch root q (now pages) ⌝ }
-    ensures { λ a. ⌜ ((ls : List ℕ) → left a root (now (party .exit)) q ls (now (pages .exit)) ≡ Change.onward (seen root (now (party .entry)) q ls (now (pages .entry)))) ⌝ }
+    ensures { λ a. ⌜ ((ls : List ℕ) → left a root (now (party .exit)) q ls (now (pages .exit)) ≡ Endings.onward (seen root (now (party .entry)) q ls (now (pages .entry)))) ⌝ }
 {
-    if party[OWED] == SPLIT {
+    if party[OWED] == OWES_SPLIT {
         records::at_step(party, 15);
         return StepAnswer::Moved;
     }
-    if party[OWED] == MERGE {
+    if party[OWED] == OWES_MERGE {
         records::at_step(party, 23);
         return StepAnswer::Moved;
     }
@@ -54,14 +49,14 @@ pub fn step_11(
     pages: &mut [u32],
 ) -> StepAnswer
     requires { ⌜ AtHand root (now party) q (now locks) (now pages) ⌝ }
-    ensures { λ a. ⌜ left a root (now (party .exit)) q (now (locks .exit)) (now (pages .exit)) ≡ Change.step11 (seen root (now (party .entry)) q (now (locks .entry)) (now (pages .entry))) ⌝ }
+    ensures { λ a. ⌜ left a root (now (party .exit)) q (now (locks .exit)) (now (pages .exit)) ≡ Write.step11 (seen root (now (party .entry)) q (now (locks .entry)) (now (pages .entry))) ⌝ }
 {
     scratch_pages::primary_written(root, party, q, pages, 12)
 }
 
 // Whether an answer so far is "inserted or deleted".
 fn is_change(answer: u32) -> bool
-    ensures { λ r. ⌜ r ≡ Change.isChange answer ⌝ }
+    ensures { λ r. ⌜ r ≡ Write.isChange answer ⌝ }
 {
     answer == INSERTED || answer == DELETED
 }
@@ -90,7 +85,7 @@ pub fn step_12(
     pages: &mut [u32],
 ) -> StepAnswer
     requires { ⌜ AtHand root (now party) q (now locks) (now pages) ⌝ }
-    ensures { λ a. ⌜ left a root (now (party .exit)) q (now (locks .exit)) (now (pages .exit)) ≡ Change.step12 (seen root (now (party .entry)) q (now (locks .entry)) (now (pages .entry))) ⌝ }
+    ensures { λ a. ⌜ left a root (now (party .exit)) q (now (locks .exit)) (now (pages .exit)) ≡ Write.step12 (seen root (now (party .entry)) q (now (locks .entry)) (now (pages .entry))) ⌝ }
 {
     let word = lock_requests::chain_word(ChainAddress(party[CHAIN]));
     if !lock_requests::give_up(locks, word, q, Mode::Selective) {

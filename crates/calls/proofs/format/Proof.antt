@@ -1,7 +1,7 @@
 -- `calls::format` meets its contract.
 use mathlib.Core.Path.{sym, _∙_}
 use Rattle.model.specs.Records.{rootOfSizes}
-use Rattle.format_memory.proofs.Accepted.{can-format, row-fits}
+use Rattle.memory.proofs.Accepted.{can-format, row-fits}
 use Rattle.calls.proofs.Calling.{format-refused, format-formatted}
 use borrow.Author.Needs.{needs}
 use Rattle.calls.proofs.format.Statement.{statement}

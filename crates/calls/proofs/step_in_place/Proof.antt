@@ -5,8 +5,8 @@ use lib.ListN.{length}
 use Rattle.model.specs.declared.Root.{Root}
 use Rattle.model.specs.declared.Party.{Party}
 use Rattle.records.specs.Words.{rootIn, partyIn}
-use Rattle.gates.specs.Causes.{stepCause}
-use Rattle.gates.proofs.Accepted.{ready}
+use Rattle.refusals.specs.Causes.{stepCause}
+use Rattle.refusals.proofs.Accepted.{ready}
 use Rattle.calls.proofs.Calling.{step-refused, step-stepped}
 use borrow.Author.Needs.{needs}
 use Rattle.calls.proofs.step_in_place.Statement.{statement}

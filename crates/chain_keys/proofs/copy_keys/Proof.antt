@@ -4,7 +4,7 @@ use Prim.Native.Nat.{ℕ, _+_, _-_, _≤_, _<_}
 use native.Mathlib.Omega.{arith}
 use mathlib.Core.List.{[], _++_, append-nil}
 use lib.ListN.{length, take, drop, length-set}
-use Rattle.model.specs.Sizes.{pageWords, mostKeys}
+use Rattle.model.specs.Sizes.{pageWords, mostRecords}
 use Rattle.model.specs.Pages.{countOf}
 use Rattle.chain_keys.proofs.Copying.{key-copied, keys-copied}
 use borrow.Author.Needs.{needs}
@@ -13,10 +13,10 @@ use Rattle.chain_keys.proofs.copy_keys.Tie as tie
 
 abbrev Inv-loop : tie.InvT-loop
 Inv-loop keys₀ at w n i₀ keys i =
-    (n ≡ countOf w) × (length w ≡ pageWords) × (i ≤ mostKeys) × (length keys ≡ length keys₀) × (take (at + i) keys ≡ take at keys₀ ++ take i (drop 3 w))
+    (n ≡ countOf w) × (length w ≡ pageWords) × (i ≤ mostRecords) × (length keys ≡ length keys₀) × (take (at + i) keys ≡ take at keys₀ ++ take i (drop 3 w))
 
 abbrev μ-loop : tie.MeasureT-loop
-μ-loop keys₀ at w n i₀ keys i = mostKeys - i
+μ-loop keys₀ at w n i₀ keys i = mostRecords - i
 
 count-of-requires : tie.Need-count-of-requires Inv-loop μ-loop
 count-of-requires c κs = search needs

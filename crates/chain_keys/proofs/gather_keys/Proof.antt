@@ -4,7 +4,7 @@ use Prim.Native.Nat.{ℕ, _+_, _-_, _*_, _≤_}
 use native.Mathlib.Omega.{arith}
 use mathlib.Core.List.{List, _++_}
 use lib.ListN.{length, take}
-use Rattle.model.specs.Sizes.{mostKeys}
+use Rattle.model.specs.Sizes.{mostRecords}
 use Rattle.model.specs.Pages.{pageOf, countOf, linkOf, entriesOf}
 use Rattle.chain_keys.specs.Gathering.{entriesFrom, Followed}
 use Rattle.chain_keys.proofs.Following.{next-page, page-gathered, all-gathered}
@@ -14,7 +14,7 @@ use Rattle.chain_keys.proofs.gather_keys.Tie as tie
 
 abbrev Inv-loop : tie.InvT-loop
 Inv-loop n pages keys₀ at₀ l₀ left₀ keys at l left =
-    (at + mostKeys * left ≤ length keys) × (length keys ≡ length keys₀) × Followed pages left l
+    (at + mostRecords * left ≤ length keys) × (length keys ≡ length keys₀) × Followed pages left l
     × (take at₀ keys₀ ++ entriesFrom pages left₀ l₀ ≡ take at keys ++ entriesFrom pages left l)
 
 abbrev μ-loop : tie.MeasureT-loop

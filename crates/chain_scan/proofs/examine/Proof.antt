@@ -3,7 +3,7 @@ use mathlib.Core.Path.{_≡_, sym, ap, _∙_}
 use Prim.Native.Nat.{_+_, _-_, _*_, _≤_}
 use native.Mathlib.Omega.{arith}
 use lib.ListN.{length}
-use Rattle.model.specs.Sizes.{pageWords, mostKeys}
+use Rattle.model.specs.Sizes.{pageWords, mostRecords}
 use Rattle.model.specs.Entries.{hasKey}
 use Rattle.model.specs.Pages.{pageOf, countOf, linkOf, entriesOf}
 use Rattle.chain_keys.specs.Gathering.{Followed, entriesFrom}
@@ -17,7 +17,7 @@ use Rattle.chain_scan.proofs.examine.Tie as tie
 
 abbrev Inv-loop : tie.InvT-loop
 Inv-loop first n key pages l₀ left₀ floor₀ count₀ found₀ l left floor count found =
-    Followed pages left l × (count + mostKeys * left ≤ mostKeys * (n + 1)) × (examined key n (entriesFrom pages (n + 1) first) ≡ resumed key n floor count found (entriesFrom pages left l))
+    Followed pages left l × (count + mostRecords * left ≤ mostRecords * (n + 1)) × (examined key n (entriesFrom pages (n + 1) first) ≡ resumed key n floor count found (entriesFrom pages left l))
 
 abbrev μ-loop : tie.MeasureT-loop
 μ-loop first n key pages l₀ left₀ floor₀ count₀ found₀ l left floor count found = left
@@ -104,7 +104,7 @@ loop-again c =
     let w = loaded .load .result in
     let page : w ≡ pageOf ps (l .l - 1) = loaded .load .ensures in
     let next = next-page ps more (l .inv .0) in
-    let few : countOf w ≤ mostKeys = omega (arith, next .few, ap countOf page) in
+    let few : countOf w ≤ mostRecords = omega (arith, next .few, ap countOf page) in
     let sixteen : length w ≡ pageWords = search needs in
     let counted : c .before .before .count-of .result ≡ countOf w = c .before .before .count-of .ensures in
     let asked : c .before .has-key .result ≡ hasKey (a .key) (entriesOf w) = c .before .has-key .ensures in

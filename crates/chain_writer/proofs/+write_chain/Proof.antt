@@ -16,7 +16,7 @@ use Rattle.chain_writer.proofs.write_chain.Kinds as kinds
 use Rattle.chain_writer.proofs.+write_chain.Lts-write_chain as lts
 use Rattle.free_list.proofs.link_at.Reads as link-at-reads
 use Rattle.chain_writer.proofs.page_of.Reads as page-of-reads
-use Rattle.page_io.proofs.store.Reads as store-reads
+use Rattle.pages.proofs.store.Reads as store-reads
 use Rattle.chain_writer.proofs.+write_chain.{statement}
 use Rattle.chain_writer.proofs.+write_chain.Tie.{close}
 

@@ -5,7 +5,7 @@ use native.Mathlib.Omega.{arith}
 use lib.ListN.{length, take, drop, length-set, length-drop}
 use Rattle.model.specs.Sizes.{pageWords}
 use Rattle.key_source.specs.Sources.{Sits, CanChoose, keysOf}
-use Rattle.page_fill.proofs.PageWords.{wordsAfter}
+use Rattle.filling.proofs.PageWords.{wordsAfter}
 use Rattle.chain_writer.proofs.MadePages.{none-put, key-put, key-passed, page-made}
 use borrow.Author.Needs.{needs}
 use Rattle.chain_writer.proofs.page_of.Statement.{statement}

@@ -2,7 +2,7 @@
 use mathlib.Core.Path.{_≡_, refl, sym, ap, _∙_}
 use Prim.Native.Nat.{ℕ, _+_, _-_}
 use native.Mathlib.Omega.{arith}
-use Rattle.model.specs.Steps.Locate.{chase}
+use Rattle.model.specs.Steps.Chase.{chase}
 use borrow.Author.Needs.{needs}
 use Rattle.chase.proofs.Chasing.{chase-ends, chase-leaves, chase-goes-on}
 use Rattle.chase.proofs.chase.Statement.{statement}

@@ -5,7 +5,7 @@ use native.Mathlib.Omega.{arith}
 use Prim.Native.Nat.{ℕ, _-_, _≤_, _<_}
 use borrow.Author.Tests.{not-true, not-false}
 use Rattle.model.specs.Pages.{withPage, levelOf, pageSound, mostLevel}
-use Rattle.model.specs.Steps.Locate.{chase}
+use Rattle.model.specs.Steps.Chase.{chase}
 use Rattle.records.specs.Words.{partyIn}
 use Rattle.chains.proofs.Tests.{sound-page-levels}
 use Rattle.chase.proofs.PageTests.{unsound-refused, level-below-refused, chain-beyond-refused, all-sound-moves}

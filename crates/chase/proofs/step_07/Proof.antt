@@ -1,5 +1,5 @@
 -- `chase::step_07` meets its contract: what request_chain ensures.
-use Rattle.model.specs.Steps.Locate.{step07}
+use Rattle.model.specs.Steps.Chase.{step07}
 use borrow.Author.Needs.{needs}
 use Rattle.chase.proofs.step_07.Statement.{statement}
 use Rattle.chase.proofs.step_07.Tie as tie

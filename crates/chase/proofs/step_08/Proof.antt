@@ -1,6 +1,6 @@
 -- `chase::step_08` meets its contract: what release_step ensures, at the word and the mode worked out.
 use mathlib.Core.Path.{refl}
-use Rattle.model.specs.Steps.Locate.{step08}
+use Rattle.model.specs.Steps.Chase.{step08}
 use Rattle.lock_requests.proofs.Releases.{release-on-equals}
 use borrow.Author.Needs.{needs}
 use Rattle.chase.proofs.step_08.Statement.{statement}

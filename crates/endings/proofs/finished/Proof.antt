@@ -1,5 +1,5 @@
 -- `endings::finished` meets its contract.
-use Rattle.model.specs.Steps.Change.{finished}
+use Rattle.model.specs.Endings.{finished}
 use Rattle.records.specs.Words.{partyIn}
 use borrow.Author.Needs.{needs}
 use Rattle.endings.proofs.finished.Statement.{statement}

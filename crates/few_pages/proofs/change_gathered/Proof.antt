@@ -6,9 +6,9 @@ use lib.ListN.{length}
 use borrow.Author.Tests.{not-true, not-false}
 use Rattle.model.specs.Entries.{ascending}
 use Rattle.model.specs.Ready.{viewing}
-use Rattle.model.specs.Steps.Change.{kept}
+use Rattle.model.specs.Steps.Rebuild.{kept}
 use Rattle.model.proofs.Laws.Lists.{front-part}
-use Rattle.key_lists.specs.Places.{placeOf}
+use Rattle.entries.specs.Places.{placeOf}
 use Rattle.chain_change.proofs.Changes.{chain-refused, change-kept, key-present, key-absent}
 use Rattle.few_pages.proofs.Gathers.{front-length, front-ascends, front-few, front-has, chain-has, place-before, inserted-there, deleted-there}
 use borrow.Author.Needs.{needs}

@@ -9,7 +9,7 @@ use Rattle.model.specs.Chains.{damaged, sound}
 use Rattle.model.specs.Filling.{pagesFor, primaryOf, overflowWritten}
 use Rattle.model.specs.FreeList.{Taken, pagesTaken}
 use Rattle.model.specs.Ready.{viewing}
-use Rattle.model.specs.Steps.Change.{changed, changeOf, owedBy}
+use Rattle.model.specs.Steps.Rebuild.{changed, changeOf, owedBy}
 use Rattle.model.proofs.Laws.Lists.{front-part}
 use Rattle.free_list.specs.declared.Drawn.{Drawn}
 use Rattle.free_list.specs.Taking.{drawnAs}
@@ -35,7 +35,7 @@ returns c = λ ls ch found el en made.
     let start = at-pages-for .before .before .before in
     let a = start .args in
     let v = viewing (a .root) (a .party) (a .q) ls (a .pages .now) in
-    let many : at-pages-for .pages-for .result ≡ pagesFor (a .root .keys) (a .keys .now) = at-pages-for .pages-for .ensures in
+    let many : at-pages-for .pages-for .result ≡ pagesFor (a .root .capacity) (a .keys .now) = at-pages-for .pages-for .ensures in
     no-page-answered v ch found (changedAnswer (a .party .operation)) (a .keys .now) made (at-pages-for .pages-for .result) many (c .if1 .taken)
 
 slice-aggregate-take-pages : tie.Need-slice-aggregate-take-pages
@@ -46,7 +46,7 @@ take-pages-requires c κs =
     let at-pages-for = c .before .before .before .before in
     let start = at-pages-for .before .before .before in
     let can = start .pre in
-    let few = few-pages (start .args .root .keys) (length (start .args .keys .now)) (can .can-change .some-key) (can .few) in
+    let few = few-pages (start .args .root .capacity) (length (start .args .keys .now)) (can .can-change .some-key) (can .few) in
     (can .can-change .pages-fit, can .can-change .overflow-fits, omega (arith, few, at-pages-for .pages-for .ensures))
 
 enum-told : tie.Need-enum-told
@@ -70,7 +70,7 @@ part-write-chain-end c =
     let at-pages-for = at-take-pages .before .before .before .before .before in
     let start = at-pages-for .before .before .before in
     let can = start .pre in
-    let few = few-pages (start .args .root .keys) (length (start .args .keys .now)) (can .can-change .some-key) (can .few) in
+    let few = few-pages (start .args .root .capacity) (length (start .args .keys .now)) (can .can-change .some-key) (can .few) in
     omega (arith, few, at-pages-for .pages-for .ensures, at-take-pages .take-pages .kept .1 .1 .1 .0)
 
 write-chain-requires : tie.Need-write-chain-requires
@@ -120,7 +120,7 @@ returns-2 c = λ ls ch found el en made.
     let count = at-pages-for .pages-for .result in
     let xs = take count (at-take-pages .take-pages .last .1 .1 .1 .0) in
     let v = viewing (a .root) (a .party) (a .q) ls (a .pages .now) in
-    let many : count ≡ pagesFor (a .root .keys) (a .keys .now) = at-pages-for .pages-for .ensures in
+    let many : count ≡ pagesFor (a .root .capacity) (a .keys .now) = at-pages-for .pages-for .ensures in
     let bad : pagesTaken (a .root) (a .pages .now) count ≡ damaged = sym (at-take-pages .take-pages .ensures) ∙ ap (λ (d : Drawn). drawnAs d xs) (c .enum-told .given .1) in
     free-list-damaged v ch found (changedAnswer (a .party .operation)) (a .keys .now) made count many (at-if1 .if1 .left) bad
 
@@ -145,7 +145,7 @@ returns-3 c = λ ls ch found el en made.
     let taken : pagesTaken (a .root) (a .pages .now) count ≡ sound t
     = sym (at-take-pages .take-pages .ensures) ∙ ap (λ (d : Drawn). drawnAs d (take count xs)) (at-head .head .given .1) in
     let part = front-part count xs in
-    let b = a .root .keys in
+    let b = a .root .capacity in
     let es = a .keys .now in
     let v = viewing (a .root) (a .party) (a .q) ls (a .pages .now) in
     let answer = at-changed-answer .changed-answer .result in

@@ -65,7 +65,7 @@ loop-again c =
     let l = c .before .before .before .before .before .before .before .before .before .loop in
     let more = c .before .before .before .before .before .before .before .before .loop-test .taken in
     let stored = c .before .before .before .store in
-    let fits : pageWords * (a .root .chains + a .root .overflow) ≤ length (l .pages) = omega arith in (
+    let fits : pageWords * (a .root .primaries + a .root .overflow) ≤ length (l .pages) = omega arith in (
       stored .kept .0 ∙ l .inv .0,
       one-given (a .root) _ (l .pages) (l .head) (l .left) more (l .l) fits (l .inv .1)
           (stored .ensures ∙ ap (λ (w : List ℕ). withPage (l .pages) (l .l - 1) w) (c .before .before .before .before .before .free-page .ensures))

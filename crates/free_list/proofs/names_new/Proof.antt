@@ -18,10 +18,10 @@ names-overflow-requires c κs = search needs
 named : (c : tie.Then1) → namesOverflow (c .before .before .before .args .root) (c .before .before .before .args .l) ≡ true
 named c = sym (c .before .names-overflow .ensures) ∙ c .if1 .taken
 
-within : (c : tie.Then1) → c .before .before .before .args .root .chains < c .before .before .before .args .l
+within : (c : tie.Then1) → c .before .before .before .args .root .primaries < c .before .before .before .args .l
 within c = named-within _ _ (named c) .0
 
-has-bit : (c : tie.Then1) → c .before .before .before .args .l - 1 - c .before .before .before .args .root .chains < 32 * length (c .before .before .before .args .marks .now)
+has-bit : (c : tie.Then1) → c .before .before .before .args .l - 1 - c .before .before .before .args .root .primaries < 32 * length (c .before .before .before .args .marks .now)
 has-bit c = let w = named-within _ _ (named c) in omega (arith, w .0, w .1, c .before .before .before .pre)
 
 sub-v : tie.Need-sub-v

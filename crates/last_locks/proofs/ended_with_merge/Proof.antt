@@ -4,7 +4,7 @@ use mathlib.Core.List.{List, [], _∷_}
 use Prim.Native.Nat.{ℕ}
 use Rattle.model.specs.declared.Mode.the-variants.{Exclusive}
 use Rattle.model.specs.LockWords.{Claim, claim, rootWord}
-use Rattle.model.specs.Steps.Split.{endedWith}
+use Rattle.model.specs.Endings.{endedWith}
 use Rattle.records.specs.Words.{partyIn, seen}
 use Rattle.endings.proofs.Scratching.{ready-has-scratch}
 use Rattle.last_locks.proofs.Ended.{unheld-refused, held-ends, first-unheld, first-held, none-unheld, none-left, first-left}

@@ -4,7 +4,8 @@ use mathlib.Core.List.{List, [], _∷_}
 use Prim.Native.Nat.{ℕ}
 use Rattle.model.specs.declared.Mode.the-variants.{Selective}
 use Rattle.model.specs.LockWords.{Claim, claim}
-use Rattle.model.specs.Steps.Split.{rootSelective, endedWith}
+use Rattle.model.specs.LockRequests.{rootSelective}
+use Rattle.model.specs.Endings.{endedWith}
 use Rattle.records.specs.Words.{partyIn, seen}
 use Rattle.last_locks.proofs.Ended.{unheld-refused, held-ends, first-unheld, first-held, none-unheld, none-left, first-left}
 use borrow.Author.Needs.{needs}

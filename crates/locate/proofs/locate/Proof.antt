@@ -2,7 +2,7 @@
 use mathlib.Core.Path.{ap, _∙_}
 use Prim.Native.Nat.{ℕ}
 use Rattle.model.specs.Addresses.{hash, addressOf}
-use Rattle.addressing.proofs.Limits.{below-next-raises, else-not-raised}
+use Rattle.addresses.proofs.Limits.{below-next-raises, else-not-raised}
 use borrow.Author.Needs.{needs}
 use Rattle.locate.proofs.locate.Statement.{statement}
 use Rattle.locate.proofs.locate.Tie as tie

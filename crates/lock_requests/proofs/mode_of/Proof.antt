@@ -2,7 +2,7 @@
 use mathlib.Core.Path.{refl}
 use borrow.Author.Needs.{needs}
 use borrow.Author.Tests.{eq-eqb, ne-eqb}
-use Rattle.model.specs.Steps.Locate.{modeOf}
+use Rattle.model.specs.LockRequests.{modeOf}
 use Rattle.lock_requests.proofs.mode_of.Statement.{statement}
 use Rattle.lock_requests.proofs.mode_of.Tie as tie
 

@@ -3,7 +3,7 @@ use mathlib.Core.Path.{_∙_}
 use borrow.Author.Needs.{needs}
 use Rattle.model.specs.Records.{atStep}
 use Rattle.model.specs.Outcome.{moved, withParty}
-use Rattle.model.specs.Steps.Locate.{release}
+use Rattle.model.specs.LockRequests.{release}
 use Rattle.records.specs.Words.{partyIn}
 use Rattle.records.proofs.Words.{party-is}
 use Rattle.lock_requests.proofs.Releases.{held-goes-on, not-held-refused}

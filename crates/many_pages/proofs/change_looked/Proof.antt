@@ -4,8 +4,8 @@ use native.Mathlib.Omega.{arith}
 use borrow.Author.Tests.{not-true, not-false}
 use Rattle.model.specs.Chains.{chainOf}
 use Rattle.model.specs.Ready.{viewing}
-use Rattle.model.specs.Steps.Change.{kept}
-use Rattle.key_lists.proofs.Places.{place-inside}
+use Rattle.model.specs.Steps.Rebuild.{kept}
+use Rattle.entries.proofs.Places.{place-inside}
 use Rattle.key_source.specs.declared.Choice.the-variants.{With}
 use Rattle.key_source.proofs.Choices.{with-length}
 use Rattle.chain_change.proofs.Changes.{change-kept, key-present, key-absent}

@@ -8,7 +8,7 @@ use Rattle.model.specs.Filling.{overflowNeeded, pagesFor}
 use Rattle.model.specs.FreeList.{Taken}
 use Rattle.model.specs.Ready.{viewing}
 use Rattle.model.specs.Pages.{scratchPage}
-use Rattle.model.specs.Steps.Change.{changed, changeOf, owedBy}
+use Rattle.model.specs.Steps.Rebuild.{changed, changeOf, owedBy}
 use Rattle.free_list.specs.Taking.{linkedPages}
 use Rattle.free_list.proofs.Linked.{head-drawn, damage-drawn, taken-drawn}
 use Rattle.key_source.specs.declared.Source.{Source}
@@ -38,7 +38,7 @@ returns c = λ ls.
     let v = viewing (a .root) (a .party) (a .q) ls (a .pages .now) in
     let es = chosen (a .choice) (d .entries) in
     let k = at-pages-for .pages-for .result in
-    let many : k ≡ pagesFor (a .root .keys) es = at-pages-for .pages-for .ensures ∙ ap (overflowNeeded (a .root .keys)) (sym (start .pre .many)) in
+    let many : k ≡ pagesFor (a .root .capacity) es = at-pages-for .pages-for .ensures ∙ ap (overflowNeeded (a .root .capacity)) (sym (start .pre .many)) in
     no-page-answered v d (start .pre .found) _ es (start .pre .made) k many (c .if1 .taken)
 
 cast-taken : tie.Need-cast-taken
@@ -115,7 +115,7 @@ returns-2 c = λ ls.
     let v = viewing (a .root) (a .party) (a .q) ls (a .pages .now) in
     let es = chosen (a .choice) (d .entries) in
     let k = at-pages-for .pages-for .result in
-    let many : k ≡ pagesFor (a .root .keys) es = at-pages-for .pages-for .ensures ∙ ap (overflowNeeded (a .root .keys)) (sym (start .pre .many)) in
+    let many : k ≡ pagesFor (a .root .capacity) es = at-pages-for .pages-for .ensures ∙ ap (overflowNeeded (a .root .capacity)) (sym (start .pre .many)) in
     let bad = damage-drawn (a .root) (a .pages .now) k (sym (c .enum-told .given .1) ∙ at-draw .draw .ensures) in
     free-list-damaged v d (start .pre .found) _ es (start .pre .made) k many (at-if1 .if1 .left) bad
 
@@ -141,7 +141,7 @@ returns-3 c = λ ls.
     let v = viewing (a .root) (a .party) (a .q) ls (a .pages .now) in
     let es = chosen (a .choice) (d .entries) in
     let k = at-pages-for .pages-for .result in
-    let many : k ≡ pagesFor (a .root .keys) es = at-pages-for .pages-for .ensures ∙ ap (overflowNeeded (a .root .keys)) (sym (start .pre .many)) in
+    let many : k ≡ pagesFor (a .root .capacity) es = at-pages-for .pages-for .ensures ∙ ap (overflowNeeded (a .root .capacity)) (sym (start .pre .many)) in
     let drawn-are = head-drawn (a .root) (a .pages .now) k (at-head .head .given .0 .0) (sym (at-head .head .given .1) ∙ at-draw .draw .ensures) in
     let place = at-first-place .first-place .result in
     let keys = keys-chosen (a .root) (a .q) (a .party .chain) (a .pages .now) can d (start .pre .found) (a .n) (start .pre .pages) (a .choice) place (at-first-place .first-place .ensures .2) in
@@ -149,10 +149,10 @@ returns-3 c = λ ls.
     let t : Taken = record { pages = linkedPages (a .pages .now) k (a .root .head); head = at-head .head .given .0 .0 } in
     let answer = at-changed-answer .changed-answer .result in
     let change : changed answer es ≡ changeOf (a .party .operation) (a .party .key) (d .entries) = ap (λ (n : ℕ). changed n es) (at-changed-answer .changed-answer .ensures) ∙ start .pre .made in
-    let whole : ℕ → ℕ → List Entry → ℕ → List ℕ = λ to level fs n. chainWritten (a .root .keys) (a .pages .now) to level fs (linkedPages (a .pages .now) n (a .root .head)) in
+    let whole : ℕ → ℕ → List Entry → ℕ → List ℕ = λ to level fs n. chainWritten (a .root .capacity) (a .pages .now) to level fs (linkedPages (a .pages .now) n (a .root .head)) in
     let level = at-level-at .level-at .ensures ∙ chain-level (a .root) (a .q) (a .party .chain) (a .pages .now) can d (start .pre .found) in
     let written : at-write-chain .write-chain .last .1 .1 .1 .1 .0 ≡ whole (scratchPage (a .root) (a .q)) (d .level) es k
-    = at-write-chain .write-chain .ensures ∙ ap₂ (λ (to level : ℕ). whole to level (keysOf (a .pages .now) source) (overflowNeeded (a .root .keys) (a .m))) (at-scratch-page .scratch-page .ensures) level ∙ ap₂ (whole (scratchPage (a .root) (a .q)) (d .level)) keys (sym (at-pages-for .pages-for .ensures)) in
+    = at-write-chain .write-chain .ensures ∙ ap₂ (λ (to level : ℕ). whole to level (keysOf (a .pages .now) source) (overflowNeeded (a .root .capacity) (a .m))) (at-scratch-page .scratch-page .ensures) level ∙ ap₂ (whole (scratchPage (a .root) (a .q)) (d .level)) keys (sym (at-pages-for .pages-for .ensures)) in
     let owed = c .owed-by .ensures es (start .pre .many) ∙ ap (λ (n : ℕ). owedBy (a .party .operation) n k es) (start .pre .pages) in
     change-written v d (start .pre .found) answer es change k many (at-if1 .if1 .left) t (c .owed-by .result) _ drawn-are (chain-link (a .root) (a .pages .now) (a .party .chain) d (start .pre .found)) owed written
 

@@ -1,11 +1,11 @@
 -- `merge_build::combine_both` meets its contract.
 use mathlib.Core.Path.{_≡_, sym, _∙_}
-use Rattle.model.specs.Steps.Merge.{pairOf}
+use Rattle.model.specs.Steps.MergeBuild.{pairOf}
 use Rattle.chains.specs.Walks.{counted}
 use Rattle.chains.specs.declared.Walked.the-variants as Walked
 use Rattle.chain_keys.specs.Gathering.{overflowOf}
 use Rattle.chain_keys.proofs.WholeChain.{unwalked-damaged}
-use Rattle.chain_join.proofs.Pairs.{target-damaged, partner-damaged}
+use Rattle.merge_join.proofs.Pairs.{target-damaged, partner-damaged}
 use Rattle.merge_build.proofs.Combines.{unsound-damaged}
 use borrow.Author.Needs.{needs}
 use Rattle.merge_build.proofs.combine_both.Statement.{statement}

@@ -2,7 +2,7 @@
 use mathlib.Core.Path.{_≡_}
 use native.Mathlib.Omega.{arith}
 use lib.ListN.{length, replicate}
-use Rattle.model.specs.Steps.Merge.{pairOf}
+use Rattle.model.specs.Steps.MergeBuild.{pairOf}
 use Rattle.merge_build.proofs.Combines.{can-join}
 use borrow.Author.Needs.{needs}
 use Rattle.merge_build.proofs.combine_few.Statement.{statement}

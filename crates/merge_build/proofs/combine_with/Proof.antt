@@ -4,7 +4,7 @@ use Prim.Native.Nat.{_-_}
 use native.Mathlib.Omega.{arith}
 use lib.ListN.{take}
 use borrow.Author.Tests.{not-true, not-false}
-use Rattle.model.specs.Steps.Merge.{joinedEntries}
+use Rattle.model.specs.Steps.MergeBuild.{joinedEntries}
 use Rattle.model.proofs.Laws.Lists.{front-part}
 use Rattle.merge_build.proofs.Combines.{front-need, unsound-damaged, too-few-skipped, unbuilt-damaged, built-made}
 use borrow.Author.Needs.{needs}
@@ -35,7 +35,7 @@ returns-2 c = λ p ls x joining.
     let both = joining .joined (not-false _ (at-if1 .if1 .left)) in
     let es = take (a .j .count - 0) (a .out .now) in
     let joins : es ≡ joinedEntries (both .pair) = front-part (a .j .count) (a .out .now) ∙ both .entries in
-    let many = front-need (a .root .keys) (a .j .count) (a .out .now) (both .fits) (at-pages-for .pages-for .ensures) in
+    let many = front-need (a .root .capacity) (a .j .count) (a .out .now) (both .fits) (at-pages-for .pages-for .ensures) in
     too-few-skipped (a .root) p (a .q) ls (a .pages .now) x (both .pair) (both .is-sound) es joins _ many (c .if2 .taken)
 
 sub-build-chain : tie.Need-sub-build-chain
@@ -58,7 +58,7 @@ build-chain-requires c κs =
     let start = at-if1 .before .before .before .before .before in
     let a = start .args in
     let can = start .pre in
-    let many = front-need (a .root .keys) (a .j .count) (a .out .now) (can .fits (not-false _ (at-if1 .if1 .left))) (at-pages-for .pages-for .ensures) in
+    let many = front-need (a .root .capacity) (a .j .count) (a .out .now) (can .fits (not-false _ (at-if1 .if1 .left))) (at-pages-for .pages-for .ensures) in
     (can .can-build, many, omega (arith, at-if2 .if2 .left, can .can-build .free-fits, can .can-build .overflow-fits, can .taken-room))
 
 enum-told : tie.Need-enum-told
@@ -90,7 +90,7 @@ returns-3 c = λ p ls x joining.
     let both = joining .joined (not-false _ (at-if1 .if1 .left)) in
     let es = take (a .j .count - 0) (a .out .now) in
     let joins : es ≡ joinedEntries (both .pair) = front-part (a .j .count) (a .out .now) ∙ both .entries in
-    let many = front-need (a .root .keys) (a .j .count) (a .out .now) (both .fits) (at-pages-for .pages-for .ensures) in
+    let many = front-need (a .root .capacity) (a .j .count) (a .out .now) (both .fits) (at-pages-for .pages-for .ensures) in
     unbuilt-damaged (a .root) p (a .q) ls (a .pages .now) x (both .pair) (both .is-sound) es joins _ many (at-if2 .if2 .left) (both .level) (at-build-chain .build-chain .ensures) (c .enum-told .given .1)
 
 same-length-3 : tie.Need-same-length-3
@@ -111,7 +111,7 @@ returns-4 c = λ p ls x joining.
     let both = joining .joined (not-false _ (at-if1 .if1 .left)) in
     let es = take (a .j .count - 0) (a .out .now) in
     let joins : es ≡ joinedEntries (both .pair) = front-part (a .j .count) (a .out .now) ∙ both .entries in
-    let many = front-need (a .root .keys) (a .j .count) (a .out .now) (both .fits) (at-pages-for .pages-for .ensures) in
+    let many = front-need (a .root .capacity) (a .j .count) (a .out .now) (both .fits) (at-pages-for .pages-for .ensures) in
     built-made (a .root) p (a .q) ls (a .pages .now) x (both .pair) (both .is-sound) es joins _ many (at-if2 .if2 .left) (both .level) (at-build-chain .build-chain .ensures) (at-head .head .given .1) refl (both .link)
 
 pub combine-with-spec : {M : Type 1} → statement M

@@ -4,10 +4,10 @@ use mathlib.Core.Bool.{false}
 use native.Mathlib.Omega.{arith}
 use lib.ListN.{length-set}
 use Rattle.model.specs.Records.{atStep}
-use Rattle.model.specs.Steps.Merge.{mergeStops}
+use Rattle.model.specs.Steps.MergeLocks.{mergeStops}
 use Rattle.records.specs.Words.{rootIn, seen}
 use Rattle.records.proofs.Words.{old-written, free-list-written, party-is, root-is}
-use Rattle.addressing.proofs.Limits.{ready-root-fits}
+use Rattle.addresses.proofs.Limits.{ready-root-fits}
 use Rattle.merge_build.proofs.Combines.{barred-refused, ending-is, ready-can-merge, still-at-hand}
 use borrow.Author.Needs.{needs}
 use Rattle.merge_build.proofs.step_26.Statement.{statement}

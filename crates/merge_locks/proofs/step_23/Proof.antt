@@ -1,5 +1,5 @@
 -- `merge_locks::step_23` meets its contract.
-use Rattle.model.specs.Steps.Merge.{step23}
+use Rattle.model.specs.Steps.MergeLocks.{step23}
 use borrow.Author.Needs.{needs}
 use Rattle.merge_locks.proofs.step_23.Statement.{statement}
 use Rattle.merge_locks.proofs.step_23.Tie as tie

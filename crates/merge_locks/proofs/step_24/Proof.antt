@@ -7,10 +7,10 @@ use lib.ListN.{length, set, length-set}
 use borrow.Author.Tests.{not-true, not-false}
 use Rattle.model.specs.declared.Mode.the-variants.{Exclusive}
 use Rattle.model.specs.LockWords.{chainWord}
-use Rattle.model.specs.Steps.Merge.{mergeStops, targetOf, merging}
+use Rattle.model.specs.Steps.MergeLocks.{mergeStops, targetOf, merging}
 use Rattle.records.specs.Words.{recordWords, partyIn, seen}
 use Rattle.records.proofs.Words.{party-is}
-use Rattle.addressing.proofs.Limits.{ready-root-fits}
+use Rattle.addresses.proofs.Limits.{ready-root-fits}
 use Rattle.lock_requests.proofs.Requests.{granted-request-moves, other-request-waits}
 use Rattle.merge_locks.proofs.Requesting.{target-is-chain, barred-ends, open-requests, grant-written}
 use borrow.Author.Needs.{needs}
@@ -73,7 +73,7 @@ request-requires c κs =
     let at-merge-barred = at-if1 .before in
     let start = at-merge-barred .before .before .before .before in
     let goes : mergeStops (start .args .root) ≡ false = sym (at-merge-barred .merge-barred .ensures) ∙ at-if1 .if1 .left in
-    let below : targetOf (start .args .root) < start .args .root .chains = target-is-chain _ (start .pre .ready) goes in
+    let below : targetOf (start .args .root) < start .args .root .primaries = target-is-chain _ (start .pre .ready) goes in
     let word = at-chain-word .chain-word .ensures in
     let target = at-merge-target .merge-target .ensures in
     (omega (arith, start .pre .ready .locks-fit), search needs)

@@ -1,5 +1,5 @@
 -- `merge_locks::step_30` meets its contract.
-use Rattle.model.specs.Steps.Merge.{step30}
+use Rattle.model.specs.Steps.MergeLocks.{step30}
 use borrow.Author.Needs.{needs}
 use Rattle.merge_locks.proofs.step_30.Statement.{statement}
 use Rattle.merge_locks.proofs.step_30.Tie as tie

@@ -11,7 +11,7 @@ use Rattle.records.specs.Words.{rootIn, partyIn}
 use Rattle.records.proofs.Words.{root-is}
 use Rattle.free_list.specs.Giving.{listed, Returned, afterGiving}
 use Rattle.free_list.proofs.Giving.{listed-length}
-use Rattle.page_lists.proofs.Recorded.{walked-at-most}
+use Rattle.merge_lists.proofs.Recorded.{walked-at-most}
 use Rattle.merge_write.proofs.Clears.{no-room-refused, all-cleared, head-and-count-suffice}
 use borrow.Author.Needs.{needs}
 use Rattle.merge_write.proofs.lists_given_back.Statement.{statement}

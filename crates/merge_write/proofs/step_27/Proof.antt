@@ -4,9 +4,9 @@ use mathlib.Core.Bool.{false}
 use borrow.Author.Tests.{not-true, not-false}
 use Rattle.model.specs.declared.Root.{Root}
 use Rattle.model.specs.Addresses.{mergeLevel}
-use Rattle.model.specs.Steps.Merge.{mergeStops}
+use Rattle.model.specs.Steps.MergeLocks.{mergeStops}
 use Rattle.records.specs.Words.{rootIn, partyIn, seen}
-use Rattle.addressing.proofs.Limits.{ready-root-fits}
+use Rattle.addresses.proofs.Limits.{ready-root-fits}
 use Rattle.merge_write.proofs.Merges.{barred-refused, unheld-refused, root-moved-back, moved-back-written}
 use borrow.Author.Needs.{needs}
 use Rattle.merge_write.proofs.step_27.Statement.{statement}

@@ -51,12 +51,12 @@ chain-found m b i c live =
 -- ---- One chain built: the records es, at this local level
 
 module _ (m : Memory) (b : Book) (i : Inv m b) (q : ℕ) (in-row : q < m .root .parties) (no-pages : NoPages (sceneOf m (i .ghost) b) q)
-    (level : ℕ) (es : List Entry) (enough : pagesFor (m .root .keys) es ≤ m .root .free) where
+    (level : ℕ) (es : List Entry) (enough : pagesFor (m .root .capacity) es ≤ m .root .free) where
   abbrev r : Root
   r = m .root
 
   abbrev need : ℕ
-  need = pagesFor (r .keys) es
+  need = pagesFor (r .capacity) es
 
   abbrev frees : List ℕ
   frees = i .ghost .held free
@@ -89,7 +89,7 @@ module _ (m : Memory) (b : Book) (i : Inv m b) (q : ℕ) (in-row : q < m .root .
       subst (λ (n : ℕ). pagesTaken r (m .pages) n ≡ sound (record { pages = take n frees; head = linkToFirst (drop n frees) })) (add-zero need)
       (taken-is m b i q in-row need 0 enough-both no-built no-new)
 
-  owned : Owned (r .chains) (r .overflow) (builtGhost .own) (builtGhost .held)
+  owned : Owned (r .primaries) (r .overflow) (builtGhost .own) (builtGhost .held)
   owned = owned-then m b i q in-row need 0 enough-both no-built no-new
 
   pub held-built : builtGhost .held (builtBy q) ≡ take need (i .ghost .held free)
@@ -111,10 +111,10 @@ module _ (m : Memory) (b : Book) (i : Inv m b) (q : ℕ) (in-row : q < m .root .
   -- ---- The pages written
 
   abbrev filled : List ℕ
-  filled = overflowWritten (r .keys) (m .pages) xs es
+  filled = overflowWritten (r .capacity) (m .pages) xs es
 
   abbrev primary : List ℕ
-  primary = primaryOf (r .keys) level es xs
+  primary = primaryOf (r .capacity) level es xs
 
   abbrev pub builtMemory : List ℕ
   builtMemory = withPage filled (scratchPage r q) primary
@@ -123,10 +123,10 @@ module _ (m : Memory) (b : Book) (i : Inv m b) (q : ℕ) (in-row : q < m .root .
   xs-has = has-overflow r (m .pages) xs (i .pages-many) xs-overflow
 
   filled-long : length filled ≡ length (m .pages)
-  filled-long = length-overflowWritten (r .keys) (i .limits .keys-fit) (m .pages) xs es xs-has
+  filled-long = length-overflowWritten (r .capacity) (i .limits .keys-fit) (m .pages) xs es xs-has
 
   primary-long : length primary ≡ pageWords
-  primary-long = length-primaryOf (r .keys) level es xs (i .limits .keys-fit)
+  primary-long = length-primaryOf (r .capacity) level es xs (i .limits .keys-fit)
 
   scratch-has : Has filled (scratchPage r q)
   scratch-has = record { fits = omega (arith, filled-long, i .pages-many) }
@@ -138,23 +138,23 @@ module _ (m : Memory) (b : Book) (i : Inv m b) (q : ℕ) (in-row : q < m .root .
   scratch-off x n = page-other filled (scratchPage r q) primary scratch-has primary-long x n
 
   off : (x : ℕ) → x ≢ scratchPage r q → isAmong x xs ≡ false → pageOf builtMemory x ≡ pageOf (m .pages) x
-  off x n h = scratch-off x n ∙ overflowWritten-other (r .keys) (i .limits .keys-fit) (m .pages) xs es xs-has x (absent-outside x xs h)
+  off x n h = scratch-off x n ∙ overflowWritten-other (r .capacity) (i .limits .keys-fit) (m .pages) xs es xs-has x (absent-outside x xs h)
 
   -- A page taken is an overflow page.
-  bounds : (x : ℕ) → isAmong x xs ≡ true → (r .chains ≤ x) × (x < r .chains + r .overflow)
+  bounds : (x : ℕ) → isAmong x xs ≡ true → (r .primaries ≤ x) × (x < r .primaries + r .overflow)
   bounds x h = overflow-bounds owned (builtBy q) x (rw held-built h)
 
-  primary-off : (d : ℕ) → d < r .chains → isAmong d xs ≡ false
+  primary-off : (d : ℕ) → d < r .primaries → isAmong d xs ≡ false
   primary-off d fits = go (tell (isAmong d xs))
     where
       go : Told (isAmong d xs) → isAmong d xs ≡ false
       go (fails h) = h
       go (holds h) = absurd (let z = bounds d h in omega arith)
 
-  overflow-built : Overflow (r .keys) builtMemory xs (drop (r .keys) es)
+  overflow-built : Overflow (r .capacity) builtMemory xs (drop (r .capacity) es)
   overflow-built =
-      overflow-frame (r .keys) filled builtMemory xs (drop (r .keys) es) (same-from filled builtMemory xs (λ x h. scratch-off x (let z = bounds x h in λ e. omega arith)))
-      (overflow-written (r .keys) (i .limits .keys-fit) (m .pages) xs es (i .limits .some-key) xs-has
+      overflow-frame (r .capacity) filled builtMemory xs (drop (r .capacity) es) (same-from filled builtMemory xs (λ x h. scratch-off x (let z = bounds x h in λ e. omega arith)))
+      (overflow-written (r .capacity) (i .limits .keys-fit) (m .pages) xs es (i .limits .some-key) xs-has
       (distinct-count xs (λ x. subst (λ (l : List ℕ). count x l ≤ 1) held-built (no-repeats owned (builtBy q) x))) (built-many m b i q in-row need 0 enough-both no-built no-new))
 
   -- ---- A step that built this and goes on with the record p and the book c
@@ -165,8 +165,8 @@ module _ (m : Memory) (b : Book) (i : Inv m b) (q : ℕ) (in-row : q < m .root .
 
     pub building-then : Building builtScene q level es
     building-then = record {
-      scratch-is = page-same filled (scratchPage r q) primary scratch-has primary-long ∙ ap (primaryOf (r .keys) level es) (sym held-built);
-      built = subst (λ (l : List ℕ). Overflow (r .keys) builtMemory l (drop (r .keys) es)) (sym held-built) overflow-built;
+      scratch-is = page-same filled (scratchPage r q) primary scratch-has primary-long ∙ ap (primaryOf (r .capacity) level es) (sym held-built);
+      built = subst (λ (l : List ℕ). Overflow (r .capacity) builtMemory l (drop (r .capacity) es)) (sym held-built) overflow-built;
     }
 
     -- Where the record claims the same locks and leaves the extents, and the book notes nothing but for this party.
@@ -177,7 +177,7 @@ module _ (m : Memory) (b : Book) (i : Inv m b) (q : ℕ) (in-row : q < m .root .
       row-long : q < length (m .parties)
       row-long = omega (arith, i .parties-many)
 
-      dead-then : (d : ℕ) → size (r .originals) (i .ghost .live) ≤ d → d < r .chains → ((j : ℕ) → uses (partyAt (set (m .parties) q p) j) d ≡ false) → pageOf builtMemory (primaryPage d) ≡ zeroPage
+      dead-then : (d : ℕ) → size (r .originals) (i .ghost .live) ≤ d → d < r .primaries → ((j : ℕ) → uses (partyAt (set (m .parties) q p) j) d ≡ false) → pageOf builtMemory (primaryPage d) ≡ zeroPage
       dead-then d far fits u = off d (omega arith) (primary-off d fits) ∙ i .pages-ok .dead d far fits (λ j. unused j (cmp j q))
         where
           unused : (j : ℕ) → Cmp j q → uses (partyAt (m .parties) j) d ≡ false
@@ -192,7 +192,7 @@ module _ (m : Memory) (b : Book) (i : Inv m b) (q : ℕ) (in-row : q < m .root .
           assemble m b i q in-row (rootTaking (need + 0)) (m .locks) builtMemory p c builtGhost
           (taking-parts m b i q in-row need 0 enough-both no-built no-new builtMemory p c [] memory-long (no-pages .nothing-old .no-old) (λ x n _ h _. off x n h)
           (λ x h. absurd (false≢true h)) (λ x h. absurd (false≢true h)) entries= contents= dead-then (m .locks)
-          (extents-move r (rootTaking (need + 0)) (record { limits = record { originals= = refl; keys= = refl; chains= = refl; overflow= = refl; parties= = refl }; level= = refl; next= = refl })
+          (extents-move r (rootTaking (need + 0)) (record { limits = record { originals= = refl; capacity= = refl; primaries= = refl; overflow= = refl; parties= = refl }; level= = refl; next= = refl })
           (m .parties) (i .ghost) builtGhost refl refl q p row-long stays same-live same-low (i .extents-ok))
           (locks-root r (rootTaking (need + 0)) (set (m .parties) q p) (locks-stay r (m .parties) q p row-long same-claims (i .locks-ok))) self)
 

@@ -18,10 +18,10 @@ use Rattle.model.specs.Records.{idle}
 use Rattle.model.specs.Answers.{answerNumber, answerOf, refusalNumber}
 use Rattle.model.specs.LockWords.{Claim}
 use Rattle.model.specs.Pages.{withPage, scratchPage, zeroPage}
-use Rattle.model.specs.Outcome.{done, heldAll, givenUp}
+use Rattle.model.specs.Endings.{done, endedWith}
+use Rattle.model.specs.LockRequests.{heldAll, givenUp}
 use Rattle.model.specs.Memory.{Memory, partyAt, viewOf}
 use Rattle.model.specs.Book.{Book, Entered, changedAt, withEntry, noteFor, agreesWith, afterReply, isNote, isNoteOf}
-use Rattle.model.specs.Steps.Split.{endedWith}
 use Rattle.model.proofs.Laws.Lists.{All, all-map, eqb-same, eqb-diff}
 use Rattle.model.proofs.Invariant.Ghost.{rootExtent, Ghost, nobody, oldOf}
 use Rattle.model.proofs.Invariant.Owners.{owns-nothing, kinds-apart}

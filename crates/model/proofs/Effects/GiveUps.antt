@@ -11,7 +11,8 @@ use Rattle.model.specs.declared.Root.{Root}
 use Rattle.model.specs.declared.Party.{Party}
 use Rattle.model.specs.declared.Mode.{Mode}
 use Rattle.model.specs.LockWords.{Claim}
-use Rattle.model.specs.Outcome.{View, withLocks, isHeld, heldAll, withoutHold, givenUp}
+use Rattle.model.specs.Outcome.{View, withLocks}
+use Rattle.model.specs.LockRequests.{isHeld, heldAll, withoutHold, givenUp}
 use Rattle.model.specs.Memory.{partyAt}
 use Rattle.model.specs.Holds.{sameMode}
 use Rattle.model.proofs.Laws.Lists.{Cmp, same, diff, cmp, All, all-zip, eqb-same, eqb-diff}

@@ -19,7 +19,7 @@ use Rattle.model.specs.Pages.{pageOf, primaryPage, linkToFirst, zeroPage
 use Rattle.model.specs.FreeList.{isAmong, givenBack}
 use Rattle.model.specs.Memory.{Memory, partyAt}
 use Rattle.model.specs.Book.{Book}
-use Rattle.model.specs.Steps.Locate.{modeOf}
+use Rattle.model.specs.LockRequests.{modeOf}
 use Rattle.model.proofs.Laws.Lists.{Told, holds, fails, tell, Cmp, same, diff, cmp, not-both, or-neither, first-or-rest, eqb-diff, eqb-false, le-leb, count-nil, count-append, count-reverse, among-count, count-among, absent-count, count-absent, All, all-from, all-append}
 use Rattle.model.proofs.Invariant.Ghost.{Owner, owner, Named, nobody, free, inChain, oldOf, partnerOf, builtBy, newBy, sameOwner, count, size, Ghost, Owned, ownAfter, heldAfter}
 use Rattle.model.proofs.Invariant.Owners.{kinds-apart, indices-apart, own-of-member, member-of-own, overflow-bounds, held-after-same, held-after-other, own-after-moved, own-after-other, handed, handed-all-onto, same-from}
@@ -36,7 +36,7 @@ use Rattle.model.proofs.Effects.Kept.{Parts}
 use Rattle.model.proofs.Effects.Touch.{Touch, own-page, Touches, FreeAfter, keeps-touched, pages-touched, book-touched, dead-kept}
 
 -- Nobody reads a chain that another party holds exclusively.
-pub no-reader : (m : Memory) (b : Book) → Inv m b → (q : ℕ) → partyAt (m .parties) q .chain < m .root .chains
+pub no-reader : (m : Memory) (b : Book) → Inv m b → (q : ℕ) → partyAt (m .parties) q .chain < m .root .primaries
     → isClaimed (claims (m .root) (partyAt (m .parties) q)) (chainWord (partyAt (m .parties) q .chain)) Exclusive ≡ true
     → (j : ℕ) → j ≢ q → partyAt (m .parties) j .step ≡ 9 → partyAt (m .parties) j .chain ≢ partyAt (m .parties) q .chain
 no-reader m b i q fits alone j n e same-chain =
@@ -81,7 +81,7 @@ module _ (m : Memory) (b : Book) (i : Inv m b) (q : ℕ) (in-row : q < m .root .
   givenPages = givenBack (m .pages) (m .root .head) zs .pages
 
   pub given-sizes : SameSizes (m .root) givenRoot
-  given-sizes = record { limits = record { originals= = refl; keys= = refl; chains= = refl; overflow= = refl; parties= = refl }; level= = refl; next= = refl }
+  given-sizes = record { limits = record { originals= = refl; capacity= = refl; primaries= = refl; overflow= = refl; parties= = refl }; level= = refl; next= = refl }
 
   -- ---- The pages given back are overflow pages, each once, and none is free yet
 
@@ -95,10 +95,10 @@ module _ (m : Memory) (b : Book) (i : Inv m b) (q : ℕ) (in-row : q < m .root .
   neither : (x : ℕ) → isAmong x zs ≡ false → (isAmong x olds ≡ false) × (isAmong x partners ≡ false)
   neither x h = (count-absent x olds (omega (arith, mine x, absent-count x zs h)), count-absent x partners (omega (arith, mine x, absent-count x zs h)))
 
-  bounds : (x : ℕ) → isAmong x zs ≡ true → (m .root .chains ≤ x) × (x < m .root .chains + m .root .overflow)
+  bounds : (x : ℕ) → isAmong x zs ≡ true → (m .root .primaries ≤ x) × (x < m .root .primaries + m .root .overflow)
   bounds x h = go (either x h)
     where
-      go : (isAmong x olds ≡ true) ⊎ (isAmong x partners ≡ true) → (m .root .chains ≤ x) × (x < m .root .chains + m .root .overflow)
+      go : (isAmong x olds ≡ true) ⊎ (isAmong x partners ≡ true) → (m .root .primaries ≤ x) × (x < m .root .primaries + m .root .overflow)
       go (inl k) = overflow-bounds (i .pages-ok .owned) (oldOf q) x k
       go (inr k) = overflow-bounds (i .pages-ok .owned) (partnerOf q) x k
 
@@ -141,7 +141,7 @@ module _ (m : Memory) (b : Book) (i : Inv m b) (q : ℕ) (in-row : q < m .root .
   kept₁ : (o : Owner) → sameOwner o free ≡ false → sameOwner o (oldOf q) ≡ false → held₁ o ≡ i .ghost .held o
   kept₁ o f n = held-after-other (heldAfter (i .ghost .held) (oldOf q) []) free (reverse olds ++ frees) o f ∙ held-after-other (i .ghost .held) (oldOf q) [] o n
 
-  owned-then : Owned (m .root .chains) (m .root .overflow) (givenGhost .own) (givenGhost .held)
+  owned-then : Owned (m .root .primaries) (m .root .overflow) (givenGhost .own) (givenGhost .held)
   owned-then =
       handed (handed-all-onto (i .pages-ok .owned) (oldOf q) free (kinds-apart (oldOf q) free refl) (kinds-apart (oldOf q) nobody refl) (kinds-apart free nobody refl))
       (partnerOf q) free (kinds-apart (partnerOf q) free refl) (kinds-apart (partnerOf q) nobody refl) (kinds-apart free nobody refl) partners [] (reverse zs ++ frees)
@@ -191,12 +191,12 @@ module _ (m : Memory) (b : Book) (i : Inv m b) (q : ℕ) (in-row : q < m .root .
   pub record GivesBack (ps : List ℕ) (c : Book) (extra : ℕ) : Type 0 where
     pub long : length ps ≡ length givenPages
     pub off : (x : ℕ) → x ≢ extra → pageOf ps x ≡ pageOf givenPages x
-    pub no-overflow : m .root .chains ≤ extra → m .root .chains + m .root .overflow ≤ extra
+    pub no-overflow : m .root .primaries ≤ extra → m .root .primaries + m .root .overflow ≤ extra
     pub may-touch : Touch (sceneOf m (i .ghost) b) q extra
-    pub zeroed : extra < m .root .chains → pageOf ps (primaryPage extra) ≡ zeroPage
+    pub zeroed : extra < m .root .primaries → pageOf ps (primaryPage extra) ≡ zeroPage
     pub only-used : (d : ℕ) → d ≢ extra → uses (partyAt (m .parties) q) d ≡ false
     pub holds-chain : isClaimed (claims (m .root) (partyAt (m .parties) q)) (chainWord (partyAt (m .parties) q .chain)) Exclusive ≡ true
-    pub chain-fits : partyAt (m .parties) q .chain < m .root .chains
+    pub chain-fits : partyAt (m .parties) q .chain < m .root .primaries
     pub entries= : (j : ℕ) → j ≢ q → c .entries j ≡ b .entries j
     pub contents= : c .contents ≡ b .contents
 
@@ -255,7 +255,7 @@ module _ (m : Memory) (b : Book) (i : Inv m b) (q : ℕ) (in-row : q < m .root .
         go (fails h) (fails k) = rw (own-after-other own₁ partners free x h, own-after-other (i .ghost .own) olds free x k) (i .pages-ok .kinds x)
 
     -- The primary pages outside the live file.
-    untouched-primary : (d : ℕ) → d < m .root .chains → d ≢ extra → isAmong d written ≡ false
+    untouched-primary : (d : ℕ) → d < m .root .primaries → d ≢ extra → isAmong d written ≡ false
     untouched-primary d fits n = go (tell (isAmong d written))
       where
         go : Told (isAmong d written) → isAmong d written ≡ false
@@ -286,7 +286,7 @@ module _ (m : Memory) (b : Book) (i : Inv m b) (q : ℕ) (in-row : q < m .root .
             let f = g .no-overflow (omega arith) in
             omega arith
 
-        go : (d : ℕ) → size (m .root .originals) (i .ghost .live) ≤ d → d < m .root .chains → ((j : ℕ) → uses (partyAt (set (m .parties) q p) j) d ≡ false) → Cmp d extra
+        go : (d : ℕ) → size (m .root .originals) (i .ghost .live) ≤ d → d < m .root .primaries → ((j : ℕ) → uses (partyAt (set (m .parties) q p) j) d ≡ false) → Cmp d extra
             → pageOf ps (primaryPage d) ≡ zeroPage
         go d far fits u (same e) = rw e (g .zeroed (omega arith))
         go d far fits u (diff n) = dead-kept m b i q in-row givenScene p written touches d (untouched-primary d fits n) far fits u (λ _. g .only-used d n)

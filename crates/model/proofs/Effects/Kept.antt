@@ -82,15 +82,15 @@ module _ (r t : Root) (z : SameSizes r t) (ps : List Party) (g h : Ghost) (live=
         let e = sym (root-extent-sizes r t z) in
         (live= ∙ a .0 ∙ e, low= ∙ a .1 ∙ e);
     live-next = rw (live=, z .limits .originals=) (ok .live-next);
-    live-fits = rw (live=, z .limits .originals=, z .limits .chains=) (ok .live-fits);
+    live-fits = rw (live=, z .limits .originals=, z .limits .primaries=) (ok .live-fits);
     root-next = rw (z .limits .originals=, z .level=, z .next=) (ok .root-next);
-    root-fits = rw (z .limits .originals=, z .level=, z .next=, z .limits .chains=) (ok .root-fits);
+    root-fits = rw (z .limits .originals=, z .level=, z .next=, z .limits .primaries=) (ok .root-fits);
   }
 
 -- Where nobody but party q restructures, how far the file extends goes by its record.
 pub extents-by-one : (t : Root) (ps : List Party) (h : Ghost) (q : ℕ) (p : Party) → q < length ps → ((j : ℕ) → j ≢ q → restructures (partyAt ps j) ≡ false) → restructures p ≡ true
-    → h .live ≡ liveFor t p → h .low ≡ lowFor t p → h .live .next < span (t .originals) (h .live .level) → size (t .originals) (h .live) ≤ t .chains
-    → t .next < span (t .originals) (t .level) → size (t .originals) (rootExtent t) ≤ t .chains → ExtentsOk t (set ps q p) h
+    → h .live ≡ liveFor t p → h .low ≡ lowFor t p → h .live .next < span (t .originals) (h .live .level) → size (t .originals) (h .live) ≤ t .primaries
+    → t .next < span (t .originals) (t .level) → size (t .originals) (rootExtent t) ≤ t .primaries → ExtentsOk t (set ps q p) h
 extents-by-one t ps h q p in-row others mine live low live-next live-fits root-next root-fits = record {
   live-by = λ j r. rw (only j r (cmp j q), row-same ps q p in-row) live;
   low-by = λ j r. rw (only j r (cmp j q), row-same ps q p in-row) low;
@@ -110,11 +110,11 @@ extents-by-one t ps h q p in-row others mine live low live-next live-fits root-n
 pub limits-sizes : (r t : Root) → SameLimits r t → Limits r → Limits t
 limits-sizes r t z l = record {
   some-original = rw (z .originals=) (l .some-original);
-  originals-fit = rw (z .originals=, z .chains=) (l .originals-fit);
-  chains-fit = rw (z .chains=) (l .chains-fit);
+  originals-fit = rw (z .originals=, z .primaries=) (l .originals-fit);
+  chains-fit = rw (z .primaries=) (l .chains-fit);
   overflow-fits = rw (z .overflow=) (l .overflow-fits);
-  some-key = rw (z .keys=) (l .some-key);
-  keys-fit = rw (z .keys=) (l .keys-fit);
+  some-key = rw (z .capacity=) (l .some-key);
+  keys-fit = rw (z .capacity=) (l .keys-fit);
   some-party = rw (z .parties=) (l .some-party);
   parties-fit = rw (z .parties=) (l .parties-fit);
 }
@@ -154,7 +154,7 @@ module _ (m : Memory) (b : Book) (i : Inv m b) (q : ℕ) (in-row : q < m .root .
     ghost = h;
     limits = limits-sizes (m .root) t (x .sizes) (i .limits);
     parties-many = length-set (m .parties) q p ∙ i .parties-many ∙ sym (x .sizes .parties=);
-    pages-many = rw (x .sizes .chains=, x .sizes .overflow=, x .sizes .parties=) (x .pages-many ∙ i .pages-many);
+    pages-many = rw (x .sizes .primaries=, x .sizes .overflow=, x .sizes .parties=) (x .pages-many ∙ i .pages-many);
     extents-ok = x .extents;
     locks-ok = x .locks;
     pages-ok = x .pages;

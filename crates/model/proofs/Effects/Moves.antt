@@ -44,7 +44,7 @@ module _ (s : Scene) (q : ℕ) (p : Party) (e : Entered) (k : Busy s q p e) wher
   has-at n h = subst (λ (x : ℕ). hasStep (p .operation) x ≡ true) h (k .step-fits)
 
   -- At another step number and with another old link, in another scene of as many chains.
-  pub busy-onto : (t : Scene) (n l : ℕ) → t .entries q ≡ s .entries q → t .root .chains ≡ s .root .chains → hasStep (p .operation) n ≡ true → (12 ≤ n → 12 ≤ p .step)
+  pub busy-onto : (t : Scene) (n l : ℕ) → t .entries q ≡ s .entries q → t .root .primaries ≡ s .root .primaries → hasStep (p .operation) n ≡ true → (12 ≤ n → 12 ≤ p .step)
       → Busy t q (atStep n (withOld l p)) e
   busy-onto t n l entry= chains= has late = record {
     entry = entry= ∙ k .entry;
@@ -59,13 +59,13 @@ module _ (s : Scene) (q : ℕ) (p : Party) (e : Entered) (k : Busy s q p e) wher
     other-fits = rw chains= (k .other-fits);
   }
 
-  pub busy-on : (t : Scene) (n : ℕ) → t .entries q ≡ s .entries q → t .root .chains ≡ s .root .chains → hasStep (p .operation) n ≡ true → (12 ≤ n → 12 ≤ p .step) → Busy t q (atStep n p) e
+  pub busy-on : (t : Scene) (n : ℕ) → t .entries q ≡ s .entries q → t .root .primaries ≡ s .root .primaries → hasStep (p .operation) n ≡ true → (12 ≤ n → 12 ≤ p .step) → Busy t q (atStep n p) e
   busy-on t n entry= chains= has late = busy-onto t n (p .old) entry= chains= has late
 
   pub busy-at : (ps : List Party) (n : ℕ) → hasStep (p .operation) n ≡ true → (12 ≤ n → 12 ≤ p .step) → Busy (withRow ps s) q (atStep n p) e
   busy-at ps n has late = busy-on (withRow ps s) n refl refl has late
 
-  pub busy-chains : (c o : ℕ) → c < s .root .chains → o < s .root .chains → Busy s q (withChain c (withOther o p)) e
+  pub busy-chains : (c o : ℕ) → c < s .root .primaries → o < s .root .primaries → Busy s q (withChain c (withOther o p)) e
   busy-chains c o l h = record {
     entry = k .entry;
     same-operation = k .same-operation;
@@ -116,7 +116,7 @@ module _ (s : Scene) (q : ℕ) (p : Party) (e : Entered) where
   }
 
   -- Where old pages are left the old link names the first.
-  pub names-old : Owned (s .root .chains) (s .root .overflow) (s .ghost .own) (s .ghost .held) → Returning s q p e → namesOverflow (s .root) (p .old) ≡ true
+  pub names-old : Owned (s .root .primaries) (s .root .overflow) (s .ghost .own) (s .ghost .held) → Returning s q p e → namesOverflow (s .root) (p .old) ≡ true
   names-old w h =
       let old-is = h .leaving .trash .link in
       ap (namesOverflow (s .root)) old-is ∙ names-some (s .root) (heldIn s (oldOf q)) (held-overflow (s .root) w (oldOf q)) (λ z. h .some-old (old-is ∙ z))

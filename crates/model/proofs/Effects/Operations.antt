@@ -13,7 +13,8 @@ use Rattle.model.specs.declared.OperationAnswer.the-variants as Operatio
 use Rattle.model.specs.Answers.{operationNumber, answerNumber, answerOf}
 use Rattle.model.specs.Entries.{Entry, hasKey}
 use Rattle.model.specs.Book.{noteAtTen}
-use Rattle.model.specs.Steps.Change.{Change, kept, changed, changeOf, splitOwed, mergeOwed, owedBy, isChange}
+use Rattle.model.specs.Steps.Rebuild.{Change, kept, changed, changeOf, splitOwed, mergeOwed, owedBy}
+use Rattle.model.specs.Steps.Write.{isChange}
 use Rattle.model.specs.Steps.Dispatch.{hasStep}
 use Rattle.model.proofs.Laws.Lists.{cond-ind}
 

@@ -24,7 +24,7 @@ use Rattle.model.proofs.Effects.Kept.{Kept, row-same, row-other, Parts,
 use Rattle.model.proofs.Invariant.Facts.{still-noted}
 
 pub same-limits : (r : Root) → SameLimits r r
-same-limits r = record { originals= = refl; keys= = refl; chains= = refl; overflow= = refl; parties= = refl }
+same-limits r = record { originals= = refl; capacity= = refl; primaries= = refl; overflow= = refl; parties= = refl }
 
 pub same-sizes : (r : Root) → SameSizes r r
 same-sizes r = record { limits = same-limits r; level= = refl; next= = refl }

@@ -43,13 +43,13 @@ alone ok q j n Selective Exclusive r s x y = n (sym (exclusive-alone ok j q Sele
 alone ok q j n Exclusive o r s x y = n (exclusive-alone ok q j o x y .0)
 
 -- A chain that party q holds selectively or exclusively is none that another party does.
-pub held-alone : (m : Memory) (b : Book) (i : Inv m b) (q c : ℕ) (a : Mode) → c < m .root .chains → sameMode a Read ≡ false → claimed (m .root) (m .parties) (chainWord c) q a ≡ true
+pub held-alone : (m : Memory) (b : Book) (i : Inv m b) (q c : ℕ) (a : Mode) → c < m .root .primaries → sameMode a Read ≡ false → claimed (m .root) (m .parties) (chainWord c) q a ≡ true
     → (j : ℕ) → j ≢ q → (d : ℕ) (o : Mode) → claimed (m .root) (m .parties) (chainWord d) j o ≡ true → sameMode o Read ≡ false → d ≢ c
 held-alone m b i q c a fits r x j n d o y s e =
     alone (i .locks-ok .each (chainWord c) (omega arith)) q j n a o r s x (subst (λ (k : ℕ). claimed (m .root) (m .parties) (chainWord k) j o ≡ true) e y)
 
 -- A chain that party q holds exclusively is none that another party holds.
-pub held-exclusively : (m : Memory) (b : Book) (i : Inv m b) (q c : ℕ) → c < m .root .chains → claimed (m .root) (m .parties) (chainWord c) q Exclusive ≡ true
+pub held-exclusively : (m : Memory) (b : Book) (i : Inv m b) (q c : ℕ) → c < m .root .primaries → claimed (m .root) (m .parties) (chainWord c) q Exclusive ≡ true
     → (j : ℕ) → j ≢ q → (d : ℕ) (o : Mode) → claimed (m .root) (m .parties) (chainWord d) j o ≡ true → d ≢ c
 held-exclusively m b i q c fits x j n d o y e =
     n (exclusive-alone (i .locks-ok .each (chainWord c) (omega arith)) q j o x (subst (λ (k : ℕ). claimed (m .root) (m .parties) (chainWord k) j o ≡ true) e y) .0)
@@ -62,16 +62,16 @@ length-scratch m b i q in-row = length-pageOf (record { fits = omega (arith, i .
 
 -- A chain built beside the file is one whose primary page is scratch: that page is sound, and has the chain's level.
 module _ (m : Memory) (b : Book) (i : Inv m b) (q level : ℕ) (es : List Entry) (f : Building (sceneOf m (i .ghost) b) q level es) where
-  built-chain : ChainIs (m .root .keys) (m .pages) (scratchPage (m .root) q) level es (i .ghost .held (builtBy q))
+  built-chain : ChainIs (m .root .capacity) (m .pages) (scratchPage (m .root) q) level es (i .ghost .held (builtBy q))
   built-chain = record { primary = f .scratch-is; overflow = f .built }
 
   pub built-sound : level ≤ mostLevel → pageSound (m .root) (pageOf (m .pages) (scratchPage (m .root) q)) ≡ true
   built-sound = chain-sound (m .root) (m .pages) (scratchPage (m .root) q) level es (i .ghost .held (builtBy q)) built-chain (held-overflow (m .root) (i .pages-ok .owned) (builtBy q))
 
   pub built-level : levelOf (pageOf (m .pages) (scratchPage (m .root) q)) ≡ level
-  built-level = chain-level (m .root .keys) (m .pages) (scratchPage (m .root) q) level es (i .ghost .held (builtBy q)) built-chain
+  built-level = chain-level (m .root .capacity) (m .pages) (scratchPage (m .root) q) level es (i .ghost .held (builtBy q)) built-chain
 
-module _ (m : Memory) (b : Book) (i : Inv m b) (c : ℕ) (fits : c < m .root .chains) (w : List ℕ) (whole : length w ≡ pageWords) where
+module _ (m : Memory) (b : Book) (i : Inv m b) (c : ℕ) (fits : c < m .root .primaries) (w : List ℕ) (whole : length w ≡ pageWords) where
   abbrev then-pages : List ℕ
   then-pages = withPage (m .pages) (primaryPage c) w
 
@@ -95,22 +95,22 @@ module _ (m : Memory) (b : Book) (i : Inv m b) (c : ℕ) (fits : c < m .root .ch
   primary-same o = same-from (m .pages) then-pages (i .ghost .held o) (λ x h. primary-off x (λ e. let z = overflow-bounds (i .pages-ok .owned) o x h in omega arith))
 
   -- The chain, from the pages that a party built; every other chain as before.
-  pub written-here : (level : ℕ) (es : List Entry) (o : Owner) → w ≡ primaryOf (m .root .keys) level es (i .ghost .held o)
-      → Overflow (m .root .keys) (m .pages) (i .ghost .held o) (drop (m .root .keys) es) → ChainIs (m .root .keys) (withPage (m .pages) (primaryPage c) w) c level es (i .ghost .held o)
+  pub written-here : (level : ℕ) (es : List Entry) (o : Owner) → w ≡ primaryOf (m .root .capacity) level es (i .ghost .held o)
+      → Overflow (m .root .capacity) (m .pages) (i .ghost .held o) (drop (m .root .capacity) es) → ChainIs (m .root .capacity) (withPage (m .pages) (primaryPage c) w) c level es (i .ghost .held o)
   written-here level es o e f = record {
     primary = primary-is ∙ e;
-    overflow = overflow-frame (m .root .keys) (m .pages) then-pages (i .ghost .held o) (drop (m .root .keys) es) (primary-same o) f;
+    overflow = overflow-frame (m .root .capacity) (m .pages) then-pages (i .ghost .held o) (drop (m .root .capacity) es) (primary-same o) f;
   }
 
-  pub written-beside : (d level : ℕ) (es : List Entry) (o : Owner) → d ≢ c → ChainIs (m .root .keys) (m .pages) d level es (i .ghost .held o)
-      → ChainIs (m .root .keys) (withPage (m .pages) (primaryPage c) w) d level es (i .ghost .held o)
-  written-beside d level es o n f = chain-frame (m .root .keys) (m .pages) then-pages d level es (i .ghost .held o) (primary-off d n) (primary-same o) f
+  pub written-beside : (d level : ℕ) (es : List Entry) (o : Owner) → d ≢ c → ChainIs (m .root .capacity) (m .pages) d level es (i .ghost .held o)
+      → ChainIs (m .root .capacity) (withPage (m .pages) (primaryPage c) w) d level es (i .ghost .held o)
+  written-beside d level es o n f = chain-frame (m .root .capacity) (m .pages) then-pages d level es (i .ghost .held o) (primary-off d n) (primary-same o) f
 
   -- The overflow pages of a live chain are linked as before, whoever has them then.
   pub chain-linked : (d : ℕ) → d < size (m .root .originals) (i .ghost .live) → Linked (m .root) (withPage (m .pages) (primaryPage c) w) (i .ghost .held (inChain d))
   chain-linked d live =
-      overflow-linked (m .root) then-pages (i .ghost .held (inChain d)) (drop (m .root .keys) (i .ghost .records d)) (held-overflow (m .root) (i .pages-ok .owned) (inChain d))
-      (overflow-frame (m .root .keys) (m .pages) then-pages (i .ghost .held (inChain d)) (drop (m .root .keys) (i .ghost .records d)) (primary-same (inChain d)) (i .pages-ok .chain d live .overflow))
+      overflow-linked (m .root) then-pages (i .ghost .held (inChain d)) (drop (m .root .capacity) (i .ghost .records d)) (held-overflow (m .root) (i .pages-ok .owned) (inChain d))
+      (overflow-frame (m .root .capacity) (m .pages) then-pages (i .ghost .held (inChain d)) (drop (m .root .capacity) (i .ghost .records d)) (primary-same (inChain d)) (i .pages-ok .chain d live .overflow))
 
   pub old-linked : c < size (m .root .originals) (i .ghost .live) → Linked (m .root) (withPage (m .pages) (primaryPage c) w) (i .ghost .held (inChain c))
   old-linked = chain-linked c

@@ -14,11 +14,11 @@ use Rattle.model.specs.declared.Party.{Party}
 use Rattle.model.specs.declared.Mode.{Mode}
 use Rattle.model.specs.LockWords.{Claim, holds, releasedWord}
 use Rattle.model.specs.Sizes.{lockWords}
-use Rattle.model.specs.Outcome.{withParty, moved, isHeld, heldAll, withoutHold, givenUp}
+use Rattle.model.specs.Outcome.{withParty, moved}
+use Rattle.model.specs.LockRequests.{isHeld, heldAll, withoutHold, givenUp, release}
 use Rattle.model.specs.Memory.{Memory, partyAt, viewOf}
 use Rattle.model.specs.Book.{Book}
 use Rattle.model.specs.Holds.{sameMode}
-use Rattle.model.specs.Steps.Locate.{release}
 use Rattle.model.proofs.Laws.Lists.{Cmp, same, diff, cmp, All, eqb-same, eqb-diff}
 use Rattle.model.proofs.Invariant.Ghost.{oldOf}
 use Rattle.model.proofs.Invariant.Claims.{claims, isClaimed, claimed, LocksOk}

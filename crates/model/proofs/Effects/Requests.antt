@@ -13,7 +13,7 @@ use Rattle.model.specs.declared.Mode.{Mode}
 use Rattle.model.specs.declared.Mode.the-variants.{Read, Selective, Exclusive}
 use Rattle.model.specs.Sizes.{lockWords}
 use Rattle.model.specs.LockWords.{Claim, permits, grantedWord}
-use Rattle.model.specs.Outcome.{isGranted, withHold, request}
+use Rattle.model.specs.LockRequests.{isGranted, withHold, request}
 use Rattle.model.specs.Memory.{Memory, partyAt, viewOf}
 use Rattle.model.specs.Book.{Book}
 use Rattle.model.specs.Holds.{sameMode}

@@ -41,7 +41,7 @@ module _ (m : Memory) (b : Book) (i : Inv m b) (q : ℕ) (in-row : q < m .root .
   owned-apart o x h s = let z = overflow-bounds (i .pages-ok .owned) o x h in omega arith
 
   -- A page that a reader may walk is an overflow page.
-  pub protected-bounds : (d x : ℕ) → Protected (sceneOf m (i .ghost) b) d x → (m .root .chains ≤ x) × (x < m .root .chains + m .root .overflow)
+  pub protected-bounds : (d x : ℕ) → Protected (sceneOf m (i .ghost) b) d x → (m .root .primaries ≤ x) × (x < m .root .primaries + m .root .overflow)
   protected-bounds d x (in-chain e) = i .pages-ok .owned .inside x (rw e (kinds-apart (inChain d) nobody refl))
   protected-bounds d x (in-old j e n) = i .pages-ok .owned .inside x (rw e (kinds-apart (oldOf j) nobody refl))
 

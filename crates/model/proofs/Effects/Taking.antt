@@ -92,7 +92,7 @@ module _ (m : Memory) (b : Book) (i : Inv m b) (q : ℕ) (in-row : q < m .root .
       held-after-other (heldAfter (i .ghost .held) free (drop first frees)) (builtBy q) builtPages (newBy q) (kinds-apart (newBy q) (builtBy q) refl)
       ∙ held-after-other (i .ghost .held) free (drop first frees) (newBy q) (kinds-apart (newBy q) free refl) ∙ no-new
 
-  pub owned-then : Owned (m .root .chains) (m .root .overflow) (takenGhost .own) (takenGhost .held)
+  pub owned-then : Owned (m .root .primaries) (m .root .overflow) (takenGhost .own) (takenGhost .held)
   owned-then =
       handed (handed-front (i .pages-ok .owned) free (builtBy q) (kinds-apart free (builtBy q) refl) (kinds-apart free nobody refl) (kinds-apart (builtBy q) nobody refl) first no-built)
       free (newBy q) (kinds-apart free (newBy q) refl) (kinds-apart free nobody refl) (kinds-apart (newBy q) nobody refl) newPages left newPages
@@ -136,7 +136,7 @@ module _ (m : Memory) (b : Book) (i : Inv m b) (q : ℕ) (in-row : q < m .root .
 
   module _ (ps : List ℕ) (p : Party) (c : Book) (extra : List ℕ) (ps-long : length ps ≡ length (m .pages)) (no-old : i .ghost .held (oldOf q) ≡ [])
       (off : (x : ℕ) → x ≢ scratchPage (m .root) q → isAmong x extra ≡ false → isAmong x builtPages ≡ false → isAmong x newPages ≡ false → pageOf ps x ≡ pageOf (m .pages) x)
-      (touch-extra : (x : ℕ) → isAmong x extra ≡ true → Touch (sceneOf m (i .ghost) b) q x) (extra-primary : (x : ℕ) → isAmong x extra ≡ true → x < m .root .chains)
+      (touch-extra : (x : ℕ) → isAmong x extra ≡ true → Touch (sceneOf m (i .ghost) b) q x) (extra-primary : (x : ℕ) → isAmong x extra ≡ true → x < m .root .primaries)
       (entries= : (j : ℕ) → j ≢ q → c .entries j ≡ b .entries j) (contents= : c .contents ≡ b .contents) where
     abbrev pub takenScene : Scene
     takenScene = record { root = takenRoot; parties = set (m .parties) q p; pages = ps; ghost = takenGhost; entries = c .entries }
@@ -189,7 +189,7 @@ module _ (m : Memory) (b : Book) (i : Inv m b) (q : ℕ) (in-row : q < m .root .
 
     pub touches : Touches (sceneOf m (i .ghost) b) takenScene q p written
     touches = record {
-      sizes = record { limits = record { originals= = refl; keys= = refl; chains= = refl; overflow= = refl; parties= = refl }; level= = refl; next= = refl };
+      sizes = record { limits = record { originals= = refl; capacity= = refl; primaries= = refl; overflow= = refl; parties= = refl }; level= = refl; next= = refl };
       row= = refl;
       live= = refl;
       low= = refl;
@@ -228,14 +228,14 @@ module _ (m : Memory) (b : Book) (i : Inv m b) (q : ℕ) (in-row : q < m .root .
           not-new = absent newPages (newBy q) new-then (kinds-apart free (newBy q) refl);
         }
       where
-        off-extra : Told (isAmong x extra) → (m .root .chains ≤ x) × (x < m .root .chains + m .root .overflow) → isAmong x extra ≡ false
+        off-extra : Told (isAmong x extra) → (m .root .primaries ≤ x) × (x < m .root .primaries + m .root .overflow) → isAmong x extra ≡ false
         off-extra (fails k) z = k
         off-extra (holds k) z = absurd (omega (arith, extra-primary x k))
 
         absent : (xs : List ℕ) (o : Owner) → takenGhost .held o ≡ xs → sameOwner free o ≡ false → isAmong x xs ≡ false
         absent xs o e n = ap (isAmong x) (sym e) ∙ absent-elsewhere owned-then free o x (rw free-then h) n
 
-    pub free-after : ((d : ℕ) → size (m .root .originals) (i .ghost .live) ≤ d → d < m .root .chains → ((j : ℕ) → uses (partyAt (set (m .parties) q p) j) d ≡ false)
+    pub free-after : ((d : ℕ) → size (m .root .originals) (i .ghost .live) ≤ d → d < m .root .primaries → ((j : ℕ) → uses (partyAt (set (m .parties) q p) j) d ≡ false)
         → pageOf ps (primaryPage d) ≡ zeroPage) → FreeAfter m b i q in-row takenScene p written touches
     free-after dead = record {
       owned = owned-then;
@@ -248,7 +248,7 @@ module _ (m : Memory) (b : Book) (i : Inv m b) (q : ℕ) (in-row : q < m .root .
       dead = dead;
     }
 
-    pub taking-parts : ((d : ℕ) → size (m .root .originals) (i .ghost .live) ≤ d → d < m .root .chains → ((j : ℕ) → uses (partyAt (set (m .parties) q p) j) d ≡ false)
+    pub taking-parts : ((d : ℕ) → size (m .root .originals) (i .ghost .live) ≤ d → d < m .root .primaries → ((j : ℕ) → uses (partyAt (set (m .parties) q p) j) d ≡ false)
         → pageOf ps (primaryPage d) ≡ zeroPage) → (ls : List ℕ) → ExtentsOk takenRoot (set (m .parties) q p) takenGhost
         → LocksOk (lockWords takenRoot) ls (claimed takenRoot (set (m .parties) q p)) → PartyOk takenScene q p → Parts m b i q takenRoot ls ps p c takenGhost
     taking-parts dead ls x l s = record {

@@ -29,7 +29,7 @@ pub data Touch (s : Scene) (q x : ℕ) : Type 0 where
   free-page : s .ghost .own x ≡ free → Touch s q x
   own-page : (k : ℕ) → 3 ≤ k → k ≤ 6 → s .ghost .own x ≡ owner k q → Touch s q x
   own-scratch : x ≡ scratchPage (s .root) q → Touch s q x
-  outside : x < s .root .chains → size (s .root .originals) (s .ghost .live) ≤ x → ((j : ℕ) → j ≢ q → uses (partyAt (s .parties) j) x ≡ false) → Touch s q x
+  outside : x < s .root .primaries → size (s .root .originals) (s .ghost .live) ≤ x → ((j : ℕ) → j ≢ q → uses (partyAt (s .parties) j) x ≡ false) → Touch s q x
 
 -- From scene s to scene t party q, whose record becomes p, wrote the pages ws, and nothing else that others rely on changed.
 pub record Touches (s t : Scene) (q : ℕ) (p : Party) (ws : List ℕ) : Type 0 where
@@ -54,7 +54,7 @@ unfolding uses
 idle-uses p e d h = false≢true (rw e at h)
 
 -- A party whose record says that it uses a primary page outside the live file has a chain there.
-other-fits : (s : Scene) (j : ℕ) (p : Party) → PartyOk s j p → (d : ℕ) → uses p d ≡ true → p .other < s .root .chains
+other-fits : (s : Scene) (j : ℕ) (p : Party) → PartyOk s j p → (d : ℕ) → uses p d ≡ true → p .other < s .root .primaries
 other-fits s j p (resting e a b c) d h = absurd (idle-uses p e d h)
 other-fits s j p (working e b f) d h = b .other-fits
 
@@ -72,7 +72,7 @@ module _ (m : Memory) (b : Book) (i : Inv m b) (q : ℕ) (in-row : q < m .root .
       go (fails h) = h
 
   -- A page with an owner is an overflow page.
-  inside : (x : ℕ) (o : Owner) → i .ghost .own x ≡ o → eqb (o .kind) 0 ≡ false → (m .root .chains ≤ x) × (x < m .root .chains + m .root .overflow)
+  inside : (x : ℕ) (o : Owner) → i .ghost .own x ≡ o → eqb (o .kind) 0 ≡ false → (m .root .primaries ≤ x) × (x < m .root .primaries + m .root .overflow)
   inside x o e n = i .pages-ok .owned .inside x (rw e (kinds-apart o nobody n))
 
   some-kind : (k : ℕ) → 3 ≤ k → eqb k 0 ≡ false
@@ -82,7 +82,7 @@ module _ (m : Memory) (b : Book) (i : Inv m b) (q : ℕ) (in-row : q < m .root .
   pub untouched-owned : (x : ℕ) (o : Owner) → i .ghost .own x ≡ o → eqb (o .kind) 0 ≡ false → o ≢ free → ((k : ℕ) → 3 ≤ k → k ≤ 6 → o ≢ owner k q) → isAmong x ws ≡ false
   untouched-owned x o e some-owner n f = untouched x no
     where
-      bounds : (m .root .chains ≤ x) × (x < m .root .chains + m .root .overflow)
+      bounds : (m .root .primaries ≤ x) × (x < m .root .primaries + m .root .overflow)
       bounds = inside x o e some-owner
 
       no : Touch (sceneOf m (i .ghost) b) q x → ⊥
@@ -92,7 +92,7 @@ module _ (m : Memory) (b : Book) (i : Inv m b) (q : ℕ) (in-row : q < m .root .
       no (outside y z u) = let v = bounds in omega arith
 
   -- A primary page that is live, or that another party uses.
-  pub untouched-primary : (c : ℕ) → c < m .root .chains
+  pub untouched-primary : (c : ℕ) → c < m .root .primaries
       → (size (m .root .originals) (i .ghost .live) ≤ c → ((j : ℕ) → j ≢ q → uses (partyAt (m .parties) j) c ≡ false) → ⊥) → isAmong c ws ≡ false
   untouched-primary c fits f = untouched c no
     where
@@ -155,10 +155,10 @@ module _ (m : Memory) (b : Book) (i : Inv m b) (q : ℕ) (in-row : q < m .root .
           mine (holds h) = absurd (w .unread x y′ h j n e (sym z′))
           mine (fails h) = (in-old q (w .own-off x h ∙ y′) (rw (w .row=, row-same (m .parties) q p row-long) (w .stays x y′ h ∙ z′)), w .off x h)
 
-  used-other : (j : ℕ) → uses (partyAt (m .parties) j) (partyAt (m .parties) j .other) ≡ true → partyAt (m .parties) j .other < m .root .chains
+  used-other : (j : ℕ) → uses (partyAt (m .parties) j) (partyAt (m .parties) j .other) ≡ true → partyAt (m .parties) j .other < m .root .primaries
   used-other j u = go (ord j (m .root .parties))
     where
-      go : Ord j (m .root .parties) → partyAt (m .parties) j .other < m .root .chains
+      go : Ord j (m .root .parties) → partyAt (m .parties) j .other < m .root .primaries
       go (lt h e) = other-fits (sceneOf m (i .ghost) b) j (partyAt (m .parties) j) (i .parties-ok j h) (partyAt (m .parties) j .other) u
       go (ge h e) = absurd (idle-uses (partyAt (m .parties) j) (List·getD-eq-default (m .parties) idle (omega (arith, i .parties-many))) (partyAt (m .parties) j .other) u)
 
@@ -168,7 +168,7 @@ module _ (m : Memory) (b : Book) (i : Inv m b) (q : ℕ) (in-row : q < m .root .
     grows = still-grows _ _ (partyAt (m .parties) j) (record { level= = w .sizes .level=; next= = w .sizes .next=; live= = w .live=; low= = w .low= });
     entry= = w .entries= j n;
     ours = λ k a c. (w .private= k j a c n, same-private k j a c n);
-    scratch= = rw (w .sizes .limits .chains=, w .sizes .limits .overflow=) (w .off (scratchPage (m .root) j) (untouched-scratch j n));
+    scratch= = rw (w .sizes .limits .primaries=, w .sizes .limits .overflow=) (w .off (scratchPage (m .root) j) (untouched-scratch j n));
     chain= = λ c o h d l. (ap (λ (f : ℕ → List Entry). f c) (w .records=), w .chains= c);
     reading = λ x e h. read-page j n e x h;
     spare = λ u.
@@ -180,21 +180,21 @@ module _ (m : Memory) (b : Book) (i : Inv m b) (q : ℕ) (in-row : q < m .root .
   -- ---- The live chains
 
   pub chain-untouched : (c : ℕ) → c < size (m .root .originals) (i .ghost .live)
-      → ChainIs (m .root .keys) (t .pages) c (localLevel (m .root .originals) (i .ghost .live) c) (i .ghost .records c) (i .ghost .held (inChain c))
+      → ChainIs (m .root .capacity) (t .pages) c (localLevel (m .root .originals) (i .ghost .live) c) (i .ghost .records c) (i .ghost .held (inChain c))
   chain-untouched c l =
-      chain-frame (m .root .keys) (m .pages) (t .pages) c _ _ _
+      chain-frame (m .root .capacity) (m .pages) (t .pages) c _ _ _
       (w .off c (untouched-primary c (omega (arith, i .extents-ok .live-fits)) (λ far f. omega arith))) (chain-same c) (i .pages-ok .chain c l)
 
   -- ---- The parts of the invariant that speak of pages and keys
 
   -- What is left to show of the pages after such a step.
   pub record FreeAfter : Type 0 where
-    pub owned : Owned (m .root .chains) (m .root .overflow) (t .ghost .own) (t .ghost .held)
+    pub owned : Owned (m .root .primaries) (m .root .overflow) (t .ghost .own) (t .ghost .held)
     pub kinds : (x : ℕ) → Named (t .ghost .own x)
     pub head-is : t .root .head ≡ linkToFirst (heldIn t free)
     pub free-count : t .root .free ≡ length (heldIn t free)
     pub free-pages : FreePages (t .pages) (heldIn t free)
-    pub dead : (c : ℕ) → size (m .root .originals) (i .ghost .live) ≤ c → c < m .root .chains → ((j : ℕ) → uses (partyAt (set (m .parties) q p) j) c ≡ false)
+    pub dead : (c : ℕ) → size (m .root .originals) (i .ghost .live) ≤ c → c < m .root .primaries → ((j : ℕ) → uses (partyAt (set (m .parties) q p) j) c ≡ false)
         → pageOf (t .pages) (primaryPage c) ≡ zeroPage
 
   live-size : size (t .root .originals) (t .ghost .live) ≡ size (m .root .originals) (i .ghost .live)
@@ -210,28 +210,28 @@ module _ (m : Memory) (b : Book) (i : Inv m b) (q : ℕ) (in-row : q < m .root .
   pages-touched f =
       let ok = i .pages-ok in
       record {
-        owned = rw (w .sizes .limits .chains=, w .sizes .limits .overflow=) (f .owned);
+        owned = rw (w .sizes .limits .primaries=, w .sizes .limits .overflow=) (f .owned);
         kinds = f .kinds;
         beyond = λ c l. w .chains= c ∙ ok .beyond c (rw live-size at l);
         head-is = f .head-is;
         free-count = f .free-count;
         free-pages = f .free-pages;
         chain = λ c l.
-            subst₃ (λ (k : ℕ) (es : List Entry) (xs : List ℕ). ChainIs (t .root .keys) (t .pages) c k es xs) (sym (live-level c)) (sym (records-same c)) (sym (w .chains= c))
-            (subst (λ (k : ℕ). ChainIs k (t .pages) c (localLevel (m .root .originals) (i .ghost .live) c) (i .ghost .records c) (i .ghost .held (inChain c))) (sym (w .sizes .limits .keys=))
+            subst₃ (λ (k : ℕ) (es : List Entry) (xs : List ℕ). ChainIs (t .root .capacity) (t .pages) c k es xs) (sym (live-level c)) (sym (records-same c)) (sym (w .chains= c))
+            (subst (λ (k : ℕ). ChainIs k (t .pages) c (localLevel (m .root .originals) (i .ghost .live) c) (i .ghost .records c) (i .ghost .held (inChain c))) (sym (w .sizes .limits .capacity=))
             (chain-untouched c (rw live-size at l)));
         ascends = λ c l. ap ascending (records-same c) ∙ ok .ascends c (rw live-size at l);
         homed = λ c l k h.
             ap (λ (n : ℕ). hash n (localLevel (t .root .originals) (t .ghost .live) c) k) (w .sizes .limits .originals=) ∙ ap (λ (n : ℕ). hash (m .root .originals) n k) (live-level c)
             ∙ ok .homed c (rw live-size at l) k (sym (ap (hasKey k) (records-same c)) ∙ h);
-        dead = λ c l r u. f .dead c (rw live-size at l) (rw (w .sizes .limits .chains=) at r) (λ j. sym (ap (λ (ps : List Party). uses (partyAt ps j) c) (w .row=)) ∙ u j);
+        dead = λ c l r u. f .dead c (rw live-size at l) (rw (w .sizes .limits .primaries=) at r) (λ j. sym (ap (λ (ps : List Party). uses (partyAt ps j) c) (w .row=)) ∙ u j);
       }
 
   pub book-touched : (c : Book) → c .contents ≡ b .contents → BookOk (t .root) (t .ghost) c
   book-touched c e = record { same = λ k. rw (e, w .sizes .limits .originals=, w .live=, w .records=) (i .book-ok .same k) }
 
   -- The primary pages outside the live file, where the step left them.
-  pub dead-kept : (c : ℕ) → isAmong c ws ≡ false → size (m .root .originals) (i .ghost .live) ≤ c → c < m .root .chains
+  pub dead-kept : (c : ℕ) → isAmong c ws ≡ false → size (m .root .originals) (i .ghost .live) ≤ c → c < m .root .primaries
       → ((j : ℕ) → uses (partyAt (set (m .parties) q p) j) c ≡ false) → (uses p c ≡ false → uses (partyAt (m .parties) q) c ≡ false) → pageOf (t .pages) (primaryPage c) ≡ zeroPage
   dead-kept c n far fits u frees = w .off c n ∙ i .pages-ok .dead c far fits (λ j. before j (cmp j q))
     where

@@ -14,10 +14,8 @@ use Rattle.model.specs.declared.Mode.the-variants.{Read, Selective, Excl
 use Rattle.model.specs.LockWords.{Claim, fieldOf, readersOf, selectiveOf, exclusiveOf}
 use Rattle.model.specs.Holds.{sameMode}
 use Rattle.model.specs.Memory.{partyAt}
-use Rattle.model.specs.Steps.Locate.{rootRead, chainLock, otherLock}
-use Rattle.model.specs.Steps.Change.{chainSelective, chainExclusive}
-use Rattle.model.specs.Steps.Split.{rootSelective}
-use Rattle.model.specs.Steps.Merge.{rootExclusive, mergeLocks}
+use Rattle.model.specs.LockRequests.{rootRead, chainLock, otherLock, chainSelective, chainExclusive, rootSelective, rootExclusive}
+use Rattle.model.specs.Steps.MergeLocks.{mergeLocks}
 
 -- ---- The locks that a record says its party holds
 

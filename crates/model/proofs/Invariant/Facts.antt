@@ -14,7 +14,7 @@ use Rattle.model.specs.Sizes.{within}
 use Rattle.model.specs.Records.{idle}
 use Rattle.model.specs.Memory.{Memory, partyAt}
 use Rattle.model.specs.Book.{Book, Entered, changedAt, noteFor, noteStep}
-use Rattle.model.specs.Steps.Split.{countOfChains}
+use Rattle.model.specs.Addresses.{countOfChains}
 use Rattle.model.proofs.Laws.Lists.{eqb-true, eqb-same, eqb-diff, Ord, lt, ge, ord, and-both, or-either}
 use Rattle.model.proofs.Invariant.Ghost.{rootExtent, size}
 use Rattle.model.proofs.Invariant.Statement.{restructures, liveFor, uses, Scene, NoPages, factsAt, Busy, PartyOk, resting, working, sceneOf, Inv}

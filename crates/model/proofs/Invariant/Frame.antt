@@ -18,13 +18,12 @@ use Rattle.model.specs.Entries.{Entry, staying, going, joined}
 use Rattle.model.specs.Pages.{pageOf, linkOf, pageSound, linkSound, namesOverflow, linkToFirst, primaryPage}
 use Rattle.model.specs.Chains.{entriesOn}
 use Rattle.model.specs.FreeList.{isAmong}
-use Rattle.model.specs.Steps.Change.{chainSelective, chainExclusive}
-use Rattle.model.specs.Steps.Split.{countOfChains, rootSelective}
-use Rattle.model.specs.Steps.Merge.{rootExclusive, otherExclusive, mergeLocks}
+use Rattle.model.specs.LockRequests.{chainSelective, chainExclusive, rootSelective, rootExclusive, otherExclusive, modeOf, chainLock, otherLock}
+use Rattle.model.specs.Addresses.{countOfChains}
+use Rattle.model.specs.Steps.MergeLocks.{mergeLocks}
 use Rattle.model.specs.Book.{Entered}
 use Rattle.model.specs.Holds.{sameMode}
 use Rattle.model.specs.Sizes.{within}
-use Rattle.model.specs.Steps.Locate.{modeOf, chainLock, otherLock}
 use Rattle.model.specs.Steps.Dispatch.{hasStep}
 use Rattle.model.proofs.Invariant.Ghost.{owner, inChain, oldOf, partnerOf, builtBy, newBy, Extent, size, localLevel}
 use Rattle.model.proofs.Laws.Structure.{Linked, SameOn, linked-frame, overflow-frame, chain-frame}
@@ -34,8 +33,8 @@ use Rattle.model.proofs.Invariant.Statement.{restructures, Scene, scrat
 -- Two root records of the same sizes.
 pub record SameLimits (r t : Root) : Type 0 where
   pub originals= : t .originals ≡ r .originals
-  pub keys= : t .keys ≡ r .keys
-  pub chains= : t .chains ≡ r .chains
+  pub capacity= : t .capacity ≡ r .capacity
+  pub primaries= : t .primaries ≡ r .primaries
   pub overflow= : t .overflow ≡ r .overflow
   pub parties= : t .parties ≡ r .parties
 
@@ -102,7 +101,7 @@ heads-grown n e f c lev k g h =
 
 pub sound-sizes : (r t : Root) → SameLimits r t → (w : List ℕ) → pageSound t w ≡ pageSound r w
 unfolding pageSound linkSound namesOverflow
-sound-sizes r t z w = rw (z .keys=, z .chains=, z .overflow=) refl
+sound-sizes r t z w = rw (z .capacity=, z .primaries=, z .overflow=) refl
 
 pub linked-sizes : (r t : Root) → SameLimits r t → (ps xs : List ℕ) → Linked r ps xs → Linked t ps xs
 linked-sizes r t z ps [] h = tt
@@ -181,8 +180,8 @@ module _ (s t : Scene) (j : ℕ) (p : Party) (k : Keeps s t j p) where
   building-kept level es h =
       let b = k .ours 5 (omega arith) (omega arith) in
       record {
-        scratch-is = rw (k .sizes .keys=, b .0) (k .scratch= ∙ h .scratch-is);
-        built = rw (k .sizes .keys=, b .0) (overflow-frame (s .root .keys) (s .pages) (t .pages) (heldIn s (builtBy j)) (drop (s .root .keys) es) (b .1) (h .built));
+        scratch-is = rw (k .sizes .capacity=, b .0) (k .scratch= ∙ h .scratch-is);
+        built = rw (k .sizes .capacity=, b .0) (overflow-frame (s .root .capacity) (s .pages) (t .pages) (heldIn s (builtBy j)) (drop (s .root .capacity) es) (b .1) (h .built));
       }
 
   trash-kept : Trash s j p → Trash t j p
@@ -219,14 +218,14 @@ module _ (s t : Scene) (j : ℕ) (p : Party) (k : Keeps s t j p) where
   split-chains-kept x h = record {
     old-chain = h .old-chain ∙ sym (x .next=);
     new-chain = h .new-chain ∙ sym (count-kept x);
-    room = rw (count-kept x, k .sizes .chains=) (h .room);
+    room = rw (count-kept x, k .sizes .primaries=) (h .room);
   }
 
   moved-back-kept : SameExtents s t → MovedBack s p → MovedBack t p
   moved-back-kept x h = record {
     target = h .target ∙ sym (x .next=);
     partner = h .partner ∙ sym (count-kept x);
-    room = rw (count-kept x, k .sizes .chains=) (h .room);
+    room = rw (count-kept x, k .sizes .primaries=) (h .room);
   }
 
   merge-chains-kept : SameExtents s t → MergeChains s p → MergeChains t p
@@ -260,14 +259,14 @@ module _ (s t : Scene) (j : ℕ) (p : Party) (k : Keeps s t j p) where
       let n = k .ours 6 (omega arith) (omega arith) in
       let r = s .root in
       let es = s .ghost .records (p .chain) in
-      let go = chain-frame (r .keys) (s .pages) (t .pages) (p .other) (r .level + 1) (going (r .originals) (r .level + 1) (p .chain) es) (heldIn s (newBy j)) (k .spare u) (n .1) (h .go) in
+      let go = chain-frame (r .capacity) (s .pages) (t .pages) (p .other) (r .level + 1) (going (r .originals) (r .level + 1) (p .chain) es) (heldIn s (newBy j)) (k .spare u) (n .1) (h .go) in
       record {
         noted = h .noted;
         made = h .made;
         chains = split-chains-kept x (h .chains);
         stay = subst₃ (λ (l i : ℕ) (xs : List Entry). Building t j (l + 1) (staying i (l + 1) (p .chain) xs)) (sym (x .level=)) (sym (k .sizes .originals=)) (sym (f .0))
             (building-kept (r .level + 1) (staying (r .originals) (r .level + 1) (p .chain) es) (h .stay));
-        go = rw (x .level=, k .sizes .originals=, k .sizes .keys=, f .0, n .0) go;
+        go = rw (x .level=, k .sizes .originals=, k .sizes .capacity=, f .0, n .0) go;
         keeps-link = h .keeps-link ∙ ap linkToFirst (sym (f .1));
         nothing-old = old-kept (h .nothing-old);
       }
@@ -318,8 +317,8 @@ module _ (s t : Scene) (j : ℕ) (p : Party) (k : Keeps s t j p) where
     owed-fits = h .owed-fits;
     answer-fits = h .answer-fits;
     answer-set = h .answer-set;
-    chain-fits = rw (k .sizes .chains=) (h .chain-fits);
-    other-fits = rw (k .sizes .chains=) (h .other-fits);
+    chain-fits = rw (k .sizes .primaries=) (h .chain-fits);
+    other-fits = rw (k .sizes .primaries=) (h .other-fits);
   }
 
 -- ---- The frame of every step number

@@ -11,7 +11,7 @@ use lib.Seq.{take-nil, drop-nil}
 use lib.Dec.{leb, ltb, eqb}
 use Rattle.model.specs.declared.Root.{Root}
 use Rattle.model.specs.declared.Party.{Party}
-use Rattle.model.specs.Sizes.{mostKeys, within, withinLimits, lockWords}
+use Rattle.model.specs.Sizes.{mostRecords, within, withinLimits, lockWords}
 use Rattle.model.specs.Records.{idle, rootOfSizes}
 use Rattle.model.specs.Addresses.{span, chainCount}
 use Rattle.model.specs.Entries.{hasKey, ascending}
@@ -36,18 +36,18 @@ within-both a e x h = let f = and-both (leb a x) (leb x e) h in (leb-true a x (f
 pub limits-within : (r : Root) → withinLimits r ≡ true → Limits r
 unfolding withinLimits
 limits-within r h =
-    let originals = within 1 (r .chains) (r .originals) in
-    let chains = within 1 256 (r .chains) in
+    let originals = within 1 (r .primaries) (r .originals) in
+    let chains = within 1 256 (r .primaries) in
     let overflow = leb (r .overflow) 752 in
     let parties = within 1 16 (r .parties) in
-    let four = and-both (originals && chains && overflow && parties) (within 1 mostKeys (r .keys)) h in
+    let four = and-both (originals && chains && overflow && parties) (within 1 mostRecords (r .capacity)) h in
     let three = and-both (originals && chains && overflow) parties (four .0) in
     let two = and-both (originals && chains) overflow (three .0) in
     let one = and-both originals chains (two .0) in
-    let o = within-both 1 (r .chains) (r .originals) (one .0) in
-    let c = within-both 1 256 (r .chains) (one .1) in
+    let o = within-both 1 (r .primaries) (r .originals) (one .0) in
+    let c = within-both 1 256 (r .primaries) (one .1) in
     let p = within-both 1 16 (r .parties) (three .1) in
-    let k = within-both 1 mostKeys (r .keys) (four .1) in
+    let k = within-both 1 mostRecords (r .capacity) (four .1) in
     record {
       some-original = o .0;
       originals-fit = o .1;

@@ -13,10 +13,10 @@ use Rattle.model.specs.declared.Root.{Root}
 use Rattle.model.specs.declared.Party.{Party}
 use Rattle.model.specs.declared.OperationAnswer.{OperationAnswer}
 use Rattle.model.specs.declared.OperationAnswer.the-variants as OperationAnswer
-use Rattle.model.specs.Sizes.{mostKeys, lockWords, allPageWords, within}
+use Rattle.model.specs.Sizes.{mostRecords, lockWords, allPageWords, within}
 use Rattle.model.specs.Records.{idle}
 use Rattle.model.specs.Answers.{operationNumber, answerOf}
-use Rattle.model.specs.Addresses.{span, hash, addressOf}
+use Rattle.model.specs.Addresses.{span, hash, addressOf, countOfChains, mergePartner}
 use Rattle.model.specs.Entries.{Entry, hasKey, ascending, staying, going, joined}
 use Rattle.model.specs.Pages.{pageOf, linkOf, entriesOf, linkToFirst, pageSound, primaryPage, scratchPage, zeroPage}
 use Rattle.model.specs.Chains.{entriesOn}
@@ -25,11 +25,10 @@ use Rattle.model.specs.FreeList.{isAmong}
 use Rattle.model.specs.Memory.{Memory, partyAt}
 use Rattle.model.specs.Book.{Book, Entered, isIn}
 unfoldable pub use Rattle.model.specs.Consistency.{restructures}
-use Rattle.model.specs.Steps.Change.{changed, changeOf, owedBy, isChange}
-use Rattle.model.specs.Steps.Split.{countOfChains}
-use Rattle.model.specs.Steps.Merge.{targetOf, mergeStops}
+use Rattle.model.specs.Steps.Rebuild.{changed, changeOf, owedBy}
+use Rattle.model.specs.Steps.Write.{isChange}
+use Rattle.model.specs.Steps.MergeLocks.{targetOf, mergeStops}
 use Rattle.model.specs.Steps.Dispatch.{hasStep}
-use Rattle.model.specs.Addresses.{mergePartner}
 use Rattle.model.proofs.Invariant.Ghost.{Owner, Named, free, inChain, oldOf, partnerOf, builtBy, newBy, count, Extent, extent, rootExtent, size, advance, localLevel, Ghost, Owned}
 use Rattle.model.proofs.Laws.Structure.{Linked, FreePages, Overflow, ChainIs}
 use Rattle.model.proofs.Invariant.Claims.{LocksOk, claimed}
@@ -39,11 +38,11 @@ use Rattle.model.proofs.Invariant.Claims.{LocksOk, claimed}
 -- The sizes of a root record within their limits.
 pub record Limits (r : Root) : Type 0 where
   pub some-original : 1 ≤ r .originals
-  pub originals-fit : r .originals ≤ r .chains
-  pub chains-fit : r .chains ≤ 256
+  pub originals-fit : r .originals ≤ r .primaries
+  pub chains-fit : r .primaries ≤ 256
   pub overflow-fits : r .overflow ≤ 752
-  pub some-key : 1 ≤ r .keys
-  pub keys-fit : r .keys ≤ mostKeys
+  pub some-key : 1 ≤ r .capacity
+  pub keys-fit : r .capacity ≤ mostRecords
   pub some-party : 1 ≤ r .parties
   pub parties-fit : r .parties ≤ 16
 
@@ -66,9 +65,9 @@ pub record ExtentsOk (r : Root) (ps : List Party) (g : Ghost) : Type 0 where
   pub low-by : (q : ℕ) → restructures (partyAt ps q) ≡ true → g .low ≡ lowFor r (partyAt ps q)
   pub at-rest : ((q : ℕ) → restructures (partyAt ps q) ≡ false) → (g .live ≡ rootExtent r) × (g .low ≡ rootExtent r)
   pub live-next : g .live .next < span (r .originals) (g .live .level)
-  pub live-fits : size (r .originals) (g .live) ≤ r .chains
+  pub live-fits : size (r .originals) (g .live) ≤ r .primaries
   pub root-next : r .next < span (r .originals) (r .level)
-  pub root-fits : size (r .originals) (rootExtent r) ≤ r .chains
+  pub root-fits : size (r .originals) (rootExtent r) ≤ r .primaries
 
 -- ---- Pages
 
@@ -77,16 +76,16 @@ unfoldable pub uses : Party → ℕ → Bool
 uses p c = (eqb (p .step) 18 || eqb (p .step) 29) && eqb (p .other) c
 
 pub record PagesOk (r : Root) (ps : List Party) (m : List ℕ) (g : Ghost) : Type 0 where
-  pub owned : Owned (r .chains) (r .overflow) (g .own) (g .held)
+  pub owned : Owned (r .primaries) (r .overflow) (g .own) (g .held)
   pub kinds : (x : ℕ) → Named (g .own x)
   pub beyond : (c : ℕ) → size (r .originals) (g .live) ≤ c → g .held (inChain c) ≡ []
   pub head-is : r .head ≡ linkToFirst (g .held free)
   pub free-count : r .free ≡ length (g .held free)
   pub free-pages : FreePages m (g .held free)
-  pub chain : (c : ℕ) → c < size (r .originals) (g .live) → ChainIs (r .keys) m c (localLevel (r .originals) (g .live) c) (g .records c) (g .held (inChain c))
+  pub chain : (c : ℕ) → c < size (r .originals) (g .live) → ChainIs (r .capacity) m c (localLevel (r .originals) (g .live) c) (g .records c) (g .held (inChain c))
   pub ascends : (c : ℕ) → c < size (r .originals) (g .live) → ascending (g .records c) ≡ true
   pub homed : (c : ℕ) → c < size (r .originals) (g .live) → (k : ℕ) → hasKey k (g .records c) ≡ true → hash (r .originals) (localLevel (r .originals) (g .live) c) k ≡ c
-  pub dead : (c : ℕ) → size (r .originals) (g .live) ≤ c → c < r .chains → ((q : ℕ) → uses (partyAt ps q) c ≡ false) → pageOf m (primaryPage c) ≡ zeroPage
+  pub dead : (c : ℕ) → size (r .originals) (g .live) ≤ c → c < r .primaries → ((q : ℕ) → uses (partyAt ps q) c ≡ false) → pageOf m (primaryPage c) ≡ zeroPage
 
 -- ---- The book's set
 
@@ -166,8 +165,8 @@ pub record AtHome (s : Scene) (p : Party) : Type 0 where
 
 -- Scratch and the pages it leads to hold the records es at this level.
 pub record Building (s : Scene) (q level : ℕ) (es : List Entry) : Type 0 where
-  pub scratch-is : scratchIn s q ≡ primaryOf (s .root .keys) level es (heldIn s (builtBy q))
-  pub built : Overflow (s .root .keys) (s .pages) (heldIn s (builtBy q)) (drop (s .root .keys) es)
+  pub scratch-is : scratchIn s q ≡ primaryOf (s .root .capacity) level es (heldIn s (builtBy q))
+  pub built : Overflow (s .root .capacity) (s .pages) (heldIn s (builtBy q)) (drop (s .root .capacity) es)
 
 -- The old link is the chain's present link.
 abbrev pub KeepsLink : Scene → Party → Type 0
@@ -230,7 +229,7 @@ pub record Settled (s : Scene) (q : ℕ) (p : Party) (e : Entered) : Type 0 wher
 pub record SplitChains (s : Scene) (p : Party) : Type 0 where
   pub old-chain : p .chain ≡ s .root .next
   pub new-chain : p .other ≡ countOfChains (s .root)
-  pub room : countOfChains (s .root) < s .root .chains
+  pub room : countOfChains (s .root) < s .root .primaries
 
 pub record Dividing (s : Scene) (q : ℕ) (p : Party) (e : Entered) : Type 0 where
   pub settled : Settled s q p e
@@ -242,7 +241,7 @@ pub record Divided (s : Scene) (q : ℕ) (p : Party) (e : Entered) : Type 0 wher
   pub made : Made p
   pub chains : SplitChains s p
   pub stay : Building s q (s .root .level + 1) (staying (s .root .originals) (s .root .level + 1) (p .chain) (s .ghost .records (p .chain)))
-  pub go : ChainIs (s .root .keys) (s .pages) (p .other) (s .root .level + 1)
+  pub go : ChainIs (s .root .capacity) (s .pages) (p .other) (s .root .level + 1)
       (going (s .root .originals) (s .root .level + 1) (p .chain) (s .ghost .records (p .chain))) (heldIn s (newBy q))
   pub keeps-link : KeepsLink s p
   pub nothing-old : NothingOld s q
@@ -270,7 +269,7 @@ pub record Joined (s : Scene) (q : ℕ) (p : Party) (e : Entered) : Type 0 where
 pub record MovedBack (s : Scene) (p : Party) : Type 0 where
   pub target : p .chain ≡ s .root .next
   pub partner : p .other ≡ countOfChains (s .root)
-  pub room : countOfChains (s .root) < s .root .chains
+  pub room : countOfChains (s .root) < s .root .primaries
 
 -- 29: the old pages of both chains, yet to be given back.
 pub record Emptying (s : Scene) (q : ℕ) (p : Party) (e : Entered) : Type 0 where
@@ -348,8 +347,8 @@ pub record Busy (s : Scene) (q : ℕ) (p : Party) (e : Entered) : Type 0 where
   pub owed-fits : p .owed ≤ 3
   pub answer-fits : p .answer ≤ 5
   pub answer-set : 12 ≤ p .step → p .answer ≢ 0
-  pub chain-fits : p .chain < s .root .chains
-  pub other-fits : p .other < s .root .chains
+  pub chain-fits : p .chain < s .root .primaries
+  pub other-fits : p .other < s .root .primaries
 
 pub data PartyOk (s : Scene) (q : ℕ) (p : Party) : Type 0 where
   resting : p ≡ idle → s .entries q ≡ none → NoPages s q → scratchIn s q ≡ zeroPage → PartyOk s q p

@@ -12,7 +12,7 @@ use Rattle.model.specs.declared.Operation.the-variants as Operation
 use Rattle.model.specs.Answers.{operationNumber, answerNumber, answerOf}
 use Rattle.model.specs.Entries.{Entry, keyOf, entryOf, hasKey, belowFirst, ascending, insertedInto, removedFrom}
 use Rattle.model.specs.Book.{Value, isIn, noteAtEleven, contentAtEleven}
-use Rattle.model.specs.Steps.Change.{Change, kept, changed, changeOf}
+use Rattle.model.specs.Steps.Rebuild.{Change, kept, changed, changeOf}
 use Rattle.model.specs.Steps.Dispatch.{hasStep}
 use Rattle.model.proofs.Laws.Lists.{cond-ind, Told, holds, fails, tell, Cmp, same, diff, cmp, Ord, lt, ge, ord, and-both, both-and, or-neither, eqb-true, eqb-same, eqb-diff, eqb-false, ltb-true, lt-ltb}
 

@@ -13,7 +13,7 @@ use lib.ListN.{length, take, drop, length-take, length-drop, take-append-drop, d
 use lib.Dec.{leb}
 use borrow.Author.Tests.{leb-true, leb-false, le-leb, lt-ltb, ne-eqb}
 use Rattle.model.specs.declared.Root.{Root}
-use Rattle.model.specs.Sizes.{pageWords, mostKeys}
+use Rattle.model.specs.Sizes.{pageWords, mostRecords}
 use Rattle.model.specs.Entries.{Entry}
 use Rattle.model.specs.Pages.{pageOf, withPage, levelOf, countOf, linkOf, filledPage, linkToFirst, namesOverflow, linkSound, mostLevel, pageSound}
 use Rattle.model.specs.Chains.{entriesOn}
@@ -75,14 +75,14 @@ pub record Chained (r : Root) (ps : List ℕ) (l : ℕ) (xs : List ℕ) : Type 0
 
 -- x is an overflow page.
 pub record IsOverflow (r : Root) (x : ℕ) : Type 0 where
-  pub above : r .chains ≤ x
-  pub below : x < r .chains + r .overflow
+  pub above : r .primaries ≤ x
+  pub below : x < r .primaries + r .overflow
 
 take-fits : (b : ℕ) (es : List Entry) → length (take b es) ≤ b
 take-fits b es = rw length-take (omega arith)
 
 -- A chain's primary page has sixteen words.
-pub length-primaryOf : (b level : ℕ) (es : List Entry) (xs : List ℕ) → b ≤ mostKeys → length (primaryOf b level es xs) ≡ pageWords
+pub length-primaryOf : (b level : ℕ) (es : List Entry) (xs : List ℕ) → b ≤ mostRecords → length (primaryOf b level es xs) ≡ pageWords
 unfolding primaryOf
 length-primaryOf b level es xs small = let h = take-fits b es in length-filledPage level (take b es) (linkToFirst xs) (omega arith)
 
@@ -92,25 +92,25 @@ unfolding linkSound namesOverflow linkToFirst
 link-sound r [] a = refl
 link-sound r (x ∷ xs) a =
     let here = a .0 in
-    rw (ne-eqb (x + 1) 0 (λ e. omega arith), lt-ltb (r .chains) (x + 1) (omega arith), le-leb (x + 1) (r .chains + r .overflow) (omega arith))
+    rw (ne-eqb (x + 1) 0 (λ e. omega arith), lt-ltb (r .primaries) (x + 1) (omega arith), le-leb (x + 1) (r .primaries + r .overflow) (omega arith))
 
 -- A page so filled passes the tests of a page followed.
 filled-sound :
     (r : Root) (level : ℕ) (es : List Entry) (xs : List ℕ) → level ≤ mostLevel → All (IsOverflow r) xs
-    → pageSound r (filledPage level (take (r .keys) es) (linkToFirst xs)) ≡ true
+    → pageSound r (filledPage level (take (r .capacity) es) (linkToFirst xs)) ≡ true
 unfolding pageSound
 filled-sound r level es xs h a =
-    let w = take (r .keys) es in
+    let w = take (r .capacity) es in
     let l = linkToFirst xs in
-    rw (level-filledPage level w l, count-filledPage level w l, link-filledPage level w l, le-leb (length w) (r .keys) (take-fits (r .keys) es), le-leb level mostLevel h)
+    rw (level-filledPage level w l, count-filledPage level w l, link-filledPage level w l, le-leb (length w) (r .capacity) (take-fits (r .capacity) es), le-leb level mostLevel h)
     (link-sound r xs a)
 
-pub overflow-linked : (r : Root) (ps xs : List ℕ) (es : List Entry) → All (IsOverflow r) xs → Overflow (r .keys) ps xs es → Linked r ps xs
+pub overflow-linked : (r : Root) (ps xs : List ℕ) (es : List Entry) → All (IsOverflow r) xs → Overflow (r .capacity) ps xs es → Linked r ps xs
 overflow-linked r ps [] es a o = tt
 overflow-linked r ps (x ∷ xs) es a o = (
   rw (o .1) (filled-sound r 0 es xs (omega arith) (a .1)),
-  rw (o .1) (link-filledPage 0 (take (r .keys) es) (linkToFirst xs)),
-  overflow-linked r ps xs (drop (r .keys) es) (a .1) (o .2),
+  rw (o .1) (link-filledPage 0 (take (r .capacity) es) (linkToFirst xs)),
+  overflow-linked r ps xs (drop (r .capacity) es) (a .1) (o .2),
 )
 
 pub overflow-entries : (b : ℕ) (ps xs : List ℕ) (es : List Entry) → Overflow b ps xs es → entriesOn ps xs ≡ es
@@ -154,9 +154,9 @@ module _ (b : ℕ) (ps : List ℕ) (c level : ℕ) (es : List Entry) (xs : List 
   chain-entries =
       rw (chain .primary, entries-filledPage level (take b es) (linkToFirst xs), overflow-entries b ps xs (drop b es) (chain .overflow)) (take-append-drop b es)
 
-module _ (r : Root) (ps : List ℕ) (c level : ℕ) (es : List Entry) (xs : List ℕ) (chain : ChainIs (r .keys) ps c level es xs) (over : All (IsOverflow r) xs) where
+module _ (r : Root) (ps : List ℕ) (c level : ℕ) (es : List Entry) (xs : List ℕ) (chain : ChainIs (r .capacity) ps c level es xs) (over : All (IsOverflow r) xs) where
   pub chain-chained : Chained r ps (linkOf (pageOf ps c)) xs
-  chain-chained = record { first = chain-link (r .keys) ps c level es xs chain; linked = overflow-linked r ps xs (drop (r .keys) es) over (chain .overflow) }
+  chain-chained = record { first = chain-link (r .capacity) ps c level es xs chain; linked = overflow-linked r ps xs (drop (r .capacity) es) over (chain .overflow) }
 
   pub chain-sound : level ≤ mostLevel → pageSound r (pageOf ps c) ≡ true
   unfolding primaryOf
@@ -164,7 +164,7 @@ module _ (r : Root) (ps : List ℕ) (c level : ℕ) (es : List Entry) (xs : List
 
 -- ---- Overflow pages filled
 
-module _ (b : ℕ) (small : b ≤ mostKeys) where
+module _ (b : ℕ) (small : b ≤ mostRecords) where
   whole : (level : ℕ) (es : List Entry) (l : ℕ) → length (filledPage level (take b es) l) ≡ pageWords
   whole level es l = let h = take-fits b es in length-filledPage level (take b es) l (omega arith)
 
@@ -219,7 +219,7 @@ module _ (b : ℕ) (small : b ≤ mostKeys) where
 -- Room for the records es: a page c, and as many overflow pages xs as they need, all different pages of the memory.
 pub record Room (b : ℕ) (ps : List ℕ) (c : ℕ) (es : List Entry) (xs : List ℕ) : Type 0 where
   pub some-key : 0 < b
-  pub keys-fit : b ≤ mostKeys
+  pub keys-fit : b ≤ mostRecords
   pub has-primary : Has ps c
   pub has-overflow : All (Has ps) xs
   pub distinct : Distinct xs
@@ -237,7 +237,7 @@ pub record Written (b : ℕ) (ps qs : List ℕ) (c level : ℕ) (es : List Entry
   pub level-kept : levelOf (pageOf qs c) ≡ level
   pub count-fits : countOf (pageOf qs c) ≤ b
   pub overflow : All (λ x. OverflowWords b (pageOf qs x)) xs
-  pub chained : (r : Root) → r .keys ≡ b → All (IsOverflow r) xs → Chained r qs (linkOf (pageOf qs c)) xs
+  pub chained : (r : Root) → r .capacity ≡ b → All (IsOverflow r) xs → Chained r qs (linkOf (pageOf qs c)) xs
   pub others : (y : ℕ) → y ≢ c → Outside y xs → pageOf qs y ≡ pageOf ps y
   pub length-kept : length qs ≡ length ps
 

@@ -103,32 +103,32 @@ free-up before x (suc n) after e =
 
 module _ (r : Root) where
   -- The primary pages come first.
-  primaries : length (zeroes (pageWords * r .chains)) ≡ r .chains * pageWords
-  primaries = length-zeroes (pageWords * r .chains) ∙ omega arith
+  primaries : length (zeroes (pageWords * r .primaries)) ≡ r .primaries * pageWords
+  primaries = length-zeroes (pageWords * r .primaries) ∙ omega arith
 
   pub length-formatted : length (formattedPages r) ≡ allPageWords r
   unfolding formattedPages
   length-formatted = simp (length-append, length-replicate, length-freePages) (omega arith)
 
-  pub formatted-primary : (c : ℕ) → c < r .chains → pageOf (formattedPages r) (primaryPage c) ≡ zeroPage
+  pub formatted-primary : (c : ℕ) → c < r .primaries → pageOf (formattedPages r) (primaryPage c) ≡ zeroPage
   unfolding formattedPages
   formatted-primary c h =
-      page-left (zeroes (pageWords * r .chains)) (freePages (r .chains) (r .overflow) ++ zeroes (pageWords * r .parties)) c
+      page-left (zeroes (pageWords * r .primaries)) (freePages (r .primaries) (r .overflow) ++ zeroes (pageWords * r .parties)) c
       (record { fits = omega (arith, primaries) })
-      ∙ page-zeroes (r .chains) c h
+      ∙ page-zeroes (r .primaries) c h
 
-  pub formatted-free : FreePages (formattedPages r) (upFrom (r .chains) (r .overflow))
+  pub formatted-free : FreePages (formattedPages r) (upFrom (r .primaries) (r .overflow))
   unfolding formattedPages
-  formatted-free = free-up (zeroes (pageWords * r .chains)) (r .chains) (r .overflow) (zeroes (pageWords * r .parties)) primaries
+  formatted-free = free-up (zeroes (pageWords * r .primaries)) (r .primaries) (r .overflow) (zeroes (pageWords * r .parties)) primaries
 
   pub formatted-scratch : (q : ℕ) → q < r .parties → pageOf (formattedPages r) (scratchPage r q) ≡ zeroPage
   unfolding formattedPages
   formatted-scratch q h =
       let scratches = zeroes (pageWords * r .parties) in
-      let frees = freePages (r .chains) (r .overflow) in
-      let front = zeroes (pageWords * r .chains) ++ frees in
-      let long : length front ≡ (r .chains + r .overflow) * pageWords =
-      length-append (zeroes (pageWords * r .chains)) frees ∙ omega (arith, primaries, length-freePages (r .chains) (r .overflow)) in
-      ap (λ (m : List ℕ). pageOf m (scratchPage r q)) (sym (append-assoc (zeroes (pageWords * r .chains)) frees scratches))
-      ∙ page-right front scratches (r .chains + r .overflow) q long
+      let frees = freePages (r .primaries) (r .overflow) in
+      let front = zeroes (pageWords * r .primaries) ++ frees in
+      let long : length front ≡ (r .primaries + r .overflow) * pageWords =
+      length-append (zeroes (pageWords * r .primaries)) frees ∙ omega (arith, primaries, length-freePages (r .primaries) (r .overflow)) in
+      ap (λ (m : List ℕ). pageOf m (scratchPage r q)) (sym (append-assoc (zeroes (pageWords * r .primaries)) frees scratches))
+      ∙ page-right front scratches (r .primaries + r .overflow) q long
       ∙ page-zeroes (r .parties) q h

@@ -12,7 +12,7 @@ use lib.ListN.{length, take, drop, replicate, length-append, length-drop, length
 use lib.Seq.{length-take-le, take-at, drop-at, drop-append-le, take-append-le, drop-append-add, drop-drop, take-append-seam}
 use lib.Dec.{ltb}
 use borrow.Author.Tests.{ltb-true, ltb-false}
-use Rattle.model.specs.Sizes.{pageWords, mostKeys}
+use Rattle.model.specs.Sizes.{pageWords, mostRecords}
 use Rattle.model.specs.Entries.{Entry}
 use Rattle.model.specs.Pages.{pageOf, withPage, levelOf, countOf, linkOf, entriesOf, filledPage, freePage, zeroPage, withLocalLevel}
 
@@ -115,9 +115,9 @@ link-filledPage level es link = refl
 
 pub entries-filledPage : (level : ℕ) (es : List Entry) (link : ℕ) → entriesOf (filledPage level es link) ≡ es
 unfolding entriesOf countOf filledPage
-entries-filledPage level es link = take-append-seam es (replicate (mostKeys + 1 - length es) 0)
+entries-filledPage level es link = take-append-seam es (replicate (mostRecords + 1 - length es) 0)
 
-pub length-filledPage : (level : ℕ) (es : List Entry) (link : ℕ) → length es ≤ mostKeys → length (filledPage level es link) ≡ pageWords
+pub length-filledPage : (level : ℕ) (es : List Entry) (link : ℕ) → length es ≤ mostRecords → length (filledPage level es link) ≡ pageWords
 unfolding filledPage
 length-filledPage level es link h = simp (length-append, length-replicate) (omega arith)
 
@@ -196,6 +196,6 @@ withLocalLevel-filledPage level old es link = refl
 -- ---- The records of a page
 
 -- As many as the count says, where the count is no damage.
-pub length-entriesOf : (w : List ℕ) → length w ≡ pageWords → countOf w ≤ mostKeys → length (entriesOf w) ≡ countOf w
+pub length-entriesOf : (w : List ℕ) → length w ≡ pageWords → countOf w ≤ mostRecords → length (entriesOf w) ≡ countOf w
 unfolding entriesOf
 length-entriesOf w e h = length-take-le (countOf w) (drop 3 w) (rw length-drop (omega (arith, e)))

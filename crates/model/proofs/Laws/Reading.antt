@@ -32,7 +32,7 @@ use Rattle.model.proofs.Laws.Filling.{IsOverflow, needed-few, needed-mo
 pub has-overflow : (r : Root) (ps xs : List ℕ) → length ps ≡ allPageWords r → All (IsOverflow r) xs → All (Has ps) xs
 has-overflow r ps xs e a = all-map xs (λ x h. record { fits = omega arith }) a
 
-pub primary-outside : (r : Root) (c : ℕ) (xs : List ℕ) → c < r .chains → All (IsOverflow r) xs → Outside c xs
+pub primary-outside : (r : Root) (c : ℕ) (xs : List ℕ) → c < r .primaries → All (IsOverflow r) xs → Outside c xs
 primary-outside r c xs l a = all-map xs (λ x h e. omega arith) a
 
 pub scratch-outside : (r : Root) (q : ℕ) (xs : List ℕ) → All (IsOverflow r) xs → Outside (scratchPage r q) xs
@@ -73,15 +73,15 @@ from-first p (suc v) x xs h l = go (cmp x (p + v)) (λ k. from-first p v x xs h 
 
 -- A list of overflow pages without repeats is no longer than they are many.
 pub length-overflow : (r : Root) (xs : List ℕ) → All (IsOverflow r) xs → ((x : ℕ) → count x xs ≤ 1) → length xs ≤ r .overflow
-length-overflow r xs a f = omega (arith, all xs a, from-once (r .chains) (r .overflow) xs f)
+length-overflow r xs a f = omega (arith, all xs a, from-once (r .primaries) (r .overflow) xs f)
   where
-    all : (ys : List ℕ) → All (IsOverflow r) ys → length ys ≤ countFrom (r .chains) (r .overflow) ys
+    all : (ys : List ℕ) → All (IsOverflow r) ys → length ys ≤ countFrom (r .primaries) (r .overflow) ys
     all [] b = omega arith
-    all (y ∷ ys) b = omega (arith, all ys (b .1), from-first (r .chains) (r .overflow) y ys (b .0 .above) (b .0 .below))
+    all (y ∷ ys) b = omega (arith, all ys (b .1), from-first (r .primaries) (r .overflow) y ys (b .0 .above) (b .0 .below))
 
 -- ---- The lists that owners hold: overflow pages, not too many, and no page in two lists
 
-module _ (r : Root) {own : ℕ → Owner} {held : Owner → List ℕ} (w : Owned (r .chains) (r .overflow) own held) where
+module _ (r : Root) {own : ℕ → Owner} {held : Owner → List ℕ} (w : Owned (r .primaries) (r .overflow) own held) where
   pub held-overflow : (o : Owner) → All (IsOverflow r) (held o)
   held-overflow o = all-from (IsOverflow r) (held o) (λ x e. let b = overflow-bounds w o x e in record { above = b .0; below = b .1 })
 
@@ -113,7 +113,7 @@ first-some x xs = ne-eqb (x + 1) 0 (λ e. omega arith)
 
 pub names-first : (r : Root) (x : ℕ) (xs : List ℕ) → IsOverflow r x → namesOverflow r (linkToFirst (x ∷ xs)) ≡ true
 unfolding namesOverflow linkToFirst
-names-first r x xs h = rw (lt-ltb (r .chains) (x + 1) (omega arith), le-leb (x + 1) (r .chains + r .overflow) (omega arith))
+names-first r x xs h = rw (lt-ltb (r .primaries) (x + 1) (omega arith), le-leb (x + 1) (r .primaries + r .overflow) (omega arith))
 
 pub names-some : (r : Root) (xs : List ℕ) → All (IsOverflow r) xs → linkToFirst xs ≢ 0 → namesOverflow r (linkToFirst xs) ≡ true
 unfolding linkToFirst
@@ -162,9 +162,9 @@ pub entries-primary :
 unfolding primaryOf
 entries-primary b ps c level es xs k = rw (k .primary) (entries-filledPage level (take b es) (linkToFirst xs))
 
-module _ (r : Root) (ps : List ℕ) (c level : ℕ) (es : List Entry) (xs : List ℕ) (k : ChainIs (r .keys) ps c level es xs) where
+module _ (r : Root) (ps : List ℕ) (c level : ℕ) (es : List Entry) (xs : List ℕ) (k : ChainIs (r .capacity) ps c level es xs) where
   pub chain-list : All (IsOverflow r) xs → length xs ≤ r .overflow → listFrom r ps (linkToFirst xs) ≡ sound xs
-  chain-list a h = linked-list r ps xs (overflow-linked r ps xs (drop (r .keys) es) a (k .overflow)) h
+  chain-list a h = linked-list r ps xs (overflow-linked r ps xs (drop (r .capacity) es) a (k .overflow)) h
 
   pub chain-read :
       level ≤ mostLevel → All (IsOverflow r) xs → length xs ≤ r .overflow → ascending es ≡ true
@@ -173,9 +173,9 @@ module _ (r : Root) (ps : List ℕ) (c level : ℕ) (es : List Entry) (xs : List
   chain-read h a n up =
       rw (
         chain-sound r ps c level es xs k a h,
-        chain-link (r .keys) ps c level es xs k,
+        chain-link (r .capacity) ps c level es xs k,
         chain-list a n,
-        chain-entries (r .keys) ps c level es xs k,
-        chain-level (r .keys) ps c level es xs k,
+        chain-entries (r .capacity) ps c level es xs k,
+        chain-level (r .capacity) ps c level es xs k,
         up,
       )

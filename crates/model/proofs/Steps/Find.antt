@@ -19,8 +19,9 @@ use Rattle.model.specs.Entries.{hasKey}
 use Rattle.model.specs.Pages.{pageOf, withPage, linkOf, entriesOf, linkToFirst, linkedPage, scratchPage}
 use Rattle.model.specs.Chains.{entriesOn}
 use Rattle.model.specs.FreeList.{isAmong}
-use Rattle.model.specs.Outcome.{moved, withScratch}
-use Rattle.model.specs.Steps.Locate.{chainLock}
+use Rattle.model.specs.Outcome.{moved}
+use Rattle.model.specs.ScratchPages.{withScratch}
+use Rattle.model.specs.LockRequests.{chainLock}
 use Rattle.model.specs.Steps.Find.{answered, lookedOn, step09}
 use Rattle.model.specs.Memory.{Memory, partyAt, viewOf}
 use Rattle.model.specs.Book.{Book, agreesWith, afterReply}

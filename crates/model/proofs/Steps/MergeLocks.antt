@@ -16,10 +16,9 @@ use Rattle.model.specs.Addresses.{chainCount, mergePartner}
 use Rattle.model.specs.Memory.{Memory, partyAt, viewOf}
 use Rattle.model.specs.Book.{Book}
 use Rattle.model.specs.Holds.{sameMode}
-use Rattle.model.specs.Steps.Change.{chainExclusive}
-use Rattle.model.specs.Outcome.{request}
-use Rattle.model.specs.Steps.Split.{rootSelective, endedWith}
-use Rattle.model.specs.Steps.Merge.{rootExclusive, otherExclusive, targetOf, targetExclusive, mergeStops, mergeLocks, merging, step23, step24, step25, step30}
+use Rattle.model.specs.LockRequests.{chainExclusive, request, rootSelective, rootExclusive, otherExclusive}
+use Rattle.model.specs.Endings.{endedWith}
+use Rattle.model.specs.Steps.MergeLocks.{targetOf, targetExclusive, mergeStops, mergeLocks, merging, step23, step24, step25, step30}
 use Rattle.model.specs.Steps.Dispatch.{hasStep}
 use Rattle.model.proofs.Laws.Lists.{cond-ind}
 use Rattle.model.proofs.Laws.Addresses.{span-pos}
@@ -96,9 +95,9 @@ module _ (m : Memory) (b : Book) (i : Inv m b) (q : ℕ) (in-row : q < m .root .
         let r = m .root in
         let row = set (m .parties) q (merging r me) in
         let partner = mergePartner (r .originals) (r .level) (r .next) in
-        let partner-fits : partner < r .chains = omega (arith, i .extents-ok .root-fits, i .limits .some-original, i .limits .originals-fit) in
+        let partner-fits : partner < r .primaries = omega (arith, i .extents-ok .root-fits, i .limits .some-original, i .limits .originals-fit) in
         let first = target-before (r .originals) (r .level) (r .next) (i .limits .some-original) (i .extents-ok .root-next) goes-on in
-        let target-fits : targetOf r < r .chains = omega arith in
+        let target-fits : targetOf r < r .primaries = omega arith in
         request-kept m b i q in-row (targetExclusive r) (merging r me) (omega arith) gains-target (omega arith) (omega arith) (omega arith)
         (λ x o. absurd (owns-nothing (i .pages-ok .owned) (oldOf q) x (kinds-apart (oldOf q) nobody refl) (f .facts .no-pages .nothing-old .no-old) o))
         (λ d u. no-use d) (λ y. extents-keep r (m .parties) (i .ghost) q (merging r me) row-long 24 is-24 refl refl refl (i .extents-ok))

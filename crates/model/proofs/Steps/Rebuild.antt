@@ -18,11 +18,12 @@ use Rattle.model.specs.Entries.{Entry, hasKey}
 use Rattle.model.specs.Pages.{linkToFirst}
 use Rattle.model.specs.Chains.{Chain}
 use Rattle.model.specs.Filling.{pagesFor}
-use Rattle.model.specs.FreeList.{tooFew}
+use Rattle.model.specs.FreeList.{tooFew, rootAfterTaking}
 use Rattle.model.specs.Memory.{Memory, partyAt, viewOf}
 use Rattle.model.specs.Book.{Book, Entered, isIn, changedAt, withEntry, noted, noteAtTen, noteStep, noteFor, agreesWith, afterReply}
-use Rattle.model.specs.Steps.Locate.{modeOf}
-use Rattle.model.specs.Steps.Change.{Change, kept, changed, changeOf, owedBy, isChange, changesNothing, changing, rebuilt, rebuildWith, rootAfterTaking, step10}
+use Rattle.model.specs.LockRequests.{modeOf}
+use Rattle.model.specs.Steps.Rebuild.{Change, kept, changed, changeOf, owedBy, changesNothing, changing, rebuilt, rebuildWith, step10}
+use Rattle.model.specs.Steps.Write.{isChange}
 use Rattle.model.specs.Steps.Dispatch.{hasStep}
 use Rattle.model.proofs.Laws.Lists.{cond-ind, eqb-same, eqb-diff, ltb-false}
 use Rattle.model.proofs.Invariant.Ghost.{free, inChain, oldOf, partnerOf, builtBy, size, localLevel}
@@ -157,9 +158,9 @@ module _ (m : Memory) (b : Book) (i : Inv m b) (q : ℕ) (in-row : q < m .root .
 
   -- ---- The changed chain is built: on to 11
 
-  module _ (a : ℕ) (after : List Entry) (change : changeOf (me .operation) (me .key) records ≡ changed a after) (fits : a ≤ 5) (enough : pagesFor (r .keys) after ≤ r .free) where
+  module _ (a : ℕ) (after : List Entry) (change : changeOf (me .operation) (me .key) records ≡ changed a after) (fits : a ≤ 5) (enough : pagesFor (r .capacity) after ≤ r .free) where
     abbrev need : ℕ
-    need = pagesFor (r .keys) after
+    need = pagesFor (r .capacity) after
 
     abbrev p-then : Party
     p-then = atStep 11 (withOwed (owedBy (me .operation) (length olds) need after) (withOld (linkToFirst olds) (withAnswer a me)))
@@ -215,9 +216,9 @@ module _ (m : Memory) (b : Book) (i : Inv m b) (q : ℕ) (in-row : q < m .root .
       nothing-kept a (d .noted) (d .no-change) (d .some-answer) (d .answer-fits)
   by-change (changed a after) e =
       let d : ChangesChain (entry .operation) (hasKey (me .key) records) a = subst (Decided (entry .operation) (hasKey (me .key) records)) e decision in
-      cond-ind (Kept m b q) (ltb (r .free) (pagesFor (r .keys) after)) _ _
+      cond-ind (Kept m b q) (ltb (r .free) (pagesFor (r .capacity) after)) _ _
       (λ _. nothing-kept 5 (d .noted) refl (omega arith) (omega arith))
-      (λ f. let enough = ltb-false (r .free) (pagesFor (r .keys) after) f in
+      (λ f. let enough = ltb-false (r .free) (pagesFor (r .capacity) after) f in
       rw (taken-one m b i q in-row no-pages level after enough) (rebuilt-kept a after e (d .answer-fits) enough))
 
   pub step10-kept : Kept m b q (step10 (viewOf m q))

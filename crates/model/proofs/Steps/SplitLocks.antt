@@ -15,13 +15,14 @@ use Rattle.model.specs.declared.Restructuring.the-variants as Restructur
 use Rattle.model.specs.Records.{idle, atStep, withChain, withOther, withOwed}
 use Rattle.model.specs.Answers.{answerOf, restructuringOf}
 use Rattle.model.specs.LockWords.{rootWord, chainWord, permits}
-use Rattle.model.specs.Addresses.{chainCount, splitBarred}
-use Rattle.model.specs.Outcome.{withParty, moved, request, done, givenUp, withoutHold}
+use Rattle.model.specs.Addresses.{chainCount, splitBarred, countOfChains}
+use Rattle.model.specs.Outcome.{withParty, moved}
+use Rattle.model.specs.LockRequests.{request, givenUp, withoutHold, chainSelective, rootSelective}
+use Rattle.model.specs.Endings.{done, oldPagesFirst, finished, endedWith}
 use Rattle.model.specs.Memory.{Memory, partyAt, viewOf}
 use Rattle.model.specs.Book.{Book}
 use Rattle.model.specs.Holds.{sameMode}
-use Rattle.model.specs.Steps.Change.{chainSelective, oldPagesFirst, finished}
-use Rattle.model.specs.Steps.Split.{countOfChains, rootSelective, nextSelective, endedWith, splitting, step15, step16, step19, step22}
+use Rattle.model.specs.Steps.SplitLocks.{nextSelective, splitting, step15, step16, step19, step22}
 use Rattle.model.specs.Steps.Dispatch.{hasStep}
 use Rattle.model.proofs.Laws.Lists.{cond-ind, eqb-true, eqb-false}
 use Rattle.model.proofs.Invariant.Ghost.{nobody, oldOf, size}
@@ -102,7 +103,7 @@ module _ (m : Memory) (b : Book) (i : Inv m b) (q : ℕ) (in-row : q < m .root .
     abbrev parting : Party
     parting = atStep 17 (withChain (m .root .next) (withOther (countOfChains (m .root)) (partyAt (m .parties) q)))
 
-    next-fits : m .root .next < m .root .chains
+    next-fits : m .root .next < m .root .primaries
     unfolding size chainCount
     next-fits = omega (arith, i .extents-ok .root-next, i .extents-ok .root-fits)
 
@@ -119,7 +120,7 @@ module _ (m : Memory) (b : Book) (i : Inv m b) (q : ℕ) (in-row : q < m .root .
     unfolding restructures liveFor lowFor
     extents-seventeen = extents-keep (m .root) (m .parties) (i .ghost) q parting row-long 16 is-sixteen refl refl refl (i .extents-ok)
 
-    divides : countOfChains (m .root) < m .root .chains → Kept m b q (request (viewOf m q) (nextSelective (m .root)) parting)
+    divides : countOfChains (m .root) < m .root .primaries → Kept m b q (request (viewOf m q) (nextSelective (m .root)) parting)
     unfolding hasStep
     divides room =
         let e = at-sixteen .entered in
@@ -137,8 +138,8 @@ module _ (m : Memory) (b : Book) (i : Inv m b) (q : ℕ) (in-row : q < m .root .
     pub step16-kept : Kept m b q (step16 (viewOf m q))
     unfolding step16 splitting splitBarred size
     step16-kept =
-        cond-ind (Kept m b q) (eqb (countOfChains (m .root)) (m .root .chains)) _ _ (λ _. skips)
-        (λ n. let d = eqb-false (countOfChains (m .root)) (m .root .chains) n in divides (omega (arith, i .extents-ok .root-fits)))
+        cond-ind (Kept m b q) (eqb (countOfChains (m .root)) (m .root .primaries)) _ _ (λ _. skips)
+        (λ n. let d = eqb-false (countOfChains (m .root)) (m .root .primaries) n in divides (omega (arith, i .extents-ok .root-fits)))
 
   -- ---- 19: give up the chain
 

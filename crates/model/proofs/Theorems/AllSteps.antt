@@ -18,22 +18,24 @@ use Rattle.model.proofs.Laws.Lists.{and-both, or-either, leb-true}
 use Rattle.model.proofs.Invariant.Statement.{Inv}
 use Rattle.model.proofs.Effects.Kept.{Kept}
 use Rattle.model.proofs.Theorems.Calls.{StepsKept}
-use Rattle.model.proofs.Steps.Locate.{step01-kept, step02-kept, step03-kept, step04-kept, step05-kept, step07-kept, step08-kept}
-use Rattle.model.proofs.Steps.Chase.{step06-kept}
+use Rattle.model.proofs.Steps.Locate.{step01-kept, step02-kept, step03-kept, step04-kept, step05-kept}
+use Rattle.model.proofs.Steps.Chase.Follow.{step07-kept, step08-kept}
+use Rattle.model.proofs.Steps.Chase.Copy.{step06-kept}
 use Rattle.model.proofs.Steps.Find.{step09-kept}
 use Rattle.model.proofs.Steps.Rebuild.{step10-kept}
-use Rattle.model.proofs.Steps.Write.{step11-kept}
-use Rattle.model.proofs.Steps.Leave.{step12-kept, step13-kept}
-use Rattle.model.proofs.Steps.Change.{step14-kept}
+use Rattle.model.proofs.Steps.Write.PrimaryPage.{step11-kept}
+use Rattle.model.proofs.Steps.Write.GiveUp.{step12-kept}
+use Rattle.model.proofs.Steps.OldPages.Request.{step13-kept}
+use Rattle.model.proofs.Steps.OldPages.GiveBack.{step14-kept}
 use Rattle.model.proofs.Steps.SplitLocks.{step15-kept, step16-kept, step19-kept, step22-kept}
-use Rattle.model.proofs.Steps.Divide.{step17-kept}
-use Rattle.model.proofs.Steps.SplitWrite.{step18-kept}
-use Rattle.model.proofs.Steps.SplitRoot.{step20-kept, step21-kept}
+use Rattle.model.proofs.Steps.SplitBuild.{step17-kept}
+use Rattle.model.proofs.Steps.SplitWrite.OldChain.{step18-kept}
+use Rattle.model.proofs.Steps.SplitWrite.Root.{step20-kept, step21-kept}
 use Rattle.model.proofs.Steps.MergeLocks.{step23-kept, step24-kept, step25-kept, step30-kept}
-use Rattle.model.proofs.Steps.Combine.{step26-kept}
-use Rattle.model.proofs.Steps.MergeRoot.{step27-kept}
-use Rattle.model.proofs.Steps.MergeWrite.{step28-kept}
-use Rattle.model.proofs.Steps.Empty.{step29-kept}
+use Rattle.model.proofs.Steps.MergeBuild.{step26-kept}
+use Rattle.model.proofs.Steps.MergeWrite.Root.{step27-kept}
+use Rattle.model.proofs.Steps.MergeWrite.Target.{step28-kept}
+use Rattle.model.proofs.Steps.MergeWrite.Partner.{step29-kept}
 
 -- An operation has steps 1 to 30 only.
 steps-last : (o n : ℕ) → hasStep o n ≡ true → n < 31

@@ -24,27 +24,36 @@ use Rattle.model.specs.declared.BeginAnswer.{BeginAnswer}
 use Rattle.model.specs.declared.BeginAnswer.the-variants as BeginAnswer
 use Rattle.model.specs.Sizes.{pageWords}
 use Rattle.model.specs.Records.{idle, begun, withOld, withOwed}
-use Rattle.model.specs.Answers.{operationNumber}
+use Rattle.model.specs.Answers.{operationNumber, performs}
 use Rattle.model.specs.LockWords.{Claim}
-use Rattle.model.specs.Addresses.{splitBarred}
+use Rattle.model.specs.Addresses.{splitBarred, countOfChains}
 use Rattle.model.specs.Entries.{hasKey}
 use Rattle.model.specs.Pages.{pageOf, withPage, levelOf, linkOf, linkToFirst, entriesOf, pageSound, primaryPage, scratchPage, linkedPage, namesOverflow}
 use Rattle.model.specs.Chains.{Checked, damaged, sound, Chain, chainOf, listFrom}
 use Rattle.model.specs.Filling.{pagesFor}
-use Rattle.model.specs.FreeList.{tooFew, pagesTaken}
-use Rattle.model.specs.Outcome.{View, Outcome, withParty, withScratch, scratchOf, refuse, damage, moved, done, guarded, checked, isGranted, withHold, request, isHeld, heldAll, givenUp}
-use Rattle.model.specs.Steps.Locate.{chainLock, release, located, Chase, chaseOf, arrived, chasing, step01, step02, step03, step04, step05, step06, step07, step08}
+use Rattle.model.specs.FreeList.{tooFew, pagesTaken, roomToGiveBack, pagesGivenBack}
+use Rattle.model.specs.Outcome.{View, Outcome, withParty, refuse, damage, moved, guarded, checked}
+use Rattle.model.specs.ScratchPages.{withScratch, scratchOf, primaryWritten}
+use Rattle.model.specs.Endings.{done, finished, onward, oldPagesFirst, endedWith}
+use Rattle.model.specs.LockRequests.{isGranted, withHold, request, isHeld, heldAll, givenUp, chainLock, release, chainSelective, chainExclusive, rootSelective, rootExclusive}
+use Rattle.model.specs.Steps.Locate.{located, step01, step02, step03, step04, step05}
+use Rattle.model.specs.Steps.Chase.{Chase, chaseOf, arrived, chasing, step06, step07, step08}
 use Rattle.model.specs.Steps.Find.{answered, lookedOn, step09}
-use Rattle.model.specs.Steps.Change.{Change, kept, changed, chainSelective, chainExclusive, changesNothing, changing, rebuilt, rebuildWith, primaryWritten, finished, onward, oldPagesFirst, isChange, roomToGiveBack, pagesGivenBack, oldGivenBack, step10, step11, step12, step13, step14}
-use Rattle.model.specs.Steps.Split.{Halves, halvesNeed, countOfChains, rootSelective, endedWith, splitting, divided, divideWith, step15, step16, step17, step18, step19, step20, step21, step22}
-use Rattle.model.specs.Steps.Merge.{Pair, pairOf, joinedEntries, mergeGoes, rootExclusive, mergeStops, merging, combined, combineWith, mergedAway, partnerCleared, step23, step24, step25, step26, step27, step28, step29, step30}
+use Rattle.model.specs.Steps.Rebuild.{Change, kept, changed, changesNothing, changing, rebuilt, rebuildWith, step10}
+use Rattle.model.specs.Steps.Write.{isChange, step11, step12}
+use Rattle.model.specs.Steps.OldPages.{oldGivenBack, step13, step14}
+use Rattle.model.specs.Steps.SplitBuild.{Halves, halvesNeed, divided, divideWith, step17}
+use Rattle.model.specs.Steps.SplitLocks.{splitting, step15, step16, step19, step22}
+use Rattle.model.specs.Steps.SplitWrite.{step18, step20, step21}
+use Rattle.model.specs.Steps.MergeBuild.{Pair, pairOf, joinedEntries, mergeGoes, combined, combineWith, step26}
+use Rattle.model.specs.Steps.MergeLocks.{mergeStops, merging, step23, step24, step25, step30}
+use Rattle.model.specs.Steps.MergeWrite.{mergedAway, partnerCleared, step27, step28, step29}
 use Rattle.model.specs.Steps.Dispatch.{noStep, stepTable, stepOf, wants}
 use Rattle.model.specs.Memory.{Memory, partyAt, viewOf, afterStep}
 use Rattle.model.specs.Refusals.{firstCause, lengthsFit, beginRows, stepRows}
 use Rattle.model.specs.Calls.{Called, called, withBegun, beginCall, stepped, stepCall}
 use Rattle.model.specs.Runs.{Call, replyTo}
 use Rattle.model.specs.Book.{Book}
-use Rattle.model.specs.Links.{performs}
 use Rattle.model.specs.Effects.{scratchLink, AltersRecord, AltersScratch, AltersOwn, own-record, own-scratch, StepAlters, WaitsForLock, Begins, BeginAlters}
 use Rattle.model.specs.Demands.{Sizes, Reached, bookReached}
 use Rattle.model.proofs.Laws.Lists.{Cmp, same, diff, cmp, cond-ind, All, eqb-true, eqb-same, eqb-false, leb-false, not-true, not-false, among-first, _▸_}
@@ -159,7 +168,7 @@ effects-02 v = moved-goes v 2 _ refl (omega arith)
 
 effects-03 : Effects 3 step03
 unfolding step03
-effects-03 v = guarded-does v 3 (ltb (located (v .root) (v .party) .chain) (v .root .chains)) (moved-goes v 3 _ refl (omega arith))
+effects-03 v = guarded-does v 3 (ltb (located (v .root) (v .party) .chain) (v .root .primaries)) (moved-goes v 3 _ refl (omega arith))
 
 effects-04 : Effects 4 step04
 unfolding step04
@@ -180,7 +189,7 @@ effects-06 : Effects 6 step06
 unfolding step06
 effects-06 v =
     let w = pageOf (v .pages) (primaryPage (v .party .chain)) in
-    guarded-does v 6 (pageSound (v .root) w && leb (v .party .lev) (levelOf w) && ltb (chaseOf v .chain) (v .root .chains))
+    guarded-does v 6 (pageSound (v .root) w && leb (v .party .lev) (levelOf w) && ltb (chaseOf v .chain) (v .root .primaries))
     (moved-goes v 6 _ refl (chased-goes (chaseOf v) (v .party) (v .party .chain)))
 
 effects-07 : Effects 7 step07
@@ -213,7 +222,7 @@ rebuild-does : (v : View) (c : Chain) (h : Change) → Effect v 10 (rebuildWith 
 unfolding rebuildWith changesNothing rebuilt changing
 rebuild-does v c (kept a) = moved-goes v 10 _ refl (omega arith)
 rebuild-does v c (changed a es) =
-    let n = pagesFor (v .root .keys) es in
+    let n = pagesFor (v .root .capacity) es in
     either-does v 10 (tooFew (v .root) n) (moved-goes v 10 _ refl (omega arith))
     (checked-does v 10 (pagesTaken (v .root) (v .pages) n) (λ t. moved-goes v 10 _ refl (omega arith)))
 
@@ -257,18 +266,18 @@ effects-15 v = request-does v 15 _ _ (omega arith)
 
 effects-16 : Effects 16 step16
 unfolding step16 splitting
-effects-16 v = either-does v 16 (splitBarred (countOfChains (v .root)) (v .root .chains)) (ended-does v 15 _ _) (request-does v 16 _ _ (omega arith))
+effects-16 v = either-does v 16 (splitBarred (countOfChains (v .root)) (v .root .primaries)) (ended-does v 15 _ _) (request-does v 16 _ _ (omega arith))
 
 divide-does : (v : View) (c : Chain) (h : Halves) → Effect v 17 (divideWith v c h)
 unfolding divideWith divided
 divide-does v c h =
-    let n = halvesNeed (v .root .keys) h in
+    let n = halvesNeed (v .root .capacity) h in
     either-does v 17 (tooFew (v .root) n) (ended-does v 16 _ _) (checked-does v 17 (pagesTaken (v .root) (v .pages) n) (λ t. moved-goes v 17 _ refl (omega arith)))
 
 effects-17 : Effects 17 step17
 unfolding step17
 effects-17 v =
-    guarded-does v 17 (not (splitBarred (countOfChains (v .root)) (v .root .chains)))
+    guarded-does v 17 (not (splitBarred (countOfChains (v .root)) (v .root .primaries)))
     (checked-does v 17 (chainOf (v .root) (v .pages) (v .party .chain)) (λ c. divide-does v c _))
 
 effects-18 : Effects 18 step18
@@ -311,7 +320,7 @@ combine-does : (v : View) (m : Pair) → Effect v 26 (combineWith v m)
 unfolding combineWith combined
 combine-does v m =
     let es = joinedEntries m in
-    either-does v 26 (mergeGoes (v .root) es) (checked-does v 26 (pagesTaken (v .root) (v .pages) (pagesFor (v .root .keys) es)) (λ t. moved-goes v 26 _ refl (omega arith)))
+    either-does v 26 (mergeGoes (v .root) es) (checked-does v 26 (pagesTaken (v .root) (v .pages) (pagesFor (v .root .capacity) es)) (λ t. moved-goes v 26 _ refl (omega arith)))
     (ended-does v 25 _ _)
 
 effects-26 : Effects 26 step26

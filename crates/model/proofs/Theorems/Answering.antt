@@ -15,18 +15,28 @@ use Rattle.model.specs.declared.StepAnswer.{StepAnswer}
 use Rattle.model.specs.declared.StepAnswer.the-variants as StepAnswer
 use Rattle.model.specs.Records.{withOld, withOwed}
 use Rattle.model.specs.LockWords.{Claim}
-use Rattle.model.specs.Addresses.{splitBarred}
+use Rattle.model.specs.Addresses.{splitBarred, countOfChains}
 use Rattle.model.specs.Entries.{hasKey}
 use Rattle.model.specs.Pages.{pageOf, levelOf, linkOf, entriesOf, pageSound, primaryPage, linkedPage, namesOverflow}
 use Rattle.model.specs.Chains.{Checked, damaged, sound, Chain, chainOf, listFrom}
 use Rattle.model.specs.Filling.{pagesFor}
-use Rattle.model.specs.FreeList.{tooFew, pagesTaken}
-use Rattle.model.specs.Outcome.{View, Outcome, withParty, scratchOf, refuse, damage, moved, done, guarded, checked, isGranted, request, isHeld, heldAll, givenUp}
-use Rattle.model.specs.Steps.Locate.{rootRead, chainLock, release, located, chaseOf, step01, step02, step03, step04, step05, step06, step07, step08}
+use Rattle.model.specs.FreeList.{tooFew, pagesTaken, roomToGiveBack, pagesGivenBack}
+use Rattle.model.specs.Outcome.{View, Outcome, withParty, refuse, damage, moved, guarded, checked}
+use Rattle.model.specs.ScratchPages.{scratchOf, primaryWritten}
+use Rattle.model.specs.Endings.{done, finished, onward, oldPagesFirst, endedWith}
+use Rattle.model.specs.LockRequests.{isGranted, request, isHeld, heldAll, givenUp, rootRead, chainLock, release, chainSelective, chainExclusive, rootSelective, rootExclusive}
+use Rattle.model.specs.Steps.Locate.{located, step01, step02, step03, step04, step05}
+use Rattle.model.specs.Steps.Chase.{chaseOf, step06, step07, step08}
 use Rattle.model.specs.Steps.Find.{answered, lookedOn, step09}
-use Rattle.model.specs.Steps.Change.{Change, kept, changed, chainSelective, chainExclusive, changesNothing, rebuilt, rebuildWith, primaryWritten, finished, onward, oldPagesFirst, isChange, roomToGiveBack, pagesGivenBack, oldGivenBack, step10, step11, step12, step13, step14}
-use Rattle.model.specs.Steps.Split.{Halves, halvesNeed, countOfChains, rootSelective, endedWith, divided, divideWith, step15, step16, step17, step18, step19, step20, step21, step22}
-use Rattle.model.specs.Steps.Merge.{Pair, pairOf, joinedEntries, mergeGoes, rootExclusive, mergeStops, combined, combineWith, mergedAway, partnerCleared, step23, step24, step25, step26, step27, step28, step29, step30}
+use Rattle.model.specs.Steps.Rebuild.{Change, kept, changed, changesNothing, rebuilt, rebuildWith, step10}
+use Rattle.model.specs.Steps.Write.{isChange, step11, step12}
+use Rattle.model.specs.Steps.OldPages.{oldGivenBack, step13, step14}
+use Rattle.model.specs.Steps.SplitBuild.{Halves, halvesNeed, divided, divideWith, step17}
+use Rattle.model.specs.Steps.SplitLocks.{step15, step16, step19, step22}
+use Rattle.model.specs.Steps.SplitWrite.{step18, step20, step21}
+use Rattle.model.specs.Steps.MergeBuild.{Pair, pairOf, joinedEntries, mergeGoes, combined, combineWith, step26}
+use Rattle.model.specs.Steps.MergeLocks.{mergeStops, step23, step24, step25, step30}
+use Rattle.model.specs.Steps.MergeWrite.{mergedAway, partnerCleared, step27, step28, step29}
 use Rattle.model.specs.Steps.Dispatch.{noStep, stepTable, stepOf, Want, wantsNone, wantsRoot, wantsChain, wantsChainExclusive, wantsNext, wantsTarget, wantsOther, wantTable, wants}
 use Rattle.model.proofs.Laws.Lists.{Told, holds, fails, tell, _▸_}
 
@@ -132,20 +142,20 @@ module _ (v : View) where
   unfolding rebuildWith changesNothing rebuilt
   rebuild-fair c (kept a) = moved-fair _
   rebuild-fair c (changed a es) =
-      let k = pagesFor (v .root .keys) es in
+      let k = pagesFor (v .root .capacity) es in
       either-fair (tooFew (v .root) k) (moved-fair _) (checked-fair (pagesTaken (v .root) (v .pages) k) (λ t. moved-fair _))
 
   divide-fair : (c : Chain) (h : Halves) → Fair v none (divideWith v c h)
   unfolding divideWith divided
   divide-fair c h =
-      let k = halvesNeed (v .root .keys) h in
+      let k = halvesNeed (v .root .capacity) h in
       either-fair (tooFew (v .root) k) (ended-fair _ _) (checked-fair (pagesTaken (v .root) (v .pages) k) (λ t. moved-fair _))
 
   combine-fair : (m : Pair) → Fair v none (combineWith v m)
   unfolding combineWith combined
   combine-fair m =
       let es = joinedEntries m in
-      either-fair (mergeGoes (v .root) es) (checked-fair (pagesTaken (v .root) (v .pages) (pagesFor (v .root .keys) es)) (λ t. moved-fair _)) (ended-fair _ _)
+      either-fair (mergeGoes (v .root) es) (checked-fair (pagesTaken (v .root) (v .pages) (pagesFor (v .root .capacity) es)) (λ t. moved-fair _)) (ended-fair _ _)
 
   given-fair : (xs : List ℕ) → Fair v none (oldGivenBack v xs)
   unfolding oldGivenBack
@@ -169,7 +179,7 @@ asks-02 v = moved-fair v _
 
 asks-03 : Asks step03 wantsNone
 unfolding step03
-asks-03 v = guarded-fair v (ltb (located (v .root) (v .party) .chain) (v .root .chains)) (moved-fair v _)
+asks-03 v = guarded-fair v (ltb (located (v .root) (v .party) .chain) (v .root .primaries)) (moved-fair v _)
 
 asks-04 : Asks step04 wantsChain
 unfolding step04
@@ -183,7 +193,7 @@ asks-06 : Asks step06 wantsNone
 unfolding step06
 asks-06 v =
     let w = pageOf (v .pages) (primaryPage (v .party .chain)) in
-    guarded-fair v (pageSound (v .root) w && leb (v .party .lev) (levelOf w) && ltb (chaseOf v .chain) (v .root .chains)) (moved-fair v _)
+    guarded-fair v (pageSound (v .root) w && leb (v .party .lev) (levelOf w) && ltb (chaseOf v .chain) (v .root .primaries)) (moved-fair v _)
 
 asks-07 : Asks step07 wantsChain
 unfolding step07
@@ -231,12 +241,12 @@ asks-15 v = request-fair v _ _
 
 asks-16 : Asks step16 wantsNext
 unfolding step16
-asks-16 v = barred-fair v (splitBarred (countOfChains (v .root)) (v .root .chains)) (ended-fair v _ _) (request-fair v _ _)
+asks-16 v = barred-fair v (splitBarred (countOfChains (v .root)) (v .root .primaries)) (ended-fair v _ _) (request-fair v _ _)
 
 asks-17 : Asks step17 wantsNone
 unfolding step17
 asks-17 v =
-    guarded-fair v (not (splitBarred (countOfChains (v .root)) (v .root .chains)))
+    guarded-fair v (not (splitBarred (countOfChains (v .root)) (v .root .primaries)))
     (checked-fair v (chainOf (v .root) (v .pages) (v .party .chain)) (λ c. divide-fair v c _))
 
 asks-18 : Asks step18 wantsNone

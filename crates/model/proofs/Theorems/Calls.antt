@@ -53,14 +53,14 @@ unfolding withinLimits
 within-limits r l =
     rw (
       le-leb 1 (r .originals) (l .some-original),
-      le-leb (r .originals) (r .chains) (l .originals-fit),
-      le-leb 1 (r .chains) (omega (arith, l .some-original, l .originals-fit)),
-      le-leb (r .chains) 256 (l .chains-fit),
+      le-leb (r .originals) (r .primaries) (l .originals-fit),
+      le-leb 1 (r .primaries) (omega (arith, l .some-original, l .originals-fit)),
+      le-leb (r .primaries) 256 (l .chains-fit),
       le-leb (r .overflow) 752 (l .overflow-fits),
       le-leb 1 (r .parties) (l .some-party),
       le-leb (r .parties) 16 (l .parties-fit),
-      le-leb 1 (r .keys) (l .some-key),
-      le-leb (r .keys) 12 (l .keys-fit),
+      le-leb 1 (r .capacity) (l .some-key),
+      le-leb (r .capacity) 12 (l .keys-fit),
     ) refl
 
 -- The operation in a record that the book has entered.
@@ -99,7 +99,7 @@ module _ (m : Memory) (b : Book) (i : Inv m b) where
       rw (
         le-leb (r .level) 8 level,
         lt-ltb (r .next) (span (r .originals) (r .level)) (i .extents-ok .root-next),
-        le-leb (span (r .originals) (r .level) + r .next) (r .chains) fits,
+        le-leb (span (r .originals) (r .level) + r .next) (r .primaries) fits,
         le-leb (r .free) (r .overflow) (omega (arith, i .pages-ok .free-count, held-length (m .root) (i .pages-ok .owned) free)),
       ) refl
 
@@ -121,8 +121,8 @@ module _ (m : Memory) (b : Book) (i : Inv m b) where
           le-leb (p .owed) 3 (k .owed-fits),
           le-leb (p .answer) 5 (k .answer-fits),
           answer-set,
-          lt-ltb (p .chain) (m .root .chains) (k .chain-fits),
-          lt-ltb (p .other) (m .root .chains) (k .other-fits),
+          lt-ltb (p .chain) (m .root .primaries) (k .chain-fits),
+          lt-ltb (p .other) (m .root .primaries) (k .other-fits),
         ) refl
 
 -- ---- An operation begun

@@ -6,9 +6,10 @@ use Prim.Native.Nat.{ℕ}
 use Rattle.model.specs.LockWords.{fieldOf, withField, permits, holds, grantedWord, releasedWord, turnedSelective}
 use Rattle.model.specs.Addresses.{hashed, span, hash, addressLevel, addressOf, chainCount, splitNext, splitLevel, mergePartner, mergeTarget, mergeLevel, mergeBarred}
 use Rattle.model.specs.Filling.{overflowNeeded}
-use Rattle.model.specs.Outcome.{isGranted, withHold, request, isHeld}
-use Rattle.model.specs.Steps.Split.{step20, step21}
-use Rattle.model.specs.Steps.Merge.{step23, merging, step24, rootMovedBack, step27}
+use Rattle.model.specs.LockRequests.{isGranted, withHold, request, isHeld}
+use Rattle.model.specs.Steps.SplitWrite.{step20, step21}
+use Rattle.model.specs.Steps.MergeLocks.{step23, merging, step24}
+use Rattle.model.specs.Steps.MergeWrite.{rootMovedBack, step27}
 use Rattle.model.specs.Cases.{workedCases}
 
 -- Every definition gives the number that document 01 gives.

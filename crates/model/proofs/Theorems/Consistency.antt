@@ -17,13 +17,15 @@ use Rattle.model.specs.Addresses.{span, hash, addressOf, chainCount}
 use Rattle.model.specs.Entries.{hasKey}
 use Rattle.model.specs.Pages.{pageOf, linkToFirst, primaryPage, scratchPage}
 use Rattle.model.specs.Chains.{Chain, listFrom}
-use Rattle.model.specs.Outcome.{Outcome, withParty, withScratch}
+use Rattle.model.specs.Outcome.{Outcome, withParty}
+use Rattle.model.specs.ScratchPages.{withScratch}
 use Rattle.model.specs.Memory.{Memory, partyAt, viewOf, afterStep}
 use Rattle.model.specs.Calls.{Called, stepped, stepCall}
 use Rattle.model.specs.Runs.{Call}
 use Rattle.model.specs.Book.{Book}
 use Rattle.model.specs.Effects.{recordAfter}
-use Rattle.model.specs.Steps.Locate.{modeOf, chainLock, chaseOf, arrived, chasing}
+use Rattle.model.specs.LockRequests.{modeOf, chainLock}
+use Rattle.model.specs.Steps.Chase.{chaseOf, arrived, chasing}
 use Rattle.model.specs.Steps.Dispatch.{stepOf, stepTable}
 use Rattle.model.specs.Demands.{Sizes, Reached, bookReached}
 use Rattle.model.specs.Consistency.{restructures, chainsWith, Consistent, HomeLocked, SearchEnds, LeftToWalk, SameSet}
@@ -43,7 +45,7 @@ use Rattle.model.proofs.Effects.Kept.{row-same}
 use Rattle.model.proofs.Effects.Releases.{lock-held}
 use Rattle.model.proofs.Effects.ScratchPage.{protected-bounds}
 use Rattle.model.proofs.Effects.BuiltChain.{chain-found}
-use Rattle.model.proofs.Steps.Chase.{step06-moves, stayed-home}
+use Rattle.model.proofs.Steps.Chase.Copy.{step06-moves, stayed-home}
 use Rattle.model.proofs.Theorems.Alters.{Tested, turned-away, let-through, tested}
 use Rattle.model.proofs.Theorems.Reached.{reached-inv}
 

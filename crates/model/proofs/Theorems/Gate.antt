@@ -7,7 +7,7 @@ use Prim.Native.Nat.{ℕ, _<_}
 use native.Mathlib.Omega.{arith}
 use lib.ListN.{length}
 use borrow.Author.Tests.{leb-true, leb-false, ltb-true, eqb-true, not-false}
-use Rattle.model.specs.Sizes.{withinLimits, mostKeys, lockWords, allPageWords}
+use Rattle.model.specs.Sizes.{withinLimits, mostRecords, lockWords, allPageWords}
 use Rattle.model.specs.Addresses.{span, chainCount}
 use Rattle.model.specs.Memory.{Memory, partyAt, viewOf}
 use Rattle.model.specs.Refusals.{Row, firstCause, lengthsFit, rootSound, partySound, recordSound, stepRows}
@@ -62,23 +62,23 @@ module _ (m : Memory) (q : ℕ) (none : firstCause (stepRows m q) ≡ 0) where
       let p = and-right (rootSound r) (partySound r x) records in
       record {
         some-original = leb-true 1 (r .originals) (search (and-left, and-right));
-        originals-fit = leb-true (r .originals) (r .chains) (search (and-left, and-right));
-        chains-fit = leb-true (r .chains) 256 (search (and-left, and-right));
+        originals-fit = leb-true (r .originals) (r .primaries) (search (and-left, and-right));
+        chains-fit = leb-true (r .primaries) 256 (search (and-left, and-right));
         overflow-fits = leb-true (r .overflow) 752 (search (and-left, and-right));
-        some-key = leb-true 1 (r .keys) (search (and-left, and-right));
-        keys-fit = leb-true (r .keys) mostKeys (search (and-left, and-right));
+        some-key = leb-true 1 (r .capacity) (search (and-left, and-right));
+        keys-fit = leb-true (r .capacity) mostRecords (search (and-left, and-right));
         parties-fit = leb-true (r .parties) 16 (search (and-left, and-right));
         locks-fit = eqb-true (length (m .locks)) (lockWords r) (search (and-left, and-right));
         pages-fit = eqb-true (length (m .pages)) (allPageWords r) (search (and-left, and-right));
         number-fits = number;
         level-fits = leb-true (r .level) 8 (search (and-left, and-right));
         next-fits = ltb-true (r .next) (span (r .originals) (r .level)) (search (and-left, and-right));
-        count-fits = leb-true (chainCount (r .originals) (r .level) (r .next)) (r .chains) (search (and-left, and-right));
+        count-fits = leb-true (chainCount (r .originals) (r .level) (r .next)) (r .primaries) (search (and-left, and-right));
         free-fits = leb-true (r .free) (r .overflow) (search (and-left, and-right));
         step-fits = search (and-left, and-right) depth 8;
         lev-fits = leb-true (x .lev) 9 (search (and-left, and-right) depth 8);
         owed-fits = leb-true (x .owed) 3 (search (and-left, and-right));
         answer-fits = leb-true (x .answer) 5 (search (and-left, and-right));
-        chain-fits = ltb-true (x .chain) (r .chains) (search (and-left, and-right));
-        other-fits = ltb-true (x .other) (r .chains) (search (and-left, and-right));
+        chain-fits = ltb-true (x .chain) (r .primaries) (search (and-left, and-right));
+        other-fits = ltb-true (x .other) (r .primaries) (search (and-left, and-right));
       }

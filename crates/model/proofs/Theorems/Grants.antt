@@ -18,16 +18,16 @@ use Rattle.model.specs.declared.StepAnswer.the-variants as StepAnswer
 use Rattle.model.specs.declared.BeginAnswer.{BeginAnswer}
 use Rattle.model.specs.Sizes.{lockWords}
 use Rattle.model.specs.Records.{idle, begun, rootOfSizes}
-use Rattle.model.specs.Answers.{operationNumber}
+use Rattle.model.specs.Answers.{operationNumber, isMoved}
 use Rattle.model.specs.LockWords.{Claim}
-use Rattle.model.specs.Outcome.{View, Outcome, isGranted}
+use Rattle.model.specs.Outcome.{View, Outcome}
+use Rattle.model.specs.LockRequests.{isGranted}
 use Rattle.model.specs.Ready.{Ready}
 use Rattle.model.specs.Memory.{Memory, partyAt, viewOf, formatted}
 use Rattle.model.specs.Refusals.{firstCause, stepRows, beginRows}
 use Rattle.model.specs.Calls.{Called, called, stepped, stepCall, withBegun, beginCall}
 use Rattle.model.specs.Runs.{Call, beginFor, stepFor, callerOf, replyTo, afterCall}
 use Rattle.model.specs.Book.{Book, emptyBook, bookAfter}
-use Rattle.model.specs.Links.{isMoved}
 use Rattle.model.specs.Holds.{Hold, permitted, withoutAll, givesUp, requested, withHeld, holdsAfterStep, holdsAfter, neverWaits, grantRight, answerRight, callRight, grantsRight}
 use Rattle.model.specs.Demands.{Sizes, start, GrantsRight}
 use Rattle.model.specs.Steps.Dispatch.{hasStep, wants}
@@ -197,6 +197,6 @@ start-ledger r = record { agrees = λ q d. rw (party-idle (r .parties) q) refl }
 -- DEMAND 2, grants.
 pub grants-right : StepsKept → (s : Sizes) (cs : List Call) → GrantsRight s cs
 grants-right kept s cs = record {
-  grants = run-grants kept (start s) emptyBook (start-inv (s .originals) (s .keys) (s .chains) (s .overflow) (s .parties) (s .fit)) []
-      (start-ledger (rootOfSizes (s .originals) (s .keys) (s .chains) (s .overflow) (s .parties))) cs;
+  grants = run-grants kept (start s) emptyBook (start-inv (s .originals) (s .capacity) (s .primaries) (s .overflow) (s .parties) (s .fit)) []
+      (start-ledger (rootOfSizes (s .originals) (s .capacity) (s .primaries) (s .overflow) (s .parties))) cs;
 }

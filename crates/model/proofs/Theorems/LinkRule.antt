@@ -17,22 +17,22 @@ use Rattle.model.specs.declared.StepAnswer.the-variants as StepAnswer
 use Rattle.model.specs.declared.BeginAnswer.{BeginAnswer}
 use Rattle.model.specs.declared.Mode.the-variants.{Exclusive}
 use Rattle.model.specs.Records.{idle, begun}
-use Rattle.model.specs.Answers.{operationNumber}
+use Rattle.model.specs.Answers.{operationNumber, isMoved, performs}
 use Rattle.model.specs.LockWords.{chainWord}
 use Rattle.model.specs.Pages.{pageOf, linkOf, linkToFirst, primaryPage, scratchPage, linkedPage}
 use Rattle.model.specs.Chains.{sound, listFrom}
 use Rattle.model.specs.FreeList.{isAmong}
-use Rattle.model.specs.Outcome.{View, Outcome, scratchOf}
+use Rattle.model.specs.Outcome.{View, Outcome}
+use Rattle.model.specs.ScratchPages.{scratchOf}
 use Rattle.model.specs.Memory.{Memory, partyAt, viewOf, afterStep, formatted}
 use Rattle.model.specs.Refusals.{firstCause, stepRows, beginRows}
 use Rattle.model.specs.Calls.{Called, called, stepped, stepCall, withBegun, beginCall}
 use Rattle.model.specs.Runs.{Call, beginFor, stepFor, callerOf, replyTo, afterCall}
 use Rattle.model.specs.Book.{Book, Entered, changedAt, bookAfter, emptyBook}
-use Rattle.model.specs.Links.{Follow, Trace, noTrace, chainPages, traceLooked, pagesListed, readNow, walkedFrom, isMoved, traceNine, traceFourteen, traceTwentyNine, traceOf, Clock, clockStart, performs, traceOfStep, traceOfCall, ticked, clockAfter, allFresh, linksFresh}
+use Rattle.model.specs.Links.{Follow, Trace, noTrace, chainPages, traceLooked, pagesListed, readNow, walkedFrom, traceNine, traceFourteen, traceTwentyNine, traceOf, Clock, clockStart, traceOfStep, traceOfCall, ticked, clockAfter, allFresh, linksFresh}
 use Rattle.model.specs.Demands.{Sizes, start}
-use Rattle.model.specs.Steps.Change.{isChange, chainExclusive}
-use Rattle.model.specs.Steps.Merge.{otherExclusive}
-use Rattle.model.specs.Steps.Split.{rootSelective}
+use Rattle.model.specs.Steps.Write.{isChange}
+use Rattle.model.specs.LockRequests.{chainExclusive, otherExclusive, rootSelective}
 use Rattle.model.specs.Steps.Dispatch.{stepTable, stepOf}
 use Rattle.model.proofs.Laws.Lists.{Told, holds, fails, tell, Cmp, same, diff, cmp, cond-ind, not-both, and-both, both-and, or-either, lt-ltb, eqb-same, eqb-diff, among-first, among-append, _▸_, all-in}
 use Rattle.model.proofs.Laws.Distinct.{Outside}
@@ -265,7 +265,7 @@ module _ (m : Memory) (b : Book) (i : Inv m b) where
     -- A page that party q gives back: its own, and nobody else holds the chain.
     record GivenBy (x : ℕ) : Type 0 where
       owner-is : (i .ghost .own x ≡ oldOf q) ⊎ (i .ghost .own x ≡ partnerOf q)
-      chain-fits : me .chain < m .root .chains
+      chain-fits : me .chain < m .root .primaries
       holds-chain : isClaimed (claims (m .root) me) (chainWord (me .chain)) Exclusive ≡ true
 
     kind-of : {a c : Owner} → a ≡ c → a .kind ≡ c .kind
@@ -458,7 +458,7 @@ module _ (k : Clock) (m : Memory) (ok : ClockOk k m) (q : ℕ) where
       }
         where
           page= : (j : ℕ) → scratchPage (o .after .root) j ≡ scratchPage (m .root) j
-          page= j = omega (arith, l .sizes .chains=, l .sizes .overflow=)
+          page= j = omega (arith, l .sizes .primaries=, l .sizes .overflow=)
 
           not-given : (x : ℕ) → (GivenBy m b i q in-row x → ⊥) → isAmong x (t .gives) ≡ false
           not-given x f = go (tell (isAmong x (t .gives)))
@@ -574,4 +574,4 @@ start-clock s = record {
 
 pub links-fresh : StepsKept → (s : Sizes) (cs : List Call) → linksFresh clockStart (start s) cs ≡ true
 links-fresh kept s cs =
-    run-links kept clockStart (start s) emptyBook (start-inv (s .originals) (s .keys) (s .chains) (s .overflow) (s .parties) (s .fit)) (start-clock s) cs
+    run-links kept clockStart (start s) emptyBook (start-inv (s .originals) (s .capacity) (s .primaries) (s .overflow) (s .parties) (s .fit)) (start-clock s) cs

@@ -11,11 +11,11 @@ use Rattle.model.specs.declared.Root.{Root}
 use Rattle.model.specs.declared.Party.{Party}
 use Rattle.model.specs.Sizes.{lockWords}
 use Rattle.model.specs.LockWords.{Claim, rootWord}
-use Rattle.model.specs.Addresses.{span, hash, chainCount, splitBarred, mergePartner}
+use Rattle.model.specs.Addresses.{span, hash, chainCount, splitBarred, mergePartner, countOfChains}
 use Rattle.model.specs.Book.{Entered}
-use Rattle.model.specs.Steps.Locate.{rootRead}
-use Rattle.model.specs.Steps.Split.{countOfChains, rootSelective, nextSelective}
-use Rattle.model.specs.Steps.Merge.{rootExclusive, targetExclusive, mergeStops}
+use Rattle.model.specs.LockRequests.{rootRead, rootSelective, rootExclusive}
+use Rattle.model.specs.Steps.SplitLocks.{nextSelective}
+use Rattle.model.specs.Steps.MergeLocks.{targetExclusive, mergeStops}
 use Rattle.model.specs.Steps.Dispatch.{Want, wantsNone, wantsRoot, wantsChain, wantsChainExclusive, wantsNext, wantsTarget, wantsOther, wantTable, wants}
 use Rattle.model.proofs.Laws.Lists.{cond-ind, All, _▸_}
 use Rattle.model.proofs.Laws.Addresses.{span-pos, hash-next}
@@ -37,7 +37,7 @@ WantedHigher r cs (some c) = Higher r c cs
 pub record RootFits (r : Root) : Type 0 where
   pub some-original : 0 < r .originals
   pub next-fits : r .next < span (r .originals) (r .level)
-  pub count-fits : countOfChains r ≤ r .chains
+  pub count-fits : countOfChains r ≤ r .primaries
 
 -- ---- A chase leads on to a higher chain
 
@@ -84,7 +84,7 @@ unfolding chainCount
 ordered-16 = record {
   order = λ s q p e l b x.
       let r = s .root in
-      cond-ind (WantedHigher r (rootSelective ∷ [])) (splitBarred (countOfChains r) (r .chains)) none (some (nextSelective r)) (λ t. tt)
+      cond-ind (WantedHigher r (rootSelective ∷ [])) (splitBarred (countOfChains r) (r .primaries)) none (some (nextSelective r)) (λ t. tt)
       (λ t. record { inside = omega (arith, l .next-fits, l .count-fits); above = (omega arith, tt) });
 }
 

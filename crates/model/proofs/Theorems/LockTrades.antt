@@ -16,23 +16,32 @@ use Rattle.model.specs.declared.OperationAnswer.{OperationAnswer}
 use Rattle.model.specs.declared.Restructuring.{Restructuring}
 use Rattle.model.specs.declared.Restructuring.the-variants as Restructuring
 use Rattle.model.specs.declared.StepAnswer.{StepAnswer}
-use Rattle.model.specs.Answers.{answerOf}
+use Rattle.model.specs.Answers.{answerOf, isMoved}
 use Rattle.model.specs.Records.{atStep, withLev, withOld, withOwed}
 use Rattle.model.specs.LockWords.{Claim, claim, chainWord}
-use Rattle.model.specs.Addresses.{splitBarred}
+use Rattle.model.specs.Addresses.{splitBarred, countOfChains}
 use Rattle.model.specs.Entries.{Entry, hasKey}
 use Rattle.model.specs.Pages.{entriesOf, pageOf, levelOf, linkOf, pageSound, primaryPage, linkedPage, namesOverflow}
 use Rattle.model.specs.Chains.{Checked, damaged, sound, Chain, chainOf, listFrom}
 use Rattle.model.specs.Filling.{pagesFor}
-use Rattle.model.specs.FreeList.{tooFew, Taken, pagesTaken}
-use Rattle.model.specs.Outcome.{View, Outcome, withParty, withScratch, scratchOf, refuse, damage, moved, done, guarded, checked, isGranted, isHeld, withHold, request, heldAll, withoutHold, givenUp}
-use Rattle.model.specs.Links.{isMoved}
+use Rattle.model.specs.FreeList.{tooFew, Taken, pagesTaken, roomToGiveBack, pagesGivenBack}
+use Rattle.model.specs.Outcome.{View, Outcome, withParty, refuse, damage, moved, guarded, checked}
+use Rattle.model.specs.ScratchPages.{withScratch, scratchOf, primaryWritten}
+use Rattle.model.specs.Endings.{done, finished, onward, oldPagesFirst, endedWith}
+use Rattle.model.specs.LockRequests.{isGranted, isHeld, withHold, request, heldAll, withoutHold, givenUp, modeOf, rootRead, chainLock, otherLock, release, chainSelective, chainExclusive, rootSelective, rootExclusive, otherExclusive}
 use Rattle.model.specs.Holds.{givesUpMoving, givesUpDone, givesUp, requested}
-use Rattle.model.specs.Steps.Locate.{modeOf, rootRead, chainLock, otherLock, release, Chase, located, chaseOf, arrived, chasing, step01, step02, step03, step04, step05, step06, step07, step08}
+use Rattle.model.specs.Steps.Chase.{Chase, chaseOf, arrived, chasing, step06, step07, step08}
+use Rattle.model.specs.Steps.Locate.{located, step01, step02, step03, step04, step05}
 use Rattle.model.specs.Steps.Find.{answered, lookedOn, step09}
-use Rattle.model.specs.Steps.Change.{Change, kept, changed, isChange, roomToGiveBack, chainSelective, chainExclusive, changesNothing, changing, rebuilt, rebuildWith, primaryWritten, finished, onward, oldPagesFirst, oldGivenBack, pagesGivenBack, step10, step11, step12, step13, step14}
-use Rattle.model.specs.Steps.Split.{countOfChains, Halves, halvesOf, halvesNeed, rootSelective, nextSelective, endedWith, splitting, divided, divideWith, step15, step16, step17, step18, step19, step20, step21, step22}
-use Rattle.model.specs.Steps.Merge.{mergeStops, Pair, pairOf, joinedEntries, mergeGoes, mergedAway, rootExclusive, otherExclusive, targetExclusive, merging, mergeLocks, combined, combineWith, partnerCleared, step23, step24, step25, step26, step27, step28, step29, step30}
+use Rattle.model.specs.Steps.Rebuild.{Change, kept, changed, changesNothing, changing, rebuilt, rebuildWith, step10}
+use Rattle.model.specs.Steps.Write.{isChange, step11, step12}
+use Rattle.model.specs.Steps.OldPages.{oldGivenBack, step13, step14}
+use Rattle.model.specs.Steps.SplitBuild.{Halves, halvesOf, halvesNeed, divided, divideWith, step17}
+use Rattle.model.specs.Steps.SplitLocks.{nextSelective, splitting, step15, step16, step19, step22}
+use Rattle.model.specs.Steps.SplitWrite.{step18, step20, step21}
+use Rattle.model.specs.Steps.MergeLocks.{mergeStops, targetExclusive, merging, mergeLocks, step23, step24, step25, step30}
+use Rattle.model.specs.Steps.MergeBuild.{Pair, pairOf, joinedEntries, mergeGoes, combined, combineWith, step26}
+use Rattle.model.specs.Steps.MergeWrite.{mergedAway, partnerCleared, step27, step28, step29}
 use Rattle.model.specs.Steps.Dispatch.{hasStep, noStep, stepTable, stepOf, wantsNone, wantTable}
 use Rattle.model.proofs.Laws.Lists.{cond-ind, _▸_, Numbered, numbered-at}
 use Rattle.model.proofs.Invariant.Claims.{claims, claimTable, noLock}
@@ -166,7 +175,7 @@ step02-trades v at has = moved-trades v 2 _ refl refl (trade-none (rootRead ∷ 
 
 step03-trades : TradeStep 3 step03
 unfolding step03 wantTable givesUpMoving requested claims
-step03-trades v at has = guarded-trades v 3 at (ltb (located (v .root) (v .party) .chain) (v .root .chains)) _ (moved-trades v 3 _ refl refl (trade-none (rootRead ∷ [])))
+step03-trades v at has = guarded-trades v 3 at (ltb (located (v .root) (v .party) .chain) (v .root .primaries)) _ (moved-trades v 3 _ refl refl (trade-none (rootRead ∷ [])))
 
 step04-trades : TradeStep 4 step04
 unfolding step04 wantTable givesUpMoving claims modeOf
@@ -193,7 +202,7 @@ step06-trades v at has =
     let p = v .party in
     let w = pageOf (v .pages) (primaryPage (p .chain)) in
     let t = chaseOf v in
-    guarded-trades v 6 at (pageSound (v .root) w && leb (p .lev) (levelOf w) && ltb (t .chain) (v .root .chains)) _
+    guarded-trades v 6 at (pageSound (v .root) w && leb (p .lev) (levelOf w) && ltb (t .chain) (v .root .primaries)) _
     (moved-trades v 6 _ refl refl
     (cond-ind (λ (x : Party). Trade (chainLock p ∷ []) [] [] (claims (v .root) x)) (eqb (t .chain) (p .chain)) (arrived t p) (chasing t p)
     (λ _. rw (arrived-claims (v .root) t p) (trade-none (chainLock p ∷ []))) (λ _. trade-none (chainLock p ∷ []))))
@@ -246,7 +255,7 @@ rebuild-trades : (v : View) → v .party .step ≡ 10 → (c : Chain) (x : Chang
 unfolding rebuildWith
 rebuild-trades v at c (kept a) = changes-nothing-trades v a
 rebuild-trades v at c (changed a es) =
-    let k = pagesFor (v .root .keys) es in
+    let k = pagesFor (v .root .capacity) es in
     cond-ind (Trades v 10) (tooFew (v .root) k) _ _ (λ _. changes-nothing-trades v _)
     (λ _. checked-trades v 10 at (pagesTaken (v .root) (v .pages) k) _ (rebuilt-trades v c a es))
 
@@ -302,7 +311,7 @@ step15-trades v at has = request-trades v 15 at rootSelective (atStep 16 (v .par
 step16-trades : TradeStep 16 step16
 unfolding step16 splitting wantTable givesUpMoving givesUpDone claims
 step16-trades v at has =
-    cond-ind (Trades v 16) (splitBarred (countOfChains (v .root)) (v .root .chains)) _ _
+    cond-ind (Trades v 16) (splitBarred (countOfChains (v .root)) (v .root .primaries)) _ _
     (λ _. ended-trades v 16 at (rootSelective ∷ []) Restructuring.SplitSkipped refl)
     (λ e. request-trades v 16 at (nextSelective (v .root)) (splitting (v .root) (v .party)) (rw e refl) (trade-more (rootSelective ∷ []) (nextSelective (v .root))))
 
@@ -313,7 +322,7 @@ divided-trades v c h t = moved-trades v 17 _ refl refl (trade-none (rootSelectiv
 divide-trades : (v : View) → v .party .step ≡ 17 → (c : Chain) (h : Halves) → Trades v 17 (divideWith v c h)
 unfolding divideWith givesUpDone
 divide-trades v at c h =
-    let k = halvesNeed (v .root .keys) h in
+    let k = halvesNeed (v .root .capacity) h in
     cond-ind (Trades v 17) (tooFew (v .root) k) _ _
     (λ _. ended-trades v 17 at (rootSelective ∷ (chainSelective (v .party) ∷ [])) Restructuring.SplitSkipped refl)
     (λ _. checked-trades v 17 at (pagesTaken (v .root) (v .pages) k) _ (divided-trades v c h))
@@ -321,7 +330,7 @@ divide-trades v at c h =
 step17-trades : TradeStep 17 step17
 unfolding step17
 step17-trades v at has =
-    guarded-trades v 17 at (not (splitBarred (countOfChains (v .root)) (v .root .chains))) _
+    guarded-trades v 17 at (not (splitBarred (countOfChains (v .root)) (v .root .primaries))) _
     (checked-trades v 17 at (chainOf (v .root) (v .pages) (v .party .chain)) _ (λ c. divide-trades v at c (halvesOf v c)))
 
 step18-trades : TradeStep 18 step18
@@ -371,7 +380,7 @@ combine-trades : (v : View) → v .party .step ≡ 26 → (m : Pair) → Trades 
 unfolding combineWith givesUpDone
 combine-trades v at m =
     cond-ind (Trades v 26) (mergeGoes (v .root) (joinedEntries m)) _ _
-    (λ _. checked-trades v 26 at (pagesTaken (v .root) (v .pages) (pagesFor (v .root .keys) (joinedEntries m))) _ (combined-trades v m))
+    (λ _. checked-trades v 26 at (pagesTaken (v .root) (v .pages) (pagesFor (v .root .capacity) (joinedEntries m))) _ (combined-trades v m))
     (λ _. ended-trades v 26 at (mergeLocks rootExclusive (v .party)) Restructuring.MergeSkipped refl)
 
 step26-trades : TradeStep 26 step26

@@ -20,7 +20,7 @@ use Rattle.model.specs.Answers.{restructuringNumber, beginRefusal, forma
 use Rattle.model.specs.Entries.{Entry, isEmpty}
 use Rattle.model.specs.Chains.{sound, Chain, chainOf, listFrom}
 use Rattle.model.specs.Outcome.{View}
-use Rattle.model.specs.Steps.Change.{splitOwed, mergeOwed}
+use Rattle.model.specs.Steps.Rebuild.{splitOwed, mergeOwed}
 use Rattle.model.specs.Memory.{Memory}
 use Rattle.model.specs.Refusals.{firstCause, formatRows, beginRows}
 use Rattle.model.specs.Calls.{formatCall, beginCall}

@@ -18,15 +18,15 @@ use Rattle.model.specs.declared.StepAnswer.{StepAnswer}
 use Rattle.model.specs.declared.StepAnswer.the-variants as StepAnswer
 use Rattle.model.specs.Sizes.{lockWords}
 use Rattle.model.specs.Records.{idle}
-use Rattle.model.specs.Answers.{refusalNumber}
+use Rattle.model.specs.Answers.{refusalNumber, performs}
 use Rattle.model.specs.LockWords.{Claim, permits}
-use Rattle.model.specs.Outcome.{View, damage, isGranted}
+use Rattle.model.specs.Outcome.{View, damage}
+use Rattle.model.specs.LockRequests.{isGranted}
 use Rattle.model.specs.Memory.{Memory, partyAt, viewOf}
 use Rattle.model.specs.Calls.{Called, stepped, stepCall}
 use Rattle.model.specs.Runs.{Call, afterCall}
 use Rattle.model.specs.Book.{Book, Entered, emptyBook}
 use Rattle.model.specs.Holds.{sameMode}
-use Rattle.model.specs.Links.{performs}
 use Rattle.model.specs.Progress.{underWay, canMove, someBelow, progresses, alwaysProgresses}
 use Rattle.model.specs.Demands.{Sizes, start, Reached}
 use Rattle.model.specs.Steps.Dispatch.{stepOf, wants}
@@ -222,4 +222,4 @@ always-progress kept m b i (c ∷ cs) = both-and (progress-holds kept m b i) (al
 pub no-deadlock : StepsKept → (s : Sizes) (cs : List Call) → progresses (Reached s cs) ≡ true
 no-deadlock kept s cs =
     progress-holds kept (Reached s cs) _
-    (run-inv kept (start s) emptyBook (start-inv (s .originals) (s .keys) (s .chains) (s .overflow) (s .parties) (s .fit)) cs)
+    (run-inv kept (start s) emptyBook (start-inv (s .originals) (s .capacity) (s .primaries) (s .overflow) (s .parties) (s .fit)) cs)

@@ -17,7 +17,7 @@ use Rattle.model.specs.Entries.{Entry}
 use Rattle.model.specs.Pages.{linkOf, linkToFirst}
 use Rattle.model.specs.Chains.{chainOf, listFrom}
 use Rattle.model.specs.Filling.{primaryOf}
-use Rattle.model.specs.Steps.Change.{isChange}
+use Rattle.model.specs.Steps.Write.{isChange}
 use Rattle.model.specs.Memory.{Memory, partyAt}
 use Rattle.model.specs.Links.{pagesIn, pagesListed}
 use Rattle.model.specs.Book.{Book, Entered}
@@ -36,7 +36,7 @@ use Rattle.model.proofs.Invariant.Ghost.{Owner, owner, Named, nobody, f
 use Rattle.model.proofs.Invariant.Owners.{owner-diff, kinds-apart, indices-apart, owns-self, owns-diff, owns-nothing, no-repeats}
 use Rattle.model.proofs.Invariant.Statement.{Scene, NothingOld, NoPages, Building, Trash, Leaving, Written, unchanged, made-change, Divided, Joined, Emptying, Facts, factsNone, factTable, PartyOk, resting, working, sceneOf, Inv}
 use Rattle.model.proofs.Effects.BuiltChain.{chain-found}
-use Rattle.model.proofs.Steps.Leave.{made-is-change}
+use Rattle.model.proofs.Steps.Write.GiveUp.{made-is-change}
 use Rattle.model.proofs.Theorems.Reached.{reached-inv}
 use Rattle.model.proofs.Theorems.Consistency.{always-consistent, reached-many}
 
@@ -130,8 +130,8 @@ module _ (m : Memory) (b : Book) (i : Inv m b) where
     listed-built : (level : ℕ) (es : List Entry) → Building s q level es → handIf true m (scratchLink m q) ≡ g .held (builtBy q)
     unfolding primaryOf
     listed-built level es h =
-        listed (builtBy q) (scratchLink m q) (ap linkOf (h .scratch-is) ∙ link-filledPage level (take (m .root .keys) es) (linkToFirst (g .held (builtBy q))))
-        (overflow-linked (m .root) (m .pages) (g .held (builtBy q)) (drop (m .root .keys) es) (held-overflow (m .root) (i .pages-ok .owned) (builtBy q)) (h .built))
+        listed (builtBy q) (scratchLink m q) (ap linkOf (h .scratch-is) ∙ link-filledPage level (take (m .root .capacity) es) (linkToFirst (g .held (builtBy q))))
+        (overflow-linked (m .root) (m .pages) (g .held (builtBy q)) (drop (m .root .capacity) es) (held-overflow (m .root) (i .pages-ok .owned) (builtBy q)) (h .built))
 
     listed-old : Trash s q p → handIf true m (p .old) ≡ g .held (oldOf q)
     listed-old h = listed (oldOf q) (p .old) (h .link) (h .linked)
@@ -178,7 +178,7 @@ module _ (m : Memory) (b : Book) (i : Inv m b) where
       where
         new : handIf true m (otherLinkOf m q) ≡ g .held (newBy q)
         new =
-            listed (newBy q) (otherLinkOf m q) (chain-link (m .root .keys) (m .pages) (p .other) _ _ (g .held (newBy q)) (h .go))
+            listed (newBy q) (otherLinkOf m q) (chain-link (m .root .capacity) (m .pages) (p .other) _ _ (g .held (newBy q)) (h .go))
             (overflow-linked (m .root) (m .pages) (g .held (newBy q)) _ (held-overflow (m .root) (i .pages-ok .owned) (newBy q)) (h .go .overflow))
 
     -- 29: the old pages of both chains.
@@ -339,10 +339,10 @@ module _ (m : Memory) (b : Book) (i : Inv m b) where
       whose : (x : ℕ) → g .own x .kind ≡ 0 → g .own x ≡ nobody
       whose x e = λ j. record { kind = e j; index = i .pages-ok .kinds x .1 (omega arith) j }
 
-      one : (x : ℕ) → m .root .chains ≤ x → x < m .root .chains + m .root .overflow → count x (placesOf m many) ≡ 1
+      one : (x : ℕ) → m .root .primaries ≤ x → x < m .root .primaries + m .root .overflow → count x (placesOf m many) ≡ 1
       one x low high = placed x ∙ rw (eqb-diff (g .own x .kind) 0 (λ e. owner-diff (g .own x) nobody (i .pages-ok .owned .owned x low high) (whose x e)))
 
-      within-bounds : (x : ℕ) → count x (placesOf m many) ≢ 0 → (m .root .chains ≤ x) × (x < m .root .chains + m .root .overflow)
+      within-bounds : (x : ℕ) → count x (placesOf m many) ≢ 0 → (m .root .primaries ≤ x) × (x < m .root .primaries + m .root .overflow)
       within-bounds x n =
           i .pages-ok .owned .inside x
           (kinds-apart (g .own x) nobody (eqb-diff (g .own x .kind) 0 (λ e. n (placed x ∙ rw (eqb-same (g .own x .kind) 0 e)))))

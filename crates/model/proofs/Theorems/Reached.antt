@@ -11,7 +11,7 @@ use Rattle.model.proofs.Theorems.AllSteps.{steps-kept}
 
 -- Formatted memory has the invariant.
 pub formatted-inv : (s : Sizes) → Inv (start s) emptyBook
-formatted-inv s = start-inv (s .originals) (s .keys) (s .chains) (s .overflow) (s .parties) (s .fit)
+formatted-inv s = start-inv (s .originals) (s .capacity) (s .primaries) (s .overflow) (s .parties) (s .fit)
 
 -- Every reachable memory has the invariant, beside the book that its list of calls makes.
 pub reached-inv : (s : Sizes) (cs : List Call) → Inv (Reached s cs) (bookReached s cs)

@@ -44,9 +44,9 @@ if-then P Q (sound a) f h g = g a h
 pub names-page : (r : Root) (l : ℕ) → namesOverflow r l ≡ true → IsOverflow r (linkedPage l)
 unfolding namesOverflow
 names-page r l h =
-    let t = and-both (ltb (r .chains) l) (leb l (r .chains + r .overflow)) h in
-    let above = ltb-true (r .chains) l (t .0) in
-    let below = leb-true l (r .chains + r .overflow) (t .1) in
+    let t = and-both (ltb (r .primaries) l) (leb l (r .primaries + r .overflow)) h in
+    let above = ltb-true (r .primaries) l (t .0) in
+    let below = leb-true l (r .primaries + r .overflow) (t .1) in
     record { above = omega arith; below = omega arith }
 
 pub names-linked : (r : Root) (l : ℕ) → linkSound r l ≡ true → eqb l 0 ≡ false → namesOverflow r l ≡ true
@@ -55,7 +55,7 @@ names-linked r l h n = rw n at h
 
 pub sound-link : (r : Root) (w : List ℕ) → pageSound r w ≡ true → linkSound r (linkOf w) ≡ true
 unfolding pageSound
-sound-link r w h = and-both (leb (countOf w) (r .keys) && leb (levelOf w) mostLevel) (linkSound r (linkOf w)) h .1
+sound-link r w h = and-both (leb (countOf w) (r .capacity) && leb (levelOf w) mostLevel) (linkSound r (linkOf w)) h .1
 
 -- ---- Pages taken, and pages walked through
 
@@ -96,7 +96,7 @@ module _ (r : Root) (ps : List ℕ) where
 
 -- A page of the memory that is no other party's scratch page.
 pub record Writable (v : View) (x : ℕ) : Type 0 where
-  pub inside : x < v .root .chains + v .root .overflow + v .root .parties
+  pub inside : x < v .root .primaries + v .root .overflow + v .root .parties
   pub apart : (j : ℕ) → j ≢ v .number → scratchPage (v .root) j ≢ x
 
 -- The other parties' scratch pages are as they were.
@@ -111,10 +111,10 @@ module _ (v : View) (ready : Ready v) where
   pub scratch-writable : (x : ℕ) → x ≡ scratchPage (v .root) (v .number) → Writable v x
   scratch-writable x e = record { inside = omega (arith, ready .number-fits); apart = λ j n s. n (omega arith) }
 
-  pub primary-writable : (c : ℕ) → c < v .root .chains → Writable v (primaryPage c)
+  pub primary-writable : (c : ℕ) → c < v .root .primaries → Writable v (primaryPage c)
   primary-writable c h = record { inside = omega arith; apart = λ j n s. omega arith }
 
-  pub has-page : (ps : List ℕ) (x : ℕ) → length ps ≡ length (v .pages) → x < v .root .chains + v .root .overflow + v .root .parties → Has ps x
+  pub has-page : (ps : List ℕ) (x : ℕ) → length ps ≡ length (v .pages) → x < v .root .primaries + v .root .overflow + v .root .parties → Has ps x
   has-page ps x e h = record { fits = omega (arith, ready .pages-fit) }
 
   pub spares-written : (ps : List ℕ) → Spares v ps → (x : ℕ) (w : List ℕ) → Writable v x → length w ≡ pageWords → Spares v (withPage ps x w)
@@ -125,13 +125,13 @@ module _ (v : View) (ready : Ready v) where
         others = λ j n. page-other ps x w has whole (scratchPage (v .root) j) (a .apart j n) ∙ s .others j n;
       }
 
-  pub spares-filled : (ps : List ℕ) → Spares v ps → (xs : List ℕ) (es : List Entry) → All (IsOverflow (v .root)) xs → Spares v (overflowWritten (v .root .keys) ps xs es)
+  pub spares-filled : (ps : List ℕ) → Spares v ps → (xs : List ℕ) (es : List Entry) → All (IsOverflow (v .root)) xs → Spares v (overflowWritten (v .root .capacity) ps xs es)
   spares-filled ps s xs es a =
       let has = has-overflow (v .root) ps xs (s .long ∙ ready .pages-fit) a in
       record {
-        long = length-overflowWritten (v .root .keys) (ready .keys-fit) ps xs es has ∙ s .long;
+        long = length-overflowWritten (v .root .capacity) (ready .keys-fit) ps xs es has ∙ s .long;
         others = λ j n.
-            overflowWritten-other (v .root .keys) (ready .keys-fit) ps xs es has (scratchPage (v .root) j) (scratch-outside (v .root) j xs a) ∙ s .others j n;
+            overflowWritten-other (v .root .capacity) (ready .keys-fit) ps xs es has (scratchPage (v .root) j) (scratch-outside (v .root) j xs a) ∙ s .others j n;
       }
 
   pub spares-given : (ps : List ℕ) → Spares v ps → (l : ℕ) (xs : List ℕ) → All (IsOverflow (v .root)) xs → Spares v (givenBack ps l xs .pages)

@@ -18,22 +18,32 @@ use Rattle.model.specs.declared.StepAnswer.{StepAnswer}
 use Rattle.model.specs.declared.StepAnswer.the-variants as StepAnswer
 use Rattle.model.specs.Sizes.{pageWords}
 use Rattle.model.specs.Records.{idle, atStep, withLev, withOld, withOwed, withLevel, withNext, withFreeList}
-use Rattle.model.specs.Answers.{answerNumber, answerOf, restructuringOf}
+use Rattle.model.specs.Answers.{answerNumber, answerOf, restructuringOf, isMoved, performs}
 use Rattle.model.specs.LockWords.{Claim}
-use Rattle.model.specs.Addresses.{splitBarred}
+use Rattle.model.specs.Addresses.{splitBarred, countOfChains}
 use Rattle.model.specs.Entries.{Entry, hasKey}
 use Rattle.model.specs.Pages.{pageOf, withPage, levelOf, linkOf, entriesOf, zeroPage, withLocalLevel, pageSound, linkSound, namesOverflow, primaryPage, scratchPage, linkedPage}
 use Rattle.model.specs.Chains.{Checked, damaged, sound, Chain, chainOf, listFrom}
 use Rattle.model.specs.Filling.{pagesFor, primaryOf, overflowWritten}
-use Rattle.model.specs.FreeList.{isAmong, tooFew, Taken, pagesTaken}
-use Rattle.model.specs.Outcome.{View, Outcome, withRoot, withParty, withLocks, withPages, scratchOf, refuse, damage, moved, done, guarded, checked, isGranted, withHold, request, isHeld, heldAll, withoutHold, givenUp}
+use Rattle.model.specs.FreeList.{isAmong, tooFew, Taken, pagesTaken, rootAfterTaking, roomToGiveBack, pagesGivenBack}
+use Rattle.model.specs.Outcome.{View, Outcome, withRoot, withParty, withLocks, withPages, refuse, damage, moved, guarded, checked}
+use Rattle.model.specs.ScratchPages.{scratchOf, primaryWritten}
+use Rattle.model.specs.Endings.{done, finished, onward, oldPagesFirst, endedWith}
+use Rattle.model.specs.LockRequests.{isGranted, withHold, request, isHeld, heldAll, withoutHold, givenUp, release, chainLock, chainSelective, chainExclusive, rootSelective, rootExclusive}
 use Rattle.model.specs.Ready.{Ready}
-use Rattle.model.specs.Links.{Trace, traceOf, traceNine, isMoved, performs}
-use Rattle.model.specs.Steps.Locate.{release, chainLock, located, chaseOf, arrived, chasing, step01, step02, step03, step04, step05, step06, step07, step08}
+use Rattle.model.specs.Links.{Trace, traceOf, traceNine}
+use Rattle.model.specs.Steps.Locate.{located, step01, step02, step03, step04, step05}
+use Rattle.model.specs.Steps.Chase.{chaseOf, arrived, chasing, step06, step07, step08}
 use Rattle.model.specs.Steps.Find.{answered, lookedOn, step09}
-use Rattle.model.specs.Steps.Change.{chainSelective, chainExclusive, Change, kept, changed, changeOf, rootAfterTaking, changesNothing, changing, rebuilt, rebuildWith, primaryWritten, finished, onward, oldPagesFirst, isChange, roomToGiveBack, pagesGivenBack, oldGivenBack, step10, step11, step12, step13, step14}
-use Rattle.model.specs.Steps.Split.{rootSelective, countOfChains, endedWith, splitting, Halves, halvesOf, halvesNeed, halvesWritten, divided, divideWith, step15, step16, step17, step18, step19, step20, step21, step22}
-use Rattle.model.specs.Steps.Merge.{rootExclusive, mergeStops, merging, Pair, pairOf, joinedEntries, mergeGoes, combined, combineWith, rootMovedBack, mergedAway, partnerCleared, step23, step24, step25, step26, step27, step28, step29, step30}
+use Rattle.model.specs.Steps.Rebuild.{Change, kept, changed, changeOf, changesNothing, changing, rebuilt, rebuildWith, step10}
+use Rattle.model.specs.Steps.Write.{isChange, step11, step12}
+use Rattle.model.specs.Steps.OldPages.{oldGivenBack, step13, step14}
+use Rattle.model.specs.Steps.SplitLocks.{splitting, step15, step16, step19, step22}
+use Rattle.model.specs.Steps.SplitBuild.{Halves, halvesOf, halvesNeed, halvesWritten, divided, divideWith, step17}
+use Rattle.model.specs.Steps.SplitWrite.{step18, step20, step21}
+use Rattle.model.specs.Steps.MergeLocks.{mergeStops, merging, step23, step24, step25, step30}
+use Rattle.model.specs.Steps.MergeBuild.{Pair, pairOf, joinedEntries, mergeGoes, combined, combineWith, step26}
+use Rattle.model.specs.Steps.MergeWrite.{rootMovedBack, mergedAway, partnerCleared, step27, step28, step29}
 use Rattle.model.specs.Steps.Dispatch.{noStep, stepTable, stepOf}
 use Rattle.model.proofs.Laws.Lists.{cond-ind, not-both, and-both, right-or, eqb-false, All, _▸_, Numbered, numbered-at, all-append, all-from, all-in, among-take, among-drop}
 use Rattle.model.proofs.Laws.Pages.{length-pageOf, length-zeroPage, length-withLocalLevel}
@@ -159,7 +169,7 @@ module _ (n : ℕ) (v : View) where
           number= = l .number=;
           sizes = l .sizes;
           spares = spares-written v ready (u .pages) (l .spares) (scratchPage (u .root) (u .number)) zeroPage
-              (scratch-writable v ready (scratchPage (u .root) (u .number)) (omega (arith, l .number=, l .sizes .chains=, l .sizes .overflow=))) length-zeroPage;
+              (scratch-writable v ready (scratchPage (u .root) (u .number)) (omega (arith, l .number=, l .sizes .primaries=, l .sizes .overflow=))) length-zeroPage;
         })
         (passes n v (StepAnswer.Done a s) idle refl refl)
 
@@ -192,7 +202,7 @@ module _ (n : ℕ) (v : View) where
 
 -- The free list's head and count are no sizes.
 free-limits : (r : Root) (head free : ℕ) → SameLimits r (withFreeList head free r)
-free-limits r head free = record { originals= = refl; keys= = refl; chains= = refl; overflow= = refl; parties= = refl }
+free-limits r head free = record { originals= = refl; capacity= = refl; primaries= = refl; overflow= = refl; parties= = refl }
 
 -- ---- Each step
 
@@ -214,7 +224,7 @@ traced-02 v ready e = moved-traced 2 v _ (beside v _) (passes 2 v _ _ refl refl)
 
 traced-03 : TracedAt 3 step03
 unfolding step03 located oldOpen isAmong
-traced-03 v ready e = guarded-traced 3 v (ltb (located (v .root) (v .party) .chain) (v .root .chains)) _ (λ _. moved-traced 3 v _ (beside v _) (passes 3 v _ _ refl refl))
+traced-03 v ready e = guarded-traced 3 v (ltb (located (v .root) (v .party) .chain) (v .root .primaries)) _ (λ _. moved-traced 3 v _ (beside v _) (passes 3 v _ _ refl refl))
 
 traced-04 : TracedAt 4 step04
 unfolding step04 oldOpen isAmong
@@ -230,7 +240,7 @@ traced-06 v ready e =
     let p = v .party in
     let t = chaseOf v in
     let w = pageOf (v .pages) (primaryPage (p .chain)) in
-    guarded-traced 6 v (pageSound (v .root) w && leb (p .lev) (levelOf w) && ltb (t .chain) (v .root .chains)) _
+    guarded-traced 6 v (pageSound (v .root) w && leb (p .lev) (levelOf w) && ltb (t .chain) (v .root .primaries)) _
     (λ _. moved-traced 6 v _
     (record {
       number= = refl;
@@ -299,16 +309,16 @@ nothing-traced v a h = moved-traced 10 v _ (beside v _) (passes 10 v _ _ refl h)
 
 -- One chain built in pages taken from the free list, its primary page in scratch.
 built-spares : (v : View) → Ready v → (level : ℕ) (es : List Entry) (xs : List ℕ) → All (IsOverflow (v .root)) xs
-    → Spares v (withPage (overflowWritten (v .root .keys) (v .pages) xs es) (scratchPage (v .root) (v .number)) (primaryOf (v .root .keys) level es xs))
+    → Spares v (withPage (overflowWritten (v .root .capacity) (v .pages) xs es) (scratchPage (v .root) (v .number)) (primaryOf (v .root .capacity) level es xs))
 built-spares v ready level es xs a =
-    spares-written v ready (overflowWritten (v .root .keys) (v .pages) xs es) (spares-filled v ready (v .pages) (spares-all v) xs es a) (scratchPage (v .root) (v .number))
-    (primaryOf (v .root .keys) level es xs) (scratch-writable v ready (scratchPage (v .root) (v .number)) refl) (length-primaryOf (v .root .keys) level es xs (ready .keys-fit))
+    spares-written v ready (overflowWritten (v .root .capacity) (v .pages) xs es) (spares-filled v ready (v .pages) (spares-all v) xs es a) (scratchPage (v .root) (v .number))
+    (primaryOf (v .root .capacity) level es xs) (scratch-writable v ready (scratchPage (v .root) (v .number)) refl) (length-primaryOf (v .root .capacity) level es xs (ready .keys-fit))
 
 rebuild-traced : (v : View) → Ready v → (c : Chain) (x : Change) → NoChange x → Traced 10 v (rebuildWith v c x)
 unfolding rebuildWith rebuilt rootAfterTaking changing traceOf answerNumber isChange
 rebuild-traced v ready c (kept a) h = nothing-traced v a h
 rebuild-traced v ready c (changed a es) h =
-    let k = pagesFor (v .root .keys) es in
+    let k = pagesFor (v .root .capacity) es in
     cond-ind (Traced 10 v) (tooFew (v .root) k) _ _ (λ _. nothing-traced v 5 refl)
     (λ _. checked-traced 10 v (λ (t : Taken). All (IsOverflow (v .root)) (t .pages)) (pagesTaken (v .root) (v .pages) k) (λ t. rebuilt v c a es t) (taken-overflow (v .root) (v .pages) k)
     (λ t over. moved-traced 10 v _
@@ -386,7 +396,7 @@ traced-15 v ready e = request-traced 15 v _ _ (passes 15 v _ _ refl refl)
 traced-16 : TracedAt 16 step16
 unfolding step16 splitting oldOpen isAmong
 traced-16 v ready e =
-    cond-ind (Traced 16 v) (splitBarred (countOfChains (v .root)) (v .root .chains)) _ _ (λ _. ended-traced 16 v ready _ _)
+    cond-ind (Traced 16 v) (splitBarred (countOfChains (v .root)) (v .root .primaries)) _ _ (λ _. ended-traced 16 v ready _ _)
     (λ _. request-traced 16 v _ _ (passes 16 v _ _ refl refl))
 
 all-taken : (r : Root) (k : ℕ) (xs : List ℕ) → All (IsOverflow r) xs → All (IsOverflow r) (take k xs)
@@ -398,7 +408,7 @@ all-left r k xs a = all-from (IsOverflow r) (drop k xs) (λ x h. all-in (IsOverf
 halves-spares : (v : View) → Ready v → (h : Halves) (xs : List ℕ) → All (IsOverflow (v .root)) xs → Spares v (halvesWritten v h xs)
 unfolding halvesWritten
 halves-spares v ready h xs a =
-    let b = v .root .keys in
+    let b = v .root .capacity in
     let k = pagesFor b (h .stay) in
     let ps = overflowWritten b (v .pages) (take k xs) (h .stay) in
     let first = spares-filled v ready (v .pages) (spares-all v) (take k xs) (h .stay) (all-taken (v .root) k xs a) in
@@ -409,7 +419,7 @@ halves-spares v ready h xs a =
 divide-traced : (v : View) → Ready v → (c : Chain) (h : Halves) → Traced 17 v (divideWith v c h)
 unfolding divideWith divided rootAfterTaking traceOf isMoved
 divide-traced v ready c h =
-    let b = v .root .keys in
+    let b = v .root .capacity in
     let k = halvesNeed b h in
     cond-ind (Traced 17 v) (tooFew (v .root) k) _ _ (λ _. ended-traced 17 v ready _ _)
     (λ _. checked-traced 17 v (λ (t : Taken). All (IsOverflow (v .root)) (t .pages)) (pagesTaken (v .root) (v .pages) k) (λ t. divided v c h t) (taken-overflow (v .root) (v .pages) k)
@@ -426,7 +436,7 @@ divide-traced v ready c h =
 traced-17 : TracedAt 17 step17
 unfolding step17
 traced-17 v ready e =
-    guarded-traced 17 v (not (splitBarred (countOfChains (v .root)) (v .root .chains))) _
+    guarded-traced 17 v (not (splitBarred (countOfChains (v .root)) (v .root .primaries))) _
     (λ _. each-traced 17 v (chainOf (v .root) (v .pages) (v .party .chain)) _ (λ c. divide-traced v ready c (halvesOf v c)))
 
 traced-18 : TracedAt 18 step18
@@ -441,7 +451,7 @@ traced-19 v ready e = release-traced 19 v _ _ (keeps 19 v _ _ refl refl (open-at
 root-leaves : (v : View) (level next : ℕ) (ls : List ℕ) (p : Party) → Leaves v (withParty p (withLocks ls (withRoot (withLevel level (withNext next (v .root))) v)))
 root-leaves v level next ls p = record {
   number= = refl;
-  sizes = record { originals= = refl; keys= = refl; chains= = refl; overflow= = refl; parties= = refl };
+  sizes = record { originals= = refl; capacity= = refl; primaries= = refl; overflow= = refl; parties= = refl };
   spares = spares-all v;
 }
 
@@ -483,7 +493,7 @@ combine-traced : (v : View) → Ready v → (m : Pair) → Traced 26 v (combineW
 unfolding combineWith combined rootAfterTaking traceOf isMoved
 combine-traced v ready m =
     let es = joinedEntries m in
-    let k = pagesFor (v .root .keys) es in
+    let k = pagesFor (v .root .capacity) es in
     cond-ind (Traced 26 v) (mergeGoes (v .root) es) _ _
     (λ _. checked-traced 26 v (λ (t : Taken). All (IsOverflow (v .root)) (t .pages)) (pagesTaken (v .root) (v .pages) k) (λ t. combined v m t) (taken-overflow (v .root) (v .pages) k)
     (λ t over. moved-traced 26 v _

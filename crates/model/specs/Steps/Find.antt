@@ -5,11 +5,14 @@ use mathlib.Core.List.{[], _∷_}
 use lib.Dec.{eqb}
 use Rattle.model.specs.declared.OperationAnswer.{OperationAnswer}
 use Rattle.model.specs.declared.OperationAnswer.the-variants as OperationAnswer
+use Rattle.model.specs.declared.Restructuring.{Restructuring}
 use Rattle.model.specs.declared.Restructuring.the-variants as Restructuring
 use Rattle.model.specs.Entries.{hasKey}
-use Rattle.model.specs.Pages.{pageOf, linkOf, entriesOf, pageSound, linkedPage}
-use Rattle.model.specs.Outcome.{View, Outcome, withScratch, scratchOf, moved, done, guarded, heldAll, givenUp}
-use Rattle.model.specs.Steps.Locate.{chainLock}
+use Rattle.model.specs.Pages.{pageOf, linkOf, linkedPage, pageSound, entriesOf}
+use Rattle.model.specs.Outcome.{View, Outcome, moved, guarded}
+use Rattle.model.specs.LockRequests.{chainLock, heldAll, givenUp}
+use Rattle.model.specs.ScratchPages.{scratchOf, withScratch}
+use Rattle.model.specs.Endings.{done}
 
 -- "give up the chain, done".
 unfoldable pub answered : View → OperationAnswer → Outcome

@@ -5,10 +5,10 @@ use Prim.Native.Nat.{_+_, _-_}
 use native.Mathlib.Omega.{arith}
 use lib.ListN.{length-set}
 use Rattle.model.specs.declared.Root.{Root}
-use Rattle.model.specs.Addresses.{splitBarred}
+use Rattle.model.specs.Addresses.{splitBarred, countOfChains}
 use Rattle.model.specs.Chains.{chainOf}
 use Rattle.model.specs.Records.{withFreeList}
-use Rattle.model.specs.Steps.Split.{countOfChains, step17}
+use Rattle.model.specs.Steps.SplitBuild.{step17}
 use Rattle.records.specs.Words.{partyIn, seen, left, AtHand}
 use Rattle.records.proofs.Words.{free-list-written}
 use Rattle.chain_scan.specs.declared.Scan.the-variants as Scan
@@ -160,7 +160,7 @@ returns c =
     let n = at-pages-for2 .pages-for2 .result in
     let first = at-pages-for .pages-for .ensures in
     let second = at-pages-for2 .pages-for2 .ensures in
-    let open-to : splitBarred (countOfChains r) (r .chains) ≡ false = rw er (start .pre .not-barred) in
+    let open-to : splitBarred (countOfChains r) (r .primaries) ≡ false = rw er (start .pre .not-barred) in
     let skipped = skips r p (a .q) (a .locks .now) ps hand (a .l) looked d divides m n first second open-to (at-if1 .if1 .taken) in
     rw er at (at-ended-with-split .ended-with-split .ensures ∙ skipped)
 
@@ -289,7 +289,7 @@ returns-2 c =
     let n = at-pages-for2 .pages-for2 .result in
     let first = at-pages-for .pages-for .ensures in
     let second = at-pages-for2 .pages-for2 .ensures in
-    let open-to : splitBarred (countOfChains r) (r .chains) ≡ false = rw er (start .pre .not-barred) in
+    let open-to : splitBarred (countOfChains r) (r .primaries) ≡ false = rw er (start .pre .not-barred) in
     let bad = sym (c .enum-told .given .1) ∙ at-draw .draw .ensures in
     let refused = refuses r p (a .q) (a .locks .now) ps hand (a .l) looked d divides m n first second open-to (at-if1 .if1 .left) bad in
     ap (λ (s : Root). left _ s p (a .q) (a .locks .now) ps) (sym er) ∙ refused ∙ ap (λ (s : Root). step17 (seen s p (a .q) (a .locks .now) ps)) er
@@ -334,7 +334,7 @@ returns-3 c =
     let n = at-pages-for2 .pages-for2 .result in
     let first = at-pages-for .pages-for .ensures in
     let second = at-pages-for2 .pages-for2 .ensures in
-    let open-to : splitBarred (countOfChains r) (r .chains) ≡ false = rw er (start .pre .not-barred) in
+    let open-to : splitBarred (countOfChains r) (r .primaries) ≡ false = rw er (start .pre .not-barred) in
     let drawn = sym (at-head .head .given .1) ∙ at-draw .draw .ensures in
     let h = at-head .head .given .0 .0 in
     let root = free-list-written (a .root .now) h (r .free - (m + n)) (start .pre .words) ∙ ap (withFreeList h (r .free - (m + n))) (sym er) in

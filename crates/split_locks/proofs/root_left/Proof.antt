@@ -4,7 +4,7 @@ use lib.ListN.{length-set}
 use Rattle.model.specs.declared.Party.{Party}
 use Rattle.model.specs.Records.{atStep}
 use Rattle.model.specs.Outcome.{withParty}
-use Rattle.model.specs.Steps.Change.{finished}
+use Rattle.model.specs.Endings.{finished}
 use Rattle.records.specs.Words.{seen}
 use Rattle.records.proofs.Words.{owed-written}
 use Rattle.split_locks.proofs.Splits.{done-where-no-old, old-first}

@@ -1,5 +1,5 @@
 -- `split_locks::step_15` meets its contract.
-use Rattle.model.specs.Steps.Split.{step15}
+use Rattle.model.specs.Steps.SplitLocks.{step15}
 use borrow.Author.Needs.{needs}
 use Rattle.split_locks.proofs.step_15.Statement.{statement}
 use Rattle.split_locks.proofs.step_15.Tie as tie

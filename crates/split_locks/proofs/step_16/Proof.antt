@@ -5,7 +5,7 @@ use lib.ListN.{length-set}
 use mathlib.Core.Path.{refl, _∙_}
 use borrow.Author.Tests.{not-true, not-false}
 use Rattle.model.specs.declared.Mode.the-variants.{Selective}
-use Rattle.model.specs.Steps.Split.{splitting}
+use Rattle.model.specs.Steps.SplitLocks.{splitting}
 use Rattle.records.specs.Words.{partyIn, seen}
 use Rattle.lock_requests.proofs.Requests.{granted-request-moves, other-request-waits}
 use Rattle.split_locks.proofs.Splits.{next-is-chain, barred-ends, open-requests, grant-writes}
@@ -52,7 +52,7 @@ request-requires c κs =
     let at-chain-word = c .before in
     let start = at-chain-word .before .before .before .before .before .before in
     let ready = start .pre .ready in
-    let below : start .args .root .next < start .args .root .chains = next-is-chain _ ready in
+    let below : start .args .root .next < start .args .root .primaries = next-is-chain _ ready in
     (omega (arith, ready .locks-fit, at-chain-word .chain-word .ensures), omega (arith, ready .number-fits, ready .parties-fit))
 
 same-length-4 : tie.Need-same-length-4

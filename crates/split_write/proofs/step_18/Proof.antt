@@ -1,5 +1,5 @@
 -- `split_write::step_18` meets its contract.
-use Rattle.model.specs.Steps.Split.{step18}
+use Rattle.model.specs.Steps.SplitWrite.{step18}
 use borrow.Author.Needs.{needs}
 use Rattle.split_write.proofs.step_18.Statement.{statement}
 use Rattle.split_write.proofs.step_18.Tie as tie

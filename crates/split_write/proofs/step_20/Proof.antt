@@ -1,8 +1,8 @@
 -- `split_write::step_20` meets its contract.
 use mathlib.Core.Path.{sym, subst, _∙_}
 use Rattle.model.specs.declared.Root.{Root}
-use Rattle.addressing.specs.Fits.{RootFits}
-use Rattle.addressing.proofs.Limits.{ready-root-fits}
+use Rattle.addresses.specs.Fits.{RootFits}
+use Rattle.addresses.proofs.Limits.{ready-root-fits}
 use Rattle.records.specs.Words.{rootIn, seen}
 use Rattle.records.proofs.Words.{next-written, root-is}
 use Rattle.split_write.proofs.Splits.{next-moved}

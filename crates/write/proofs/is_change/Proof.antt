@@ -2,7 +2,7 @@
 use mathlib.Core.Path.{refl}
 use borrow.Author.Tests.{eq-eqb, ne-eqb}
 use Rattle.model.specs.Answers.{answerNumber}
-use Rattle.model.specs.Steps.Change.{isChange}
+use Rattle.model.specs.Steps.Write.{isChange}
 use Rattle.write.proofs.is_change.Statement.{statement}
 use Rattle.write.proofs.is_change.Tie as tie
 

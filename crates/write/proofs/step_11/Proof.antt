@@ -1,5 +1,5 @@
 -- `write::step_11` meets its contract.
-use Rattle.model.specs.Steps.Change.{step11}
+use Rattle.model.specs.Steps.Write.{step11}
 use borrow.Author.Needs.{needs}
 use Rattle.write.proofs.step_11.Statement.{statement}
 use Rattle.write.proofs.step_11.Tie as tie

@@ -26,7 +26,9 @@ use Rattle.model.specs.LockWords.{Claim}
 use Rattle.model.specs.Pages.{pageOf, withPage, primaryPage, scratchPage}
 use Rattle.model.specs.Filling.{pagesFor}
 use Rattle.model.specs.Chains.{Checked, damaged, sound}
-use Rattle.model.specs.Outcome.{View, Outcome, moved, done, guarded, checked, isGranted, withHold, withParty, request, heldAll, givenUp}
+use Rattle.model.specs.Outcome.{View, Outcome, moved, guarded, checked, withParty}
+use Rattle.model.specs.Endings.{done}
+use Rattle.model.specs.LockRequests.{isGranted, withHold, request, heldAll, givenUp, release}
 use Rattle.model.specs.Memory.{Memory, partyAt, viewOf, afterStep}
 use Rattle.model.specs.Calls.{Called, called, stepCall, stepped}
 use Rattle.model.specs.Book.{Book, Entered, Value, isIn, withEntry, noteFor, noteStep, noteAtSix, notedIfFind, afterReply, agreesWith, isNote, isNoteOf}
@@ -34,7 +36,6 @@ use Rattle.model.specs.Ready.{viewing}
 use Rattle.model.specs.Progress.{underWay}
 use Rattle.model.specs.Demands.{AtRest}
 use Rattle.model.specs.Sequential.{File, Finished, finishes, recordsAt, pagesInUse, fileOf, runAlone}
-use Rattle.model.specs.Steps.Locate.{release}
 use Rattle.model.specs.Steps.Dispatch.{stepOf}
 use Rattle.model.proofs.Laws.Lists.{All, Told, holds, fails, tell, Cmp, same, diff, cmp, cond-ind, and-both, both-and, left-or, or-either, or-neither, not-both, not-true, eqb-true, eqb-diff, leb-true, le-leb}
 use Rattle.model.proofs.Invariant.Ghost.{Extent, rootExtent, inChain, size}
@@ -66,7 +67,7 @@ pub record Alone (m : Memory) (b : Book) (q : ℕ) (p : Party) (f : File) (out :
   pub others : (j : ℕ) → j ≢ q → partyAt (m .parties) j ≡ idle
   pub extent-is : extentOf f ≡ liveFor (m .root) p
   pub holding : Holding (m .root .originals) f (λ k. isIn (b .contents k))
-  pub whole : m .root .free + out + pagesInUse (m .root .keys) (f .chains) ≡ m .root .overflow
+  pub whole : m .root .free + out + pagesInUse (m .root .capacity) (f .chains) ≡ m .root .overflow
 
 -- The memory after a step of party q: root, record, lock words and page words. The book after a step of the record p that goes on.
 abbrev pub leftAt : Memory → ℕ → Root → Party → List ℕ → List ℕ → Memory
@@ -199,18 +200,18 @@ linked-off r ps qs (x ∷ xs) f a h = (rw (f x (a .0)) (h .0), rw (f x (a .0)) (
 
 -- A root whose free list alone changes keeps its sizes.
 pub limits-free : (r : Root) (h n : ℕ) → SameLimits r (withFreeList h n r)
-limits-free r h n = record { originals= = refl; keys= = refl; chains= = refl; overflow= = refl; parties= = refl }
+limits-free r h n = record { originals= = refl; capacity= = refl; primaries= = refl; overflow= = refl; parties= = refl }
 
 module _ (m : Memory) (b : Book) (q : ℕ) (p : Party) (f : File) (out : ℕ) (a : Alone m b q p f out) where
   pub scratch-long : length (pageOf (m .pages) (scratchPage (m .root) q)) ≡ pageWords
   scratch-long = length-pageOf (has-scratch m b (a .inv) q (a .in-row))
 
   -- A live chain has as many overflow pages as its records in the file need.
-  pub many-alone : (d : ℕ) → d < size (m .root .originals) (a .inv .ghost .live) → length (a .inv .ghost .held (inChain d)) ≡ pagesFor (m .root .keys) (recordsAt f d)
-  many-alone d l = live-pages m b (a .inv) d l ∙ ap (pagesFor (m .root .keys)) (records-alone m b q p f out a d l)
+  pub many-alone : (d : ℕ) → d < size (m .root .originals) (a .inv .ghost .live) → length (a .inv .ghost .held (inChain d)) ≡ pagesFor (m .root .capacity) (recordsAt f d)
+  many-alone d l = live-pages m b (a .inv) d l ∙ ap (pagesFor (m .root .capacity)) (records-alone m b q p f out a d l)
 
   -- The primary page of chain c is written with the words w: the overflow pages of every live chain stand linked as before.
-  module _ (c : ℕ) (w : List ℕ) (fits : c < m .root .chains) (long : length w ≡ pageWords) where
+  module _ (c : ℕ) (w : List ℕ) (fits : c < m .root .primaries) (long : length w ≡ pageWords) where
     pub written-off : (x : ℕ) → x ≢ c → pageOf (withPage (m .pages) (primaryPage c) w) x ≡ pageOf (m .pages) x
     written-off x d = page-other (m .pages) c w (record { fits = omega (arith, a .inv .pages-many) }) long x d
 
@@ -219,7 +220,7 @@ module _ (m : Memory) (b : Book) (q : ℕ) (p : Party) (f : File) (out : ℕ) (a
         let xs = a .inv .ghost .held (inChain d) in
         let over = held-overflow (m .root) (a .inv .pages-ok .owned) (inChain d) in
         linked-off (m .root) (m .pages) (withPage (m .pages) (primaryPage c) w) xs (λ x o. written-off x (omega arith)) over
-        (overflow-linked (m .root) (m .pages) xs (drop (m .root .keys) (a .inv .ghost .records d)) over (a .inv .pages-ok .chain d l .overflow))
+        (overflow-linked (m .root) (m .pages) xs (drop (m .root .capacity) (a .inv .ghost .records d)) over (a .inv .pages-ok .chain d l .overflow))
 
 -- ---- The next step
 
@@ -247,7 +248,7 @@ module _ (m : Memory) (b : Book) (q : ℕ) (p : Party) (f : File) (out : ℕ) (a
   -- From this memory to one with root t, record x, locks ls and pages ps, with the live file g and the pages out then.
   module _ (t : Root) (x : Party) (ls ps : List ℕ) (g : File) (out-then : ℕ) (z : SameLimits (m .root) t) where
     pub alone-after : (c : Book) → Inv (leftAt m q t x ls ps) c → extentOf g ≡ liveFor t x
-        → Holding (m .root .originals) g (λ k. isIn (c .contents k)) → t .free + out-then + pagesInUse (m .root .keys) (g .chains) ≡ m .root .overflow
+        → Holding (m .root .originals) g (λ k. isIn (c .contents k)) → t .free + out-then + pagesInUse (m .root .capacity) (g .chains) ≡ m .root .overflow
         → Alone (leftAt m q t x ls ps) c q x g out-then
     alone-after c i e h w = record {
       inv = i;
@@ -256,12 +257,12 @@ module _ (m : Memory) (b : Book) (q : ℕ) (p : Party) (f : File) (out : ℕ) (a
       others = others-then x;
       extent-is = e;
       holding = rw (z .originals=) h;
-      whole = rw (z .keys=, z .overflow=) w;
+      whole = rw (z .capacity=, z .overflow=) w;
     }
 
     -- The same after a step that goes on; the book's set is as it was.
     pub alone-moves : Performed m b q (moved (viewing t x q ls ps)) → p .step ≢ 11 → extentOf g ≡ liveFor t x
-        → Holding (m .root .originals) g (λ k. isIn (b .contents k)) → t .free + out-then + pagesInUse (m .root .keys) (g .chains) ≡ m .root .overflow
+        → Holding (m .root .originals) g (λ k. isIn (b .contents k)) → t .free + out-then + pagesInUse (m .root .capacity) (g .chains) ≡ m .root .overflow
         → Alone (leftAt m q t x ls ps) (bookOn b q p) q x g out-then
     unfolding afterReply
     alone-moves k d e h w =
@@ -331,12 +332,12 @@ module _ (m : Memory) (b : Book) (q : ℕ) (p : Party) (f : File) (out : ℕ) (a
   -- A step that ends the operation, with the root t; the file is g.
   pub comes-to-end : (t : Root) (x : Party) (ls ps : List ℕ) (g : File) (y : OperationAnswer) (s : Restructuring) → SameLimits (m .root) t
       → Performed m b q (done y s (viewing t x q ls ps)) → p .step ≢ 11 → extentOf g ≡ rootExtent t → Holding (m .root .originals) g (λ k. isIn (b .contents k))
-      → t .free + pagesInUse (m .root .keys) (g .chains) ≡ m .root .overflow → Ends m q (finishes y s g)
+      → t .free + pagesInUse (m .root .capacity) (g .chains) ≡ m .root .overflow → Ends m q (finishes y s g)
   unfolding afterReply underWay
   comes-to-end t x ls ps g y s z k d e h w =
       last m m-then q (finishes y s g) b-then (k .call) file-then (λ j. rw (idles j (cmp j q)) refl) inv-then
       (record {
-        all-pages = ap (λ (n : ℕ). t .free + pagesInUse n (fileOf m-then .chains)) (z .keys=) ∙ ap (λ (l : File). t .free + pagesInUse (m .root .keys) (l .chains)) file-then ∙ w
+        all-pages = ap (λ (n : ℕ). t .free + pagesInUse n (fileOf m-then .chains)) (z .capacity=) ∙ ap (λ (l : File). t .free + pagesInUse (m .root .capacity) (l .chains)) file-then ∙ w
             ∙ sym (z .overflow=);
       })
     where

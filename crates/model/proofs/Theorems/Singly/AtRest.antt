@@ -117,7 +117,7 @@ module _ (m : Memory) (b : Book) (i : Inv m b) where
 
 -- Every overflow page is free or counted by the file: what the yardstick takes for granted.
 pub record Whole (m : Memory) : Type 0 where
-  pub all-pages : m .root .free + pagesInUse (m .root .keys) (fileOf m .chains) ≡ m .root .overflow
+  pub all-pages : m .root .free + pagesInUse (m .root .capacity) (fileOf m .chains) ≡ m .root .overflow
 
 -- One chain's records replaced: its pages are counted anew.
 pub use-set : (k : ℕ) (l : List (List Entry)) (c : ℕ) (es : List Entry) → c < length l
@@ -142,5 +142,5 @@ use-front k (x ∷ l) (suc c) h = omega (arith, use-front k l c (omega arith))
 
 -- A live chain has as many overflow pages as its records need.
 pub live-pages : (m : Memory) (b : Book) (i : Inv m b) (c : ℕ) → c < size (m .root .originals) (i .ghost .live)
-    → length (i .ghost .held (inChain c)) ≡ pagesFor (m .root .keys) (i .ghost .records c)
-live-pages m b i c l = overflow-length (m .root .keys) (m .pages) (i .ghost .held (inChain c)) (i .ghost .records c) (i .limits .some-key) (i .pages-ok .chain c l .overflow)
+    → length (i .ghost .held (inChain c)) ≡ pagesFor (m .root .capacity) (i .ghost .records c)
+live-pages m b i c l = overflow-length (m .root .capacity) (m .pages) (i .ghost .held (inChain c)) (i .ghost .records c) (i .limits .some-key) (i .pages-ok .chain c l .overflow)

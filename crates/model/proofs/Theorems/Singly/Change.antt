@@ -21,13 +21,17 @@ use Rattle.model.specs.Entries.{Entry, hasKey, insertedInto, removedFrom
 use Rattle.model.specs.Pages.{pageOf, withPage, pageSound, primaryPage, scratchPage, linkToFirst}
 use Rattle.model.specs.Chains.{Chain, sound, listFrom}
 use Rattle.model.specs.Filling.{pagesFor}
-use Rattle.model.specs.FreeList.{tooFew, pagesTaken}
-use Rattle.model.specs.Outcome.{View, Outcome, withParty, withPages, scratchOf, moved, checked, heldAll, givenUp}
+use Rattle.model.specs.FreeList.{tooFew, pagesTaken, rootAfterTaking}
+use Rattle.model.specs.Outcome.{View, Outcome, withParty, withPages, moved, checked}
+use Rattle.model.specs.ScratchPages.{scratchOf, primaryWritten}
+use Rattle.model.specs.LockRequests.{heldAll, givenUp, chainSelective}
 use Rattle.model.specs.Memory.{Memory}
 use Rattle.model.specs.Book.{Book, Value, Entered, isIn, changedAt, contentAtEleven, noteFor, noteStep, afterReply}
 use Rattle.model.specs.Ready.{viewing}
 use Rattle.model.specs.Sequential.{File, Finished, finishes, recordsAt, withRecords, pagesInUse, freeIn, shortOf, chainsIn, parted, rejoined, homeIn, splitFile, mergeFile, added, insertIn, removed, deleteIn}
-use Rattle.model.specs.Steps.Change.{chainSelective, Change, kept, changed, changeOf, splitOwed, mergeOwed, owedBy, rootAfterTaking, changesNothing, changing, rebuilt, rebuildWith, primaryWritten, finished, onward, oldPagesFirst, isChange, step10, step11, step12}
+use Rattle.model.specs.Steps.Rebuild.{Change, kept, changed, changeOf, splitOwed, mergeOwed, owedBy, changesNothing, changing, rebuilt, rebuildWith, step10}
+use Rattle.model.specs.Endings.{finished, onward, oldPagesFirst}
+use Rattle.model.specs.Steps.Write.{isChange, step11, step12}
 use Rattle.model.specs.Steps.Dispatch.{hasStep, stepOf, stepTable}
 use Rattle.model.proofs.Laws.Lists.{Told, holds, fails, tell, cond-true, cond-false, eqb-same, eqb-diff, ltb-false}
 use Rattle.model.proofs.Laws.Structure.{Linked}
@@ -61,8 +65,8 @@ onwardFile r g y owed = cond (eqb owed 1) (splitFile r g y) (cond (eqb owed 2) (
 unfoldable pub changedFile : Root → File → ℕ → ℕ → Change → Finished
 changedFile r f o c (kept n) = finishes (answerOf n) Restructuring.None f
 changedFile r f o c (changed n es) =
-    cond (shortOf r f (pagesFor (r .keys) es)) (finishes OperationAnswer.NoPage Restructuring.None f)
-    (onwardFile r (withRecords f c es) (answerOf n) (owedBy o (pagesFor (r .keys) (recordsAt f c)) (pagesFor (r .keys) es) es))
+    cond (shortOf r f (pagesFor (r .capacity) es)) (finishes OperationAnswer.NoPage Restructuring.None f)
+    (onwardFile r (withRecords f c es) (answerOf n) (owedBy o (pagesFor (r .capacity) (recordsAt f c)) (pagesFor (r .capacity) es) es))
 
 pub insert-is : (r : Root) (f : File) (k : ℕ) → changedFile r f 2 (homeIn r f k) (changeOf 2 k (recordsAt f (homeIn r f k))) ≡ insertIn r f k
 unfolding changedFile changeOf insertIn added owedBy onwardFile answerNumber answerOf restructuringOf
@@ -82,7 +86,7 @@ insert-is r f k = go (hasKey k es)
     go : (t : Bool) → changedFile r f 2 (homeIn r f k) (cond t (kept 2) (changed 1 new)) ≡ cond t (finishes OperationAnswer.Present Restructuring.None f) (added r f (homeIn r f k) es new)
     go true = refl
     go false =
-        ap (cond (shortOf r f (pagesFor (r .keys) new)) (finishes OperationAnswer.NoPage Restructuring.None f)) (owes (splitOwed (pagesFor (r .keys) es) (pagesFor (r .keys) new)))
+        ap (cond (shortOf r f (pagesFor (r .capacity) new)) (finishes OperationAnswer.NoPage Restructuring.None f)) (owes (splitOwed (pagesFor (r .capacity) es) (pagesFor (r .capacity) new)))
 
 pub delete-is : (r : Root) (f : File) (k : ℕ) → changedFile r f 3 (homeIn r f k) (changeOf 3 k (recordsAt f (homeIn r f k))) ≡ deleteIn r f k
 unfolding changedFile changeOf deleteIn removed owedBy onwardFile answerNumber answerOf restructuringOf
@@ -100,16 +104,16 @@ delete-is r f k = go (hasKey k es)
     owes false = refl
 
     go : (t : Bool) → changedFile r f 3 (homeIn r f k) (cond t (changed 3 new) (kept 4)) ≡ cond t (removed r f (homeIn r f k) new) (finishes OperationAnswer.Absent Restructuring.None f)
-    go true = ap (cond (shortOf r f (pagesFor (r .keys) new)) (finishes OperationAnswer.NoPage Restructuring.None f)) (owes (mergeOwed new))
+    go true = ap (cond (shortOf r f (pagesFor (r .capacity) new)) (finishes OperationAnswer.NoPage Restructuring.None f)) (owes (mergeOwed new))
     go false = refl
 
 -- ---- The yardstick goes by the sizes alone
 
 abbrev sizesOf : Root → Root
-sizesOf r = rootOfSizes (r .originals) (r .keys) (r .chains) (r .overflow) (r .parties)
+sizesOf r = rootOfSizes (r .originals) (r .capacity) (r .primaries) (r .overflow) (r .parties)
 
 sizes-path : (r t : Root) → SameLimits r t → sizesOf t ≡ sizesOf r
-sizes-path r t z = λ i. rootOfSizes (z .originals= i) (z .keys= i) (z .chains= i) (z .overflow= i) (z .parties= i)
+sizes-path r t z = λ i. rootOfSizes (z .originals= i) (z .capacity= i) (z .primaries= i) (z .overflow= i) (z .parties= i)
 
 split-sizes : (r t : Root) → SameLimits r t → (g : File) (y : OperationAnswer) → splitFile t g y ≡ splitFile r g y
 unfolding splitFile shortOf freeIn chainsIn parted
@@ -203,7 +207,7 @@ contents-eleven b q e h = ap (λ (z : Option Entered). noteFor b q z 11 .content
 
 module _ (steps : StepsKept) (m : Memory) (b : Book) (q : ℕ) (p : Party) (f : File) (out : ℕ) (a : Alone m b q p f out) (is-11 : p .step ≡ 11)
     (at-home : p .chain ≡ home (m .root .originals) (extentOf f) (p .key)) (new : List Entry)
-    (change : changeOf (p .operation) (p .key) (recordsAt f (p .chain)) ≡ changed (p .answer) new) (out-is : out ≡ pagesFor (m .root .keys) new) where
+    (change : changeOf (p .operation) (p .key) (recordsAt f (p .chain)) ≡ changed (p .answer) new) (out-is : out ≡ pagesFor (m .root .capacity) new) where
   abbrev r : Root
   r = m .root
 
@@ -225,7 +229,7 @@ module _ (steps : StepsKept) (m : Memory) (b : Book) (q : ℕ) (p : Party) (f : 
   abbrev xs : List ℕ
   xs = a .inv .ghost .held (inChain (p .chain))
 
-  many : length xs ≡ pagesFor (r .keys) (recordsAt f (p .chain))
+  many : length xs ≡ pagesFor (r .capacity) (recordsAt f (p .chain))
   many = many-alone m b q p f out a (p .chain) chain-live
 
   abbrev pages-then : List ℕ
@@ -261,9 +265,9 @@ module _ (steps : StepsKept) (m : Memory) (b : Book) (q : ℕ) (p : Party) (f : 
       (holding-changed (r .originals) f (λ j. isIn (b .contents j)) (a .holding) some-original (p .key) new (isIn then-in) (made .ascends (a .holding .ascends (p .chain)))
       (λ j. made .keys (b .contents (p .key)) j ∙ ap (λ (c : ℕ). cond (eqb j (p .key)) (isIn then-in) (hasKey j (recordsAt f c))) at-home)))
 
-  whole-then : r .free + length xs + pagesInUse (r .keys) (g .chains) ≡ r .overflow
+  whole-then : r .free + length xs + pagesInUse (r .capacity) (g .chains) ≡ r .overflow
   unfolding withRecords recordsAt
-  whole-then = omega (arith, a .whole, out-is, many, use-set (r .keys) (f .chains) (p .chain) new (omega (arith, a .holding .as-many, chain-inside)))
+  whole-then = omega (arith, a .whole, out-is, many, use-set (r .capacity) (f .chains) (p .chain) new (omega (arith, a .holding .as-many, chain-inside)))
 
   is-change : isChange (p .answer) ≡ true
   unfolding isChange answerNumber
@@ -339,15 +343,15 @@ module _ (steps : StepsKept) (m : Memory) (b : Book) (q : ℕ) (p : Party) (f : 
 
   module _ (n : ℕ) (new : List Entry) (change : changeOf (p .operation) (p .key) (recordsAt f (p .chain)) ≡ changed n new) where
     abbrev need : ℕ
-    need = pagesFor (r₀ .keys) new
+    need = pagesFor (r₀ .capacity) new
 
     abbrev goal-then : Finished
-    goal-then = onwardFile r₀ (withRecords f (p .chain) new) (answerOf n) (owedBy (p .operation) (pagesFor (r₀ .keys) es) need new)
+    goal-then = onwardFile r₀ (withRecords f (p .chain) new) (answerOf n) (owedBy (p .operation) (pagesFor (r₀ .capacity) es) need new)
 
     abbrev takes : Outcome
     takes = checked lent₀ (pagesTaken r₀ (m .pages) need) (λ t. rebuilt lent₀ whole n new t)
 
-    pages-before : length (whole .pages) ≡ pagesFor (r₀ .keys) es
+    pages-before : length (whole .pages) ≡ pagesFor (r₀ .capacity) es
     pages-before = many-alone m b q p f 0 a (p .chain) chain-live₀
 
     rebuilds : need ≤ r₀ .free → Performed m b q takes → Ends m q goal-then

@@ -23,7 +23,7 @@ use Rattle.model.proofs.Laws.Retreat.{Retreat, merge-retreats, merge-pa
 use Rattle.model.proofs.Laws.Halves.{has-staying, has-going, ascends-staying, ascends-going}
 use Rattle.model.proofs.Laws.Joins.{has-joined, ascends-joined}
 use Rattle.model.proofs.Laws.Ascending.{same-ascending}
-use Rattle.model.proofs.Steps.SplitRoot.{split-advances, level-raised}
+use Rattle.model.proofs.Steps.SplitWrite.Root.{split-advances, level-raised}
 
 -- ---- A file that holds exactly these keys
 

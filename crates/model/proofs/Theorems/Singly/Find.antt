@@ -14,12 +14,14 @@ use Rattle.model.specs.declared.OperationAnswer.the-variants as Operatio
 use Rattle.model.specs.declared.Restructuring.the-variants as Restructuring
 use Rattle.model.specs.Entries.{hasKey}
 use Rattle.model.specs.Pages.{pageOf, withPage, linkOf, linkToFirst, entriesOf, pageSound, scratchPage, linkedPage}
-use Rattle.model.specs.Outcome.{View, Outcome, moved, done, withScratch, heldAll, givenUp}
+use Rattle.model.specs.Outcome.{View, Outcome, moved}
+use Rattle.model.specs.Endings.{done}
+use Rattle.model.specs.ScratchPages.{withScratch}
+use Rattle.model.specs.LockRequests.{heldAll, givenUp, chainLock}
 use Rattle.model.specs.Memory.{Memory}
 use Rattle.model.specs.Book.{Book, Entered, isIn}
 use Rattle.model.specs.Ready.{viewing}
 use Rattle.model.specs.Sequential.{File, finishes, recordsAt, homeIn, findIn}
-use Rattle.model.specs.Steps.Locate.{chainLock}
 use Rattle.model.specs.Steps.Find.{answered, lookedOn, step09}
 use Rattle.model.specs.Steps.Dispatch.{stepOf, stepTable}
 use Rattle.model.proofs.Laws.Lists.{Told, holds, fails, tell, cond-true, cond-false, All, all-from, eqb-same}

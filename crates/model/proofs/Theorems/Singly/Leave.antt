@@ -14,13 +14,15 @@ use Rattle.model.specs.Records.{atStep, withOld, withFreeList}
 use Rattle.model.specs.Answers.{answerOf, restructuringOf}
 use Rattle.model.specs.Pages.{linkToFirst, namesOverflow}
 use Rattle.model.specs.Chains.{sound, listFrom}
-use Rattle.model.specs.FreeList.{givenBack}
-use Rattle.model.specs.Outcome.{View, Outcome, withParty, moved, checked, request, heldAll, givenUp}
+use Rattle.model.specs.FreeList.{givenBack, roomToGiveBack, pagesGivenBack}
+use Rattle.model.specs.Outcome.{View, Outcome, withParty, moved, checked}
+use Rattle.model.specs.LockRequests.{request, heldAll, givenUp, chainExclusive}
 use Rattle.model.specs.Memory.{Memory}
 use Rattle.model.specs.Book.{Book}
 use Rattle.model.specs.Ready.{viewing}
 use Rattle.model.specs.Sequential.{File, Finished, finishes, pagesInUse}
-use Rattle.model.specs.Steps.Change.{chainExclusive, finished, onward, oldPagesFirst, roomToGiveBack, pagesGivenBack, oldGivenBack, step13, step14}
+use Rattle.model.specs.Endings.{finished, onward, oldPagesFirst}
+use Rattle.model.specs.Steps.OldPages.{oldGivenBack, step13, step14}
 use Rattle.model.specs.Steps.Dispatch.{stepOf, stepTable}
 use Rattle.model.proofs.Laws.Lists.{Cmp, same, diff, cmp, cond-true, cond-false, eqb-same, eqb-diff}
 use Rattle.model.proofs.Invariant.Ghost.{rootExtent}
@@ -39,7 +41,7 @@ pub record Onward (r : Root) (q : ℕ) (p : Party) (g : File) (y : Finished) : T
   pub stops : p .owed ≢ 1 → p .owed ≢ 2 → y ≡ finishes (answerOf (p .answer)) (restructuringOf (p .owed)) g
 
 module _ (m : Memory) (b : Book) (q : ℕ) (p : Party) (g : File) (out : ℕ) (a : Alone m b q p g out) (y : Finished) (k : ℕ) (at-k : p .step ≡ k) (plain-k : plain k ≡ true) (not-11 : k ≢ 11)
-    (h c : ℕ) (x : Party) (ls ps : List ℕ) (all-back : c + pagesInUse (m .root .keys) (g .chains) ≡ m .root .overflow) where
+    (h c : ℕ) (x : Party) (ls ps : List ℕ) (all-back : c + pagesInUse (m .root .capacity) (g .chains) ≡ m .root .overflow) where
   abbrev t : Root
   t = withFreeList h c (m .root)
 

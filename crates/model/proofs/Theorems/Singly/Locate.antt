@@ -14,12 +14,15 @@ use Rattle.model.specs.declared.OperationAnswer.the-variants as Operatio
 use Rattle.model.specs.Records.{atStep, withLev}
 use Rattle.model.specs.Addresses.{addressLevel, addressOf}
 use Rattle.model.specs.Pages.{pageOf, withPage, levelOf, pageSound, primaryPage, scratchPage}
-use Rattle.model.specs.Outcome.{View, moved, withParty, withScratch}
+use Rattle.model.specs.Outcome.{View, moved, withParty}
+use Rattle.model.specs.ScratchPages.{withScratch}
 use Rattle.model.specs.Memory.{Memory}
 use Rattle.model.specs.Book.{Book, Value, Entered, isIn, noteFor, noteStep}
 use Rattle.model.specs.Ready.{viewing}
 use Rattle.model.specs.Sequential.{File, Finished}
-use Rattle.model.specs.Steps.Locate.{rootRead, chainLock, located, Chase, chase, chaseOf, arrived, chasing, step01, step02, step03, step04, step05, step06}
+use Rattle.model.specs.LockRequests.{rootRead, chainLock}
+use Rattle.model.specs.Steps.Locate.{located, step01, step02, step03, step04, step05}
+use Rattle.model.specs.Steps.Chase.{Chase, chase, chaseOf, arrived, chasing, step06}
 use Rattle.model.specs.Steps.Dispatch.{stepOf, stepTable}
 use Rattle.model.proofs.Laws.Lists.{eqb-same, eqb-diff}
 use Rattle.model.proofs.Invariant.Ghost.{Extent, inChain, size, localLevel}
@@ -29,7 +32,7 @@ use Rattle.model.proofs.Laws.Filling.{chain-level}
 use Rattle.model.proofs.Invariant.Advance.{address-local, home-inside}
 use Rattle.model.proofs.Theorems.Calls.{StepsKept}
 use Rattle.model.proofs.Theorems.Singly.Files.{extentOf, home}
-use Rattle.model.proofs.Steps.Chase.{noted-six}
+use Rattle.model.proofs.Steps.Chase.Copy.{noted-six}
 use Rattle.model.proofs.Theorems.Singly.Alone.{Alone, leftAt, bookOn, none-claimed, live-alone, at-alone, performs-as, performed, guarded-open, Ends, plain, root-extent, moves-on, requests-on, releases-on}
 
 -- The book's note for party q says whether key k is in.
@@ -74,7 +77,7 @@ module _ (kept : StepsKept) (m : Memory) (b : Book) (q : ℕ) (p : Party) (f : F
   -- lev is the chain's local level.
   level-is : levelOf (pageOf (m .pages) (primaryPage (p .chain))) ≡ p .lev
   level-is =
-      chain-level (m .root .keys) (m .pages) (p .chain) (localLevel n (a .inv .ghost .live) (p .chain)) (a .inv .ghost .records (p .chain)) (a .inv .ghost .held (inChain (p .chain)))
+      chain-level (m .root .capacity) (m .pages) (p .chain) (localLevel n (a .inv .ghost .live) (p .chain)) (a .inv .ghost .records (p .chain)) (a .inv .ghost .held (inChain (p .chain)))
       (a .inv .pages-ok .chain (p .chain) chain-live)
       ∙ ap (λ (e : Extent). localLevel n e (p .chain)) (live-alone m b q p f 0 a) ∙ ap (localLevel n (extentOf f)) at-home
       ∙ address-local n (extentOf f) (a .holding .next-fits) some-original (p .key) ∙ sym lev-is
@@ -98,7 +101,7 @@ module _ (kept : StepsKept) (m : Memory) (b : Book) (q : ℕ) (p : Party) (f : F
   -- The tests of step 6.
   abbrev passed : Bool
   passed =
-      pageSound (m .root) (pageOf (m .pages) (primaryPage (p .chain))) && leb (p .lev) (levelOf (pageOf (m .pages) (primaryPage (p .chain)))) && ltb (chaseOf lent .chain) (m .root .chains)
+      pageSound (m .root) (pageOf (m .pages) (primaryPage (p .chain))) && leb (p .lev) (levelOf (pageOf (m .pages) (primaryPage (p .chain)))) && ltb (chaseOf lent .chain) (m .root .primaries)
 
   note-then : p .operation ≡ 1 → Noted (bookOn b q p) q (p .key)
   unfolding noteFor
@@ -171,7 +174,7 @@ module _ (kept : StepsKept) (q : ℕ) (f : File) (y : Finished) (k : ℕ) (arriv
       let lent = viewing (m .root) p q (m .locks) (m .pages) in
       let p-then = atStep 4 (located (m .root) p) in
       moves-on m b q p f 0 a 3 4 p-then (m .locks) (m .pages) y e refl refl refl (omega arith)
-      (performs-as (guarded-open lent (ltb (located (m .root) p .chain) (m .root .chains)) (moved (withParty p-then lent)) (w .kept .allowed)) w)
+      (performs-as (guarded-open lent (ltb (located (m .root) p .chain) (m .root .primaries)) (moved (withParty p-then lent)) (w .kept .allowed)) w)
       (λ c. from-four (leftAt m q (m .root) p-then (m .locks) (m .pages)) (bookOn b q p) p-then c o refl
       (ap (λ (j : ℕ). addressOf (m .root .originals) j (m .root .next) (p .key)) l ∙ ap (λ (x : Extent). home (m .root .originals) x (p .key)) (sym s))
       (ap (λ (j : ℕ). addressLevel (m .root .originals) j (m .root .next) (p .key)) l

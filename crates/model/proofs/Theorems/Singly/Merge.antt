@@ -23,15 +23,18 @@ use Rattle.model.specs.Entries.{Entry, joined, sharesKey}
 use Rattle.model.specs.Pages.{pageOf, withPage, levelOf, linkOf, pageSound, linkSound, primaryPage, linkToFirst, zeroPage, withLocalLevel}
 use Rattle.model.specs.Chains.{Checked, damaged, sound, soundIf, andThen, Chain, chainOf, listFrom}
 use Rattle.model.specs.Filling.{pagesFor}
-use Rattle.model.specs.FreeList.{tooFew, pagesTaken, givenBack}
-use Rattle.model.specs.Outcome.{View, Outcome, withParty, withRoot, withLocks, withPages, scratchOf, lockWord, moved, checked, request, isHeld}
+use Rattle.model.specs.FreeList.{tooFew, pagesTaken, givenBack, rootAfterTaking, roomToGiveBack, pagesGivenBack}
+use Rattle.model.specs.Outcome.{View, Outcome, withParty, withRoot, withLocks, withPages, moved, checked}
+use Rattle.model.specs.ScratchPages.{scratchOf}
+use Rattle.model.specs.LockRequests.{lockWord, request, isHeld, rootSelective, rootExclusive, otherExclusive}
 use Rattle.model.specs.Memory.{Memory}
 use Rattle.model.specs.Book.{Book, isIn}
 use Rattle.model.specs.Ready.{viewing}
 use Rattle.model.specs.Sequential.{File, Finished, finishes, recordsAt, pagesInUse, shortOf, chainsIn, rejoined, mergeFile}
-use Rattle.model.specs.Steps.Change.{rootAfterTaking, roomToGiveBack, pagesGivenBack}
-use Rattle.model.specs.Steps.Split.{rootSelective, endedWith}
-use Rattle.model.specs.Steps.Merge.{rootExclusive, otherExclusive, targetOf, targetExclusive, mergeStops, merging, Pair, pairOf, joinedEntries, mergeGoes, mergeLocks, combined, combineWith, rootMovedBack, mergedAway, partnerCleared, step23, step24, step25, step26, step27, step28, step29, step30}
+use Rattle.model.specs.Endings.{endedWith}
+use Rattle.model.specs.Steps.MergeLocks.{targetOf, targetExclusive, mergeStops, merging, mergeLocks, step23, step24, step25, step30}
+use Rattle.model.specs.Steps.MergeBuild.{Pair, pairOf, joinedEntries, mergeGoes, combined, combineWith, step26}
+use Rattle.model.specs.Steps.MergeWrite.{rootMovedBack, mergedAway, partnerCleared, step27, step28, step29}
 use Rattle.model.specs.Steps.Dispatch.{stepOf, stepTable}
 use Rattle.model.proofs.Laws.Lists.{Told, holds, fails, tell, cond-true, cond-false, eqb-diff, ltb-false}
 use Rattle.model.proofs.Invariant.Ghost.{Extent, extent, rootExtent, inChain, size, localLevel, advance}
@@ -117,11 +120,11 @@ joinedFile r f = rejoined r f (targetIn r f) (bothIn r f)
 
 -- The pages that the joined file takes.
 use-joined : (r : Root) (f : File) → targetIn r f < partnerIn r f → length (f .chains) ≡ suc (partnerIn r f)
-    → pagesInUse (r .keys) (joinedFile r f .chains) + (pagesFor (r .keys) (recordsAt f (targetIn r f)) + pagesFor (r .keys) (recordsAt f (partnerIn r f)))
-    ≡ pagesInUse (r .keys) (f .chains) + pagesFor (r .keys) (bothIn r f)
+    → pagesInUse (r .capacity) (joinedFile r f .chains) + (pagesFor (r .capacity) (recordsAt f (targetIn r f)) + pagesFor (r .capacity) (recordsAt f (partnerIn r f)))
+    ≡ pagesInUse (r .capacity) (f .chains) + pagesFor (r .capacity) (bothIn r f)
 unfolding rejoined recordsAt
 use-joined r f l many =
-    let k = r .keys in
+    let k = r .capacity in
     let c = targetIn r f in
     let o = partnerIn r f in
     let whole = set (f .chains) c (bothIn r f) in
@@ -173,7 +176,7 @@ module _ (kept : StepsKept) (m : Memory) (b : Book) (q : ℕ) (p : Party) (f : F
   records-of : (c d : ℕ) → c ≡ d → c < size n (a .inv .ghost .live) → a .inv .ghost .records c ≡ recordsAt f d
   records-of c d s l = records-alone m b q p f out a c l ∙ ap (recordsAt f) s
 
-  module _ (is-28 : p .step ≡ 28) (out-is : out ≡ pagesFor (m .root .keys) (bothIn (m .root) f))
+  module _ (is-28 : p .step ≡ 28) (out-is : out ≡ pagesFor (m .root .capacity) (bothIn (m .root) f))
       (root-is : rootExtent (m .root) ≡ extent (mergeLevel (f .level) (f .next)) (targetIn (m .root) f)) where
     at-28 : At 28 (sceneOf m (a .inv .ghost) b) q p
     at-28 = at-alone m b q p f out a 27 is-28
@@ -200,7 +203,7 @@ module _ (kept : StepsKept) (m : Memory) (b : Book) (q : ℕ) (p : Party) (f : F
     partner-link : linkOf (pageOf pages-then (primaryPage (p .other))) ≡ linkToFirst ys
     partner-link =
         ap linkOf (written-off m b q p f out a (p .chain) joinedPage (at-28 .busy .chain-fits) page-long (p .other) chains-differ)
-        ∙ chain-link (r .keys) (m .pages) (p .other) (localLevel n (a .inv .ghost .live) (p .other)) (a .inv .ghost .records (p .other)) ys (a .inv .pages-ok .chain (p .other) partner-live)
+        ∙ chain-link (r .capacity) (m .pages) (p .other) (localLevel n (a .inv .ghost .live) (p .other)) (a .inv .ghost .records (p .other)) ys (a .inv .pages-ok .chain (p .other) partner-live)
 
     pub from-28 : Ends m q (finishes (answerOf (p .answer)) Restructuring.Merged (joinedFile (m .root) f))
     unfolding stepOf stepTable step28 plain rejoined
@@ -219,16 +222,16 @@ module _ (kept : StepsKept) (m : Memory) (b : Book) (q : ℕ) (p : Party) (f : F
           a .whole,
           out-is,
           many-alone m b q p f out a (p .chain) target-live,
-          ap (λ (c : ℕ). pagesFor (r .keys) (recordsAt f c)) (g .target-is),
+          ap (λ (c : ℕ). pagesFor (r .capacity) (recordsAt f c)) (g .target-is),
           many-alone m b q p f out a (p .other) partner-live,
-          ap (λ (c : ℕ). pagesFor (r .keys) (recordsAt f c)) (g .partner-is),
+          ap (λ (c : ℕ). pagesFor (r .capacity) (recordsAt f c)) (g .partner-is),
           use-joined r f before (a .holding .as-many ∙ last),
         ))) refl (at-28 .facts .0 .keeps-link) (still-linked (p .chain) target-live) partner-link (still-linked (p .other) partner-live))
 
 -- ---- 27
 
 module _ (kept : StepsKept) (m : Memory) (b : Book) (q : ℕ) (p : Party) (f : File) (out : ℕ) (a : Alone m b q p f out) (g : Merging (m .root) p f) (is-27 : p .step ≡ 27)
-    (out-is : out ≡ pagesFor (m .root .keys) (bothIn (m .root) f)) where
+    (out-is : out ≡ pagesFor (m .root .capacity) (bothIn (m .root) f)) where
   abbrev r₇ : Root
   r₇ = m .root
 
@@ -258,7 +261,7 @@ module _ (kept : StepsKept) (m : Memory) (b : Book) (q : ℕ) (p : Party) (f : F
       (guarded-open lent₇ (not (mergeStops r₇) && isHeld lent₇ rootExclusive) (moved (withParty (atStep 28 p) (withLocks ls (withRoot moved-back lent₇)))) (w .kept .allowed)) w in
       goes-on m (leftAt m q moved-back (atStep 28 p) ls (m .pages)) q y (w₁ .call)
       (from-28 kept (leftAt m q moved-back (atStep 28 p) ls (m .pages)) (bookOn b q p) q (atStep 28 p) f out
-      (alone-moves m b q p f out a moved-back (atStep 28 p) ls (m .pages) f out (record { originals= = refl; keys= = refl; chains= = refl; overflow= = refl; parties= = refl }) w₁
+      (alone-moves m b q p f out a moved-back (atStep 28 p) ls (m .pages) f out (record { originals= = refl; capacity= = refl; primaries= = refl; overflow= = refl; parties= = refl }) w₁
       (λ s. omega (arith, s, is-27)) (sym (retreat .advances) ∙ ap (advance (r₇ .originals)) (sym back-is)) (a .holding) (a .whole))
       (record { goes-on = g .goes-on; target-is = g .target-is; partner-is = g .partner-is }) refl out-is back-is)
 
@@ -266,7 +269,7 @@ module _ (kept : StepsKept) (m : Memory) (b : Book) (q : ℕ) (p : Party) (f : F
 
 -- What the yardstick does where a merge is not barred.
 abbrev pub mergeRest : Root → File → OperationAnswer → Finished
-mergeRest r f y = cond (shortOf r f (pagesFor (r .keys) (bothIn r f))) (finishes y Restructuring.MergeSkipped f) (finishes y Restructuring.Merged (joinedFile r f))
+mergeRest r f y = cond (shortOf r f (pagesFor (r .capacity) (bothIn r f))) (finishes y Restructuring.MergeSkipped f) (finishes y Restructuring.Merged (joinedFile r f))
 
 module _ (kept : StepsKept) (m : Memory) (b : Book) (q : ℕ) (p : Party) (f : File) (a : Alone m b q p f 0) (g : Merging (m .root) p f) (is-26 : p .step ≡ 26) where
   abbrev r₆ : Root
@@ -296,7 +299,7 @@ module _ (kept : StepsKept) (m : Memory) (b : Book) (q : ℕ) (p : Party) (f : F
   pair = record { target = target; partner = partner }
 
   abbrev need : ℕ
-  need = pagesFor (r₆ .keys) (bothIn r₆ f)
+  need = pagesFor (r₆ .capacity) (bothIn r₆ f)
 
   abbrev takes : Outcome
   takes = checked lent₆ (pagesTaken r₆ (m .pages) need) (λ t. combined lent₆ pair t)
@@ -399,7 +402,7 @@ module _ (kept : StepsKept) (q : ℕ) (f : File) where
       counts = ap (λ (c : ℕ). mergeBarred c (m .root .originals)) (counts-same (m .root) f says)
 
       -- The target is a chain of the file.
-      fits : mergeStops (m .root) ≡ false → targetOf (m .root) + 1 < m .root .chains + 1
+      fits : mergeStops (m .root) ≡ false → targetOf (m .root) + 1 < m .root .primaries + 1
       fits h =
           let n = m .root .originals in
           let level = m .root .level in

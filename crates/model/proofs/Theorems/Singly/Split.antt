@@ -17,20 +17,23 @@ use Rattle.model.specs.declared.Restructuring.the-variants as Restructur
 use Rattle.model.specs.Records.{atStep, withOld, withOwed, withNext, withLevel, withFreeList}
 use Rattle.model.specs.Answers.{answerOf, restructuringOf}
 use Rattle.model.specs.LockWords.{Claim}
-use Rattle.model.specs.Addresses.{chainCount, splitNext, splitLevel, splitBarred}
+use Rattle.model.specs.Addresses.{chainCount, splitNext, splitLevel, splitBarred, countOfChains}
 use Rattle.model.specs.Entries.{Entry, staying, going}
 use Rattle.model.specs.Pages.{pageOf, withPage, pageSound, primaryPage, scratchPage, linkToFirst}
 use Rattle.model.specs.Chains.{Chain, chainOf, listFrom}
 use Rattle.model.specs.Filling.{pagesFor}
-use Rattle.model.specs.FreeList.{tooFew, pagesTaken}
-use Rattle.model.specs.Outcome.{View, Outcome, withParty, withPages, scratchOf, moved, done, checked, request, heldAll, givenUp}
+use Rattle.model.specs.FreeList.{tooFew, pagesTaken, rootAfterTaking}
+use Rattle.model.specs.Outcome.{View, Outcome, withParty, withPages, moved, checked}
+use Rattle.model.specs.ScratchPages.{scratchOf, primaryWritten}
+use Rattle.model.specs.Endings.{done, finished, oldPagesFirst, endedWith}
+use Rattle.model.specs.LockRequests.{request, heldAll, givenUp, release, chainSelective, rootSelective}
 use Rattle.model.specs.Memory.{Memory}
 use Rattle.model.specs.Book.{Book, isIn}
 use Rattle.model.specs.Ready.{viewing}
 use Rattle.model.specs.Sequential.{File, Finished, finishes, recordsAt, pagesInUse, freeIn, shortOf, chainsIn, parted, splitFile}
-use Rattle.model.specs.Steps.Locate.{release}
-use Rattle.model.specs.Steps.Change.{chainSelective, rootAfterTaking, primaryWritten, finished, oldPagesFirst}
-use Rattle.model.specs.Steps.Split.{countOfChains, rootSelective, nextSelective, endedWith, splitting, Halves, halvesOf, halvesNeed, divided, divideWith, step15, step16, step17, step18, step19, step20, step21, step22}
+use Rattle.model.specs.Steps.SplitLocks.{nextSelective, splitting, step15, step16, step19, step22}
+use Rattle.model.specs.Steps.SplitBuild.{Halves, halvesOf, halvesNeed, divided, divideWith, step17}
+use Rattle.model.specs.Steps.SplitWrite.{step18, step20, step21}
 use Rattle.model.specs.Steps.Dispatch.{stepOf, stepTable}
 use Rattle.model.proofs.Laws.Lists.{Told, holds, fails, tell, cond-true, cond-false, eqb-diff, ltb-false}
 use Rattle.model.proofs.Invariant.Ghost.{Extent, extent, rootExtent, inChain, size, localLevel, advance}
@@ -44,7 +47,7 @@ use Rattle.model.proofs.Invariant.Facts.{At}
 use Rattle.model.proofs.Invariant.Frame.{SameLimits, claims-at, linked-sizes}
 use Rattle.model.proofs.Effects.GiveUps.{given-up-rest}
 use Rattle.model.proofs.Effects.BuiltChain.{chain-found}
-use Rattle.model.proofs.Steps.SplitRoot.{split-advances, level-raised}
+use Rattle.model.proofs.Steps.SplitWrite.Root.{split-advances, level-raised}
 use Rattle.model.proofs.Theorems.Calls.{StepsKept}
 use Rattle.model.proofs.Theorems.Singly.Files.{extentOf, parted-extent, holding-parted}
 use Rattle.model.proofs.Theorems.Singly.AtRest.{use-set, use-append}
@@ -57,7 +60,7 @@ use Rattle.model.proofs.Theorems.Singly.Leave.{leaves-first, ends-onwar
 pub short-alone : (m : Memory) (b : Book) (q : ℕ) (p : Party) (f : File) → Alone m b q p f 0 → (k : ℕ) → shortOf (m .root) f k ≡ tooFew (m .root) k
 unfolding shortOf freeIn tooFew
 short-alone m b q p f a k =
-    let counts : m .root .overflow - pagesInUse (m .root .keys) (f .chains) ≡ m .root .free = omega (arith, a .whole) in
+    let counts : m .root .overflow - pagesInUse (m .root .capacity) (f .chains) ≡ m .root .free = omega (arith, a .whole) in
     ap (λ (n : ℕ). ltb n k) counts
 
 -- ---- Locks given up at the end
@@ -100,7 +103,7 @@ module _ (kept : StepsKept) (q : ℕ) (g : File) (xs : List ℕ) where
   from-21 m b p a e left =
       let r = m .root in
       let t = withLevel (splitLevel (r .level) (r .next)) r in
-      let z : SameLimits r t = record { originals= = refl; keys= = refl; chains= = refl; overflow= = refl; parties= = refl } in
+      let z : SameLimits r t = record { originals= = refl; capacity= = refl; primaries= = refl; overflow= = refl; parties= = refl } in
       let w = performed kept m b q p g (length xs) a 20 step21 e refl in
       let live : liveFor r p ≡ extent (splitLevel (r .level) (r .next)) (r .next) = rw e (level-raised (r .level) (r .next)) in
       goes-on m _ q (finishes (answerOf (p .answer)) Restructuring.Split g) (w .call)
@@ -113,7 +116,7 @@ module _ (kept : StepsKept) (q : ℕ) (g : File) (xs : List ℕ) where
   from-20 m b p a e left =
       let r = m .root in
       let t = withNext (splitNext (r .originals) (r .level) (r .next)) r in
-      let z : SameLimits r t = record { originals= = refl; keys= = refl; chains= = refl; overflow= = refl; parties= = refl } in
+      let z : SameLimits r t = record { originals= = refl; capacity= = refl; primaries= = refl; overflow= = refl; parties= = refl } in
       let w = performed kept m b q p g (length xs) a 19 step20 e refl in
       let live : liveFor r p ≡ advance (r .originals) (rootExtent r) = rw e refl in
       goes-on m _ q (finishes (answerOf (p .answer)) Restructuring.Split g) (w .call)
@@ -149,14 +152,14 @@ partedFile r f = parted r f (stayIn r f) (goIn r f)
 
 -- The pages that the parted file takes.
 use-parted : (r : Root) (f : File) → f .next < length (f .chains)
-    → pagesInUse (r .keys) (partedFile r f .chains) + pagesFor (r .keys) (recordsAt f (f .next)) ≡ pagesInUse (r .keys) (f .chains) + (pagesFor (r .keys) (stayIn r f) + pagesFor (r .keys) (goIn r f))
+    → pagesInUse (r .capacity) (partedFile r f .chains) + pagesFor (r .capacity) (recordsAt f (f .next)) ≡ pagesInUse (r .capacity) (f .chains) + (pagesFor (r .capacity) (stayIn r f) + pagesFor (r .capacity) (goIn r f))
 unfolding parted recordsAt pagesInUse
 use-parted r f l =
-    let k = r .keys in
+    let k = r .capacity in
     omega (arith, use-append k (set (f .chains) (f .next) (stayIn r f)) (goIn r f ∷ []), use-set k (f .chains) (f .next) (stayIn r f) l)
 
 module _ (kept : StepsKept) (m : Memory) (b : Book) (q : ℕ) (p : Party) (f : File) (out : ℕ) (a : Alone m b q p f out) (is-18 : p .step ≡ 18)
-    (out-is : out ≡ pagesFor (m .root .keys) (stayIn (m .root) f) + pagesFor (m .root .keys) (goIn (m .root) f)) where
+    (out-is : out ≡ pagesFor (m .root .capacity) (stayIn (m .root) f) + pagesFor (m .root .capacity) (goIn (m .root) f)) where
   abbrev r : Root
   r = m .root
 
@@ -182,8 +185,8 @@ module _ (kept : StepsKept) (m : Memory) (b : Book) (q : ℕ) (p : Party) (f : F
   abbrev xs : List ℕ
   xs = a .inv .ghost .held (inChain (p .chain))
 
-  many : length xs ≡ pagesFor (r .keys) (recordsAt f (f .next))
-  many = many-alone m b q p f out a (p .chain) chain-live ∙ ap (λ (c : ℕ). pagesFor (r .keys) (recordsAt f c)) chain-is
+  many : length xs ≡ pagesFor (r .capacity) (recordsAt f (f .next))
+  many = many-alone m b q p f out a (p .chain) chain-live ∙ ap (λ (c : ℕ). pagesFor (r .capacity) (recordsAt f c)) chain-is
 
   abbrev pages-then : List ℕ
   pages-then = withPage (m .pages) (primaryPage (p .chain)) (pageOf (m .pages) (scratchPage r q))
@@ -211,7 +214,7 @@ module _ (kept : StepsKept) (m : Memory) (b : Book) (q : ℕ) (p : Party) (f : F
 -- What the yardstick does where a chain more may be made.
 abbrev pub splitGoes : Root → File → OperationAnswer → Finished
 splitGoes r f y =
-    cond (shortOf r f (pagesFor (r .keys) (stayIn r f) + pagesFor (r .keys) (goIn r f))) (finishes y Restructuring.SplitSkipped f) (finishes y Restructuring.Split (partedFile r f))
+    cond (shortOf r f (pagesFor (r .capacity) (stayIn r f) + pagesFor (r .capacity) (goIn r f))) (finishes y Restructuring.SplitSkipped f) (finishes y Restructuring.Split (partedFile r f))
 
 module _ (kept : StepsKept) (m : Memory) (b : Book) (q : ℕ) (p : Party) (f : File) (a : Alone m b q p f 0) (is-17 : p .step ≡ 17) where
   abbrev r₇ : Root
@@ -256,7 +259,7 @@ module _ (kept : StepsKept) (m : Memory) (b : Book) (q : ℕ) (p : Party) (f : F
   halves = record { stay = stayIn r₇ f; go = goIn r₇ f }
 
   abbrev need : ℕ
-  need = pagesFor (r₇ .keys) (stayIn r₇ f) + pagesFor (r₇ .keys) (goIn r₇ f)
+  need = pagesFor (r₇ .capacity) (stayIn r₇ f) + pagesFor (r₇ .capacity) (goIn r₇ f)
 
   abbrev takes : Outcome
   takes = checked lent₇ (pagesTaken r₇ (m .pages) need) (λ t. divided lent₇ whole halves t)
@@ -269,7 +272,7 @@ module _ (kept : StepsKept) (m : Memory) (b : Book) (q : ℕ) (p : Party) (f : F
   divides =
       let w = performed kept m b q p f 0 a 16 step17 is-17 refl in
       performs-as
-      (guarded-open lent₇ (not (splitBarred (countOfChains r₇) (r₇ .chains))) (checked lent₇ (chainOf r₇ (m .pages) (p .chain)) (λ c. divideWith lent₇ c (halvesOf lent₇ c))) (w .kept .allowed)
+      (guarded-open lent₇ (not (splitBarred (countOfChains r₇) (r₇ .primaries))) (checked lent₇ (chainOf r₇ (m .pages) (p .chain)) (λ c. divideWith lent₇ c (halvesOf lent₇ c))) (w .kept .allowed)
       ∙ ap (λ c. checked lent₇ c (λ d. divideWith lent₇ d (halvesOf lent₇ d))) (chain-found m b (a .inv) (p .chain) chain-live₇) ∙ ap (divideWith lent₇ whole) halves-are) w
 
   divided-ends : need ≤ r₇ .free → Performed m b q takes → Ends m q (finishes (answerOf (p .answer)) Restructuring.Split (partedFile r₇ f))
@@ -308,11 +311,11 @@ module _ (kept : StepsKept) (m : Memory) (b : Book) (q : ℕ) (p : Party) (f : F
 -- ---- 16 and 15
 
 -- The yardstick's split, where n = P and where it is not.
-split-barred : (r : Root) (f : File) (y : OperationAnswer) → splitBarred (chainsIn r f) (r .chains) ≡ true → splitFile r f y ≡ finishes y Restructuring.SplitSkipped f
+split-barred : (r : Root) (f : File) (y : OperationAnswer) → splitBarred (chainsIn r f) (r .primaries) ≡ true → splitFile r f y ≡ finishes y Restructuring.SplitSkipped f
 unfolding splitFile
 split-barred r f y e = rw e refl
 
-split-open : (r : Root) (f : File) (y : OperationAnswer) → splitBarred (chainsIn r f) (r .chains) ≡ false → splitFile r f y ≡ splitGoes r f y
+split-open : (r : Root) (f : File) (y : OperationAnswer) → splitBarred (chainsIn r f) (r .primaries) ≡ false → splitFile r f y ≡ splitGoes r f y
 unfolding splitFile
 split-open r f y e = rw e refl
 
@@ -329,7 +332,7 @@ chain-unclaimed r p c has at-root d o = rw (has, eqb-diff (c .word) (d + 1) (ome
 module _ (kept : StepsKept) (q : ℕ) (f : File) where
   from-16 : (m : Memory) (b : Book) (p : Party) → Alone m b q p f 0 → p .step ≡ 16 → Ends m q (splitFile (m .root) f (answerOf (p .answer)))
   unfolding stepOf stepTable step16 plain claims splitting
-  from-16 m b p a e = go (tell (splitBarred (countOfChains (m .root)) (m .root .chains)))
+  from-16 m b p a e = go (tell (splitBarred (countOfChains (m .root)) (m .root .primaries)))
     where
       lent : View
       lent = viewing (m .root) p q (m .locks) (m .pages)
@@ -343,18 +346,18 @@ module _ (kept : StepsKept) (q : ℕ) (f : File) where
       asks : Outcome
       asks = request lent (nextSelective (m .root)) (splitting (m .root) p)
 
-      counts : splitBarred (chainsIn (m .root) f) (m .root .chains) ≡ splitBarred (countOfChains (m .root)) (m .root .chains)
-      counts = ap (λ (n : ℕ). splitBarred n (m .root .chains)) (counts-same (m .root) f says)
+      counts : splitBarred (chainsIn (m .root) f) (m .root .primaries) ≡ splitBarred (countOfChains (m .root)) (m .root .primaries)
+      counts = ap (λ (n : ℕ). splitBarred n (m .root .primaries)) (counts-same (m .root) f says)
 
-      go : Told (splitBarred (countOfChains (m .root)) (m .root .chains)) → Ends m q (splitFile (m .root) f (answerOf (p .answer)))
+      go : Told (splitBarred (countOfChains (m .root)) (m .root .primaries)) → Ends m q (splitFile (m .root) f (answerOf (p .answer)))
       go (holds h) =
           subst (Ends m q) (sym (split-barred (m .root) f (answerOf (p .answer)) (counts ∙ h)))
           (ended m b q p f a 16 e refl (omega arith) (rootSelective ∷ []) Restructuring.SplitSkipped
-          (performs-as (cond-true (splitBarred (countOfChains (m .root)) (m .root .chains)) skips asks h) (performed kept m b q p f 0 a 15 step16 e refl)))
+          (performs-as (cond-true (splitBarred (countOfChains (m .root)) (m .root .primaries)) skips asks h) (performed kept m b q p f 0 a 15 step16 e refl)))
       go (fails h) =
           subst (Ends m q) (sym (split-open (m .root) f (answerOf (p .answer)) (counts ∙ h)))
           (requests-on kept m b q p f 0 a (splitGoes (m .root) f (answerOf (p .answer))) 15 17 step16 (nextSelective (m .root)) (splitting (m .root) p) e refl
-          (cond-false (splitBarred (countOfChains (m .root)) (m .root .chains)) skips asks h) refl refl refl (omega arith)
+          (cond-false (splitBarred (countOfChains (m .root)) (m .root .primaries)) skips asks h) refl refl refl (omega arith)
           (omega (arith, a .inv .extents-ok .root-fits, size-is (m .root .originals) (rootExtent (m .root)), a .inv .extents-ok .root-next))
           (chain-unclaimed (m .root) p rootSelective (rw e refl) refl (m .root .next))
           (λ ls c. from-17 kept (leftAt m q (m .root) (splitting (m .root) p) ls (m .pages)) (bookOn b q p) q (splitting (m .root) p) f c refl))

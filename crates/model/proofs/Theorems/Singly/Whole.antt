@@ -117,10 +117,10 @@ module _ (m : Memory) (b : Book) (i : Inv m b) (rest : AtRest m) where
   placed : PagesPlaced m many
   placed = pages-placed m b i
 
-  covered : (x : ℕ) → m .root .chains ≤ x → x < m .root .chains + m .root .overflow → count x all ≡ 1
+  covered : (x : ℕ) → m .root .primaries ≤ x → x < m .root .primaries + m .root .overflow → count x all ≡ 1
   covered x low high = all-places x ∙ placed .once x low high
 
-  bounds : (x : ℕ) → count x all ≢ 0 → (m .root .chains ≤ x) × (x < m .root .chains + m .root .overflow)
+  bounds : (x : ℕ) → count x all ≢ 0 → (m .root .primaries ≤ x) × (x < m .root .primaries + m .root .overflow)
   bounds x n = placed .inside x (λ e. n (all-places x ∙ e))
 
   once-in-all : (x : ℕ) → count x all ≤ 1
@@ -134,7 +134,7 @@ module _ (m : Memory) (b : Book) (i : Inv m b) (rest : AtRest m) where
   all-overflow = all-from (IsOverflow (m .root)) all (λ x e. let h = bounds x (omega (arith, among-count x all e)) in record { above = h .0; below = h .1 })
 
   -- The file counts the pages of its chains.
-  counted : (x c : ℕ) → c + x ≡ many → pagesInUse (m .root .keys) (listed (i .ghost .records) x c) ≡ length (chainedFrom m x c)
+  counted : (x c : ℕ) → c + x ≡ many → pagesInUse (m .root .capacity) (listed (i .ghost .records) x c) ≡ length (chainedFrom m x c)
   unfolding pagesInUse listed chainedFrom
   counted zero c s = refl
   counted (suc x) c s =
@@ -151,13 +151,13 @@ module _ (m : Memory) (b : Book) (i : Inv m b) (rest : AtRest m) where
   whole-at-rest = record {
     all-pages = omega (
       arith,
-      ap (λ (f : File). pagesInUse (m .root .keys) (f .chains)) (file-read m b i live-at-rest),
+      ap (λ (f : File). pagesInUse (m .root .capacity) (f .chains)) (file-read m b i live-at-rest),
       counted many 0 (omega arith),
       i .pages-ok .free-count,
       ap length (free-listed m b i),
       length-append (freeList m) (chainedFrom m many 0),
-      sum-many (m .root .chains) (m .root .overflow) all (λ x low high. omega (arith, covered x low high)),
-      sum-few (m .root .chains) (m .root .overflow) all,
+      sum-many (m .root .primaries) (m .root .overflow) all (λ x low high. omega (arith, covered x low high)),
+      sum-few (m .root .primaries) (m .root .overflow) all,
       length-overflow (m .root) all all-overflow once-in-all,
     );
   }

@@ -1,0 +1,63 @@
+-- Overflow pages filled one after the other: one turn, over the model's filled.
+-- Main statements: rest-run, whole-run (a page's share of the keys); first-link, no-link; page-filled (a turn), all-filled (the end).
+use mathlib.Core.Path.{_≡_, sym, ap, _∙_}
+use mathlib.Core.List.{List}
+use Prim.Native.Nat.{ℕ, _+_, _-_, _≤_, _<_}
+use native.Mathlib.Numerals.{add-one}
+use native.Mathlib.Omega.{arith}
+use lib.ListN.{length, getD, take, drop, length-drop, drop-of-length-le}
+use lib.Seq.{drop-cons, drop-drop, take-all}
+use Rattle.model.specs.Pages.{withPage, filledPage, linkToFirst}
+use Rattle.model.specs.Filling.{filled}
+use Rattle.filling.specs.Fills.{Run}
+
+-- ---- A page's share
+
+-- Fewer than b keys are left.
+pub rest-run : (b : ℕ) (keys : List ℕ) (at : ℕ) → at ≤ length keys → length keys - at < b → Run b keys at (length keys)
+rest-run b keys at h k =
+    let left = drop at keys in
+    let few : length left ≤ length keys - at = rw length-drop (omega arith) in
+    let fewer : length left ≤ b = omega arith in
+    let whole : length keys ≤ length keys = omega arith in
+    record {
+      starts = h;
+      ends = omega arith;
+      few = omega arith;
+      front = take-all (length keys - at) left few ∙ sym (take-all b left fewer);
+      rest = drop-of-length-le keys whole ∙ sym (drop-of-length-le left fewer);
+    }
+
+pub whole-run : (b : ℕ) (keys : List ℕ) (at : ℕ) → at ≤ length keys → b ≤ length keys - at → Run b keys at (at + b)
+whole-run b keys at h k =
+    let q : at + b - at ≡ b = omega arith in
+    record {
+      starts = omega arith;
+      ends = omega arith;
+      few = omega arith;
+      front = ap (λ (n : ℕ). take n (drop at keys)) q;
+      rest = sym (drop-drop b at keys);
+    }
+
+-- ---- Links
+
+pub first-link : (xs : List ℕ) (i : ℕ) → i < length xs → linkToFirst (drop i xs) ≡ getD xs i 0 + 1
+unfolding linkToFirst
+first-link xs i h = ap linkToFirst (drop-cons xs i 0 h)
+
+pub no-link : (xs : List ℕ) (i : ℕ) → length xs ≤ i → linkToFirst (drop i xs) ≡ 0
+unfolding linkToFirst
+no-link xs i h = ap linkToFirst (drop-of-length-le xs h)
+
+-- ---- Turns
+
+module _ (b : ℕ) (ps xs : List ℕ) (i : ℕ) where
+  -- Page i of the list is written.
+  pub page-filled : (es : List ℕ) → i < length xs
+      → filled b ps (drop i xs) es ≡ filled b (withPage ps (getD xs i 0) (filledPage 0 (take b es) (linkToFirst (drop (i + 1) xs)))) (drop (i + 1) xs) (drop b es)
+  unfolding filled
+  page-filled es h = rw add-one (ap (λ (ys : List ℕ). filled b ps ys es) (drop-cons xs i 0 h))
+
+  pub all-filled : (es : List ℕ) → length xs ≤ i → filled b ps (drop i xs) es ≡ ps
+  unfolding filled
+  all-filled es h = ap (λ (ys : List ℕ). filled b ps ys es) (drop-of-length-le xs h)

@@ -1,0 +1,237 @@
+-- Step 27 keeps the invariant: the root moves back by one merge, before the pages do, and its lock becomes selective.
+-- Main statement: step27-kept.
+use mathlib.Core.Path.{_≡_, refl, sym, ap, _∙_, subst}
+use mathlib.Core.Logic.{_≢_}
+use mathlib.Core.Bool.{true, false, cond, not, _&&_, _||_, and-true, and-false, and-not-self, or-false, false≢true}
+use mathlib.Core.List.{List, [], _∷_}
+use Prim.Native.Nat.{ℕ, _+_, _<_}
+use native.Mathlib.Omega.{arith}
+use lib.ListN.{length, getD, set}
+use lib.Dec.{eqb, leb}
+use Rattle.model.specs.declared.Root.{Root}
+use Rattle.model.specs.declared.Party.{Party}
+use Rattle.model.specs.declared.Mode.{Mode}
+use Rattle.model.specs.declared.Mode.the-variants.{Read, Selective, Exclusive}
+use Rattle.model.specs.Sizes.{lockWords, within}
+use Rattle.model.specs.Records.{atStep, withNext, withLevel}
+use Rattle.model.specs.Answers.{refusalNumber}
+use Rattle.model.specs.LockWords.{Claim, rootWord, turnedSelective}
+use Rattle.model.specs.Addresses.{mergePartner, mergeLevel}
+use Rattle.model.specs.LockRequests.{isHeld, chainExclusive, rootSelective, rootExclusive, otherExclusive}
+use Rattle.model.specs.Memory.{Memory, partyAt, viewOf}
+use Rattle.model.specs.Book.{Book, agreesWith, afterReply}
+use Rattle.model.specs.Holds.{sameMode}
+use Rattle.model.specs.Steps.MergeLocks.{mergeLocks}
+use Rattle.model.specs.Steps.MergeWrite.{rootMovedBack, step27}
+use Rattle.model.specs.Steps.Dispatch.{hasStep}
+use Rattle.model.proofs.Laws.Lists.{Cmp, same, diff, cmp, and-both, left-or, right-or, leb-true, eqb-same, eqb-diff}
+use Rattle.model.proofs.Laws.Retreat.{Retreat, merge-retreats}
+use Rattle.model.proofs.Invariant.Ghost.{owner, extent, rootExtent, size, Ghost}
+use Rattle.model.proofs.Laws.Structure.{same-on}
+use Rattle.model.proofs.Invariant.Claims.{claims, claimTable, noLock, isClaimed, claimed, LocksOk}
+use Rattle.model.proofs.Invariant.LockMoves.{exclusive-alone, locks-turned, locks-move, locks-root}
+use Rattle.model.proofs.Invariant.Statement.{restructures, liveFor, lowFor, ExtentsOk, PagesOk, Scene, Joined, MovedBack, Busy, Inv, sceneOf, working}
+use Rattle.model.proofs.Invariant.Frame.{SameLimits, Grows, Keeps, claims-at, named}
+use Rattle.model.proofs.Effects.Kept.{Kept, assemble, extents-by-one}
+use Rattle.model.proofs.Invariant.Facts.{At, facts-at, still-noted}
+use Rattle.model.proofs.Effects.OwnRecord.{protected-row, pages-row}
+use Rattle.model.proofs.Effects.Requests.{claim-more}
+use Rattle.model.proofs.Effects.Releases.{lock-held}
+use Rattle.model.proofs.Invariant.Restructurer.{allBelow, all-below, others-rest}
+use Rattle.model.proofs.Effects.Moves.{busy-on, at-its-step, uses-none, has-at}
+
+-- ---- A party at 3, 4 or 5 reads the root
+
+reads-at : (p : Party) (n : ℕ) → n < 6 → (not (eqb n 3 || within 4 5 n) || isClaimed (getD claimTable n noLock p) rootWord Read) ≡ true
+unfolding allBelow isClaimed sameMode
+reads-at p = all-below 6 (λ n. not (eqb n 3 || within 4 5 n) || isClaimed (getD claimTable n noLock p) rootWord Read) refl
+
+reads-root : (r : Root) (p : Party) → p .step < 6 → (eqb (p .step) 3 || within 4 5 (p .step)) ≡ true → isClaimed (claims r p) rootWord Read ≡ true
+unfolding claims
+reads-root r p l e = rw e at (reads-at p (p .step) l)
+
+-- ---- The root's lock, turned from exclusive to selective
+
+-- The locks of the chains are none of the root's.
+not-root : (p : Party) (o : Mode) → isClaimed (chainExclusive p ∷ (otherExclusive p ∷ [])) rootWord o ≡ false
+unfolding isClaimed
+not-root p o = rw (eqb-diff (p .chain + 1) 0 (omega arith), eqb-diff (p .other + 1) 0 (omega arith)) refl
+
+turns : (p : Party) (w : ℕ) (o : Mode)
+    → ((isClaimed (mergeLocks rootExclusive p) w o && not (eqb w rootWord && sameMode o Exclusive)) || (eqb w rootWord && sameMode o Selective)) ≡ isClaimed (mergeLocks rootSelective p) w o
+turns p w o = rw (claim-more rootExclusive rest w o, claim-more rootSelective rest w o) (go (cmp w rootWord))
+  where
+    rest : List Claim
+    rest = chainExclusive p ∷ (otherExclusive p ∷ [])
+
+    go : Cmp w rootWord
+        → (((isClaimed rest w o || (eqb w rootWord && sameMode o Exclusive)) && not (eqb w rootWord && sameMode o Exclusive)) || (eqb w rootWord && sameMode o Selective))
+        ≡ (isClaimed rest w o || (eqb w rootWord && sameMode o Selective))
+    go (same e) = rw (e, not-root p o, and-not-self (sameMode o Exclusive)) refl
+    go (diff n) = rw (eqb-diff w rootWord n, or-false (isClaimed rest w o), and-true (isClaimed rest w o)) (or-false (isClaimed rest w o))
+
+module _ (m : Memory) (b : Book) (i : Inv m b) (q : ℕ) (in-row : q < m .root .parties) (is-27 : partyAt (m .parties) q .step ≡ 27) where
+  abbrev me : Party
+  me = partyAt (m .parties) q
+
+  abbrev before : Scene
+  before = sceneOf m (i .ghost) b
+
+  row-long : q < length (m .parties)
+  row-long = omega (arith, i .parties-many)
+
+  at-27 : At 27 before q me
+  at-27 = facts-at 26 before q me is-27 (i .parties-ok q in-row)
+
+  restructuring : restructures me ≡ true
+  unfolding restructures
+  restructuring = rw is-27 refl
+
+  holds-root : isClaimed (claims (m .root) me) rootWord Exclusive ≡ true
+  holds-root = rw (claims-at (m .root) me 27 is-27) (named (chainExclusive me ∷ (otherExclusive me ∷ [])) rootWord Exclusive)
+
+  -- Nobody else reads the root.
+  no-reader : (j : ℕ) → j ≢ q → isClaimed (claims (m .root) (partyAt (m .parties) j)) rootWord Read ≡ true → ⊥
+  no-reader j n h = n (exclusive-alone (i .locks-ok .each rootWord (omega arith)) q j Read holds-root h .0)
+
+  -- ---- What is left
+
+  abbrev root-then : Root
+  root-then = withNext (me .chain) (withLevel (mergeLevel (m .root .level) (m .root .next)) (m .root))
+
+  abbrev locks-then : List ℕ
+  locks-then = set (m .locks) rootWord (turnedSelective (getD (m .locks) rootWord 0) q)
+
+  abbrev ghost-then : Ghost
+  ghost-then = record { own = i .ghost .own; held = i .ghost .held; records = i .ghost .records; live = i .ghost .live; low = rootExtent root-then }
+
+  abbrev row-then : List Party
+  row-then = set (m .parties) q (atStep 28 me)
+
+  abbrev then-scene : Scene
+  then-scene = record { root = root-then; parties = row-then; pages = m .pages; ghost = ghost-then; entries = b .entries }
+
+  sizes-then : SameLimits (m .root) root-then
+  sizes-then = record { originals= = refl; capacity= = refl; primaries= = refl; overflow= = refl; parties= = refl }
+
+  -- The root has moved one split back.
+  retreat : Retreat (m .root .originals) (rootExtent (m .root)) (rootExtent root-then)
+  retreat =
+      let r = m .root in
+      let chains = at-27 .facts .1 in
+      subst (λ (x : ℕ). Retreat (r .originals) (rootExtent r) (extent (mergeLevel (r .level) (r .next)) x)) (sym (chains .target))
+      (merge-retreats (r .originals) (r .level) (r .next) (i .limits .some-original) (i .extents-ok .root-next) (chains .goes-on))
+
+  extents-then : ExtentsOk root-then row-then ghost-then
+  unfolding restructures liveFor lowFor
+  extents-then =
+      let ok = i .extents-ok in
+      let was : i .ghost .live ≡ rootExtent (m .root) = ok .live-by q restructuring ∙ ap (liveFor (m .root)) (at-its-step me 27 is-27) in
+      extents-by-one root-then (m .parties) ghost-then q (atStep 28 me) row-long (others-rest m b i q restructuring) refl (was ∙ sym (retreat .advances)) refl (ok .live-next) (ok .live-fits)
+      (retreat .next-fits) (omega (arith, retreat .one-less, ok .root-fits))
+
+  locks-ok : LocksOk (lockWords root-then) locks-then (claimed root-then row-then)
+  locks-ok =
+      locks-root (m .root) root-then row-then
+      (locks-move (m .root) (m .parties) q (atStep 28 me) row-long
+      (locks-turned (i .locks-ok) rootWord (omega arith) q holds-root (omega (arith, i .limits .parties-fit))) (λ w k o. go w k o (cmp k q)))
+    where
+      go : (w k : ℕ) (o : Mode) → Cmp k q
+          → ((claimed (m .root) (m .parties) w k o && not (eqb w rootWord && eqb k q && sameMode o Exclusive)) || (eqb w rootWord && eqb k q && sameMode o Selective))
+          ≡ cond (eqb k q) (isClaimed (claims (m .root) (atStep 28 me)) w o) (claimed (m .root) (m .parties) w k o)
+      go w k o (same e) =
+          rw (e, eqb-same q q refl, and-true (eqb w rootWord), claims-at (m .root) me 27 is-27, claims-at (m .root) (atStep 28 me) 28 refl) (turns me w o)
+      go w k o (diff n) = rw (eqb-diff k q n, and-false (eqb w rootWord), or-false (claimed (m .root) (m .parties) w k o && true)) (and-true (claimed (m .root) (m .parties) w k o))
+
+  pages-then : PagesOk root-then row-then (m .pages) ghost-then
+  pages-then =
+      let ok = pages-row m b i q in-row (atStep 28 me) b (λ j n. refl) refl (λ x e. refl) (λ d e. uses-none me 27 is-27 refl d) in
+      record {
+        owned = ok .owned;
+        kinds = ok .kinds;
+        beyond = ok .beyond;
+        head-is = ok .head-is;
+        free-count = ok .free-count;
+        free-pages = ok .free-pages;
+        chain = ok .chain;
+        ascends = ok .ascends;
+        homed = ok .homed;
+        dead = ok .dead;
+      }
+
+  -- ---- Others
+
+  -- Nobody else restructures, and nobody is at 3, 4 or 5.
+  grows : (j : ℕ) → j ≢ q → Grows before then-scene (partyAt (m .parties) j)
+  grows j n =
+      let p = partyAt (m .parties) j in
+      record {
+        same-for-restructurer = λ h. absurd (false≢true (sym (others-rest m b i q restructuring j n) ∙ h));
+        level-rises = λ h. absurd (no-reader j n (reads-root (m .root) p (omega arith) (left-or (within 4 5 (p .step)) (eqb-same (p .step) 3 h))));
+        low-grows = λ h. let l = leb-true (p .step) 5 (and-both (leb 4 (p .step)) (leb (p .step) 5) h .1) in
+            absurd (no-reader j n (reads-root (m .root) p (omega arith) (right-or (eqb (p .step) 3) h)));
+        live-grows = λ c o h l. (l, omega arith);
+        firm = λ c o h d l. refl;
+      }
+
+  keeps : (j : ℕ) → j ≢ q → Keeps before then-scene j (partyAt (m .parties) j)
+  keeps j n = record {
+    sizes = sizes-then;
+    grows = grows j n;
+    entry= = refl;
+    ours = λ k _ _. (refl, same-on (m .pages) (m .pages) (i .ghost .held (owner k j)) (λ x. refl));
+    scratch= = refl;
+    chain= = λ c o h d l. (refl, refl);
+    reading = λ x e h. (protected-row before then-scene q (atStep 28 me) refl refl row-long (λ y o. refl) (partyAt (m .parties) j .chain) x h, refl);
+    spare = λ u. refl;
+  }
+
+  -- ---- 27
+
+  busy-then : Busy then-scene q (atStep 28 me) (at-27 .entered)
+  unfolding hasStep
+  busy-then =
+      let k = at-27 .busy in
+      busy-on before q me (at-27 .entered) k then-scene 28 refl refl (has-at before q me (at-27 .entered) k 27 is-27) (λ _. omega arith)
+
+  joined-then : Joined then-scene q (atStep 28 me) (at-27 .entered)
+  joined-then =
+      let h = at-27 .facts .0 in
+      record {
+        noted = h .noted;
+        made = h .made;
+        joins = record { scratch-is = h .joins .scratch-is; built = h .joins .built };
+        keeps-link = h .keeps-link;
+        no-new = h .no-new;
+        nothing-old = record { no-old = h .nothing-old .no-old; no-partner = h .nothing-old .no-partner };
+      }
+
+  moved-back : MovedBack then-scene (atStep 28 me)
+  unfolding size mergePartner
+  moved-back = record {
+    target = refl;
+    partner = omega (arith, at-27 .facts .1 .partner, retreat .one-less);
+    room = omega (arith, retreat .one-less, i .extents-ok .root-fits);
+  }
+
+  inv-then : Inv (record { root = root-then; parties = row-then; locks = locks-then; pages = m .pages }) b
+  inv-then = assemble m b i q in-row root-then locks-then (m .pages) (atStep 28 me) b ghost-then (record {
+    sizes = sizes-then;
+    pages-many = refl;
+    extents = extents-then;
+    locks = locks-ok;
+    pages = pages-then;
+    book = record { same = i .book-ok .same };
+    self = working (at-27 .entered) busy-then (joined-then, moved-back);
+    others = keeps;
+  })
+
+  pub step27-kept : Kept m b q (step27 (viewOf m q))
+  unfolding step27 isHeld rootMovedBack refusalNumber agreesWith afterReply
+  step27-kept =
+      rw (at-27 .facts .1 .goes-on, lock-held (m .root) (m .parties) (i .locks-ok) q rootExclusive (omega arith) holds-root)
+      (record {
+        allowed = refl;
+        right = refl;
+        inv = rw (still-noted b q (b .entries q) (me .step) (omega arith) (omega arith) (omega arith)) inv-then;
+      })

@@ -1,0 +1,513 @@
+-- Step 28 keeps the invariant: the joined chain is written over the target, and the file is one chain shorter.
+-- Main statement: step28-kept.
+use mathlib.Core.Path.{_≡_, refl, sym, ap, _∙_, subst, subst₃}
+use mathlib.Core.Logic.{_≢_, _⊎_, inl, inr}
+use mathlib.Core.Bool.{Bool, true, false, _||_, or-false, false≢true}
+use mathlib.Core.List.{List, [], _∷_}
+use Prim.Native.Nat.{ℕ, suc, _+_, _-_, _≤_, _<_}
+use native.Mathlib.Omega.{arith}
+use lib.ListN.{length, set}
+use lib.Dec.{eqb}
+use Rattle.model.specs.declared.Party.{Party}
+use Rattle.model.specs.declared.Mode.{Mode}
+use Rattle.model.specs.declared.Mode.the-variants.{Exclusive}
+use Rattle.model.specs.Sizes.{pageWords}
+use Rattle.model.specs.Records.{atStep}
+use Rattle.model.specs.Answers.{refusalNumber}
+use Rattle.model.specs.LockWords.{chainWord}
+use Rattle.model.specs.Addresses.{span, hash, addressOf}
+use Rattle.model.specs.Entries.{Entry, hasKey, ascending, joined}
+use Rattle.model.specs.Pages.{pageOf, withPage, levelOf, linkOf, scratchPage, primaryPage, linkToFirst, pageSound, zeroPage, withLocalLevel}
+use Rattle.model.specs.Filling.{primaryOf}
+use Rattle.model.specs.Memory.{Memory, partyAt, viewOf}
+use Rattle.model.specs.Book.{Book, Entered, changedAt, agreesWith, afterReply}
+use Rattle.model.specs.LockRequests.{modeOf, chainExclusive, rootSelective, otherExclusive}
+use Rattle.model.specs.Steps.MergeWrite.{step28}
+use Rattle.model.specs.Steps.Dispatch.{hasStep}
+use Rattle.model.proofs.Laws.Lists.{Cmp, same, diff, cmp, or-either, eqb-same, eqb-diff}
+use Rattle.model.proofs.Invariant.Ghost.{owner, nobody, free, inChain, oldOf, partnerOf, builtBy, newBy, Extent, rootExtent, size, advance, localLevel, Ghost}
+use Rattle.model.proofs.Invariant.Owners.{kinds-apart, indices-apart}
+use Rattle.model.proofs.Invariant.Handing.{ownAlso, heldAlso, Also, beside-chain, beside-party, beside-kind, also-to, also-from, also-chain, also-old, also-built, also-other, owned-also, own-also-other, kinds-also}
+use Rattle.model.proofs.Laws.Pages.{length-withLocalLevel, withLocalLevel-filledPage}
+use Rattle.model.proofs.Laws.Structure.{ChainIs}
+use Rattle.model.proofs.Laws.Filling.{chain-link, chain-sound}
+use Rattle.model.proofs.Laws.Reading.{held-overflow}
+use Rattle.model.proofs.Invariant.Extents.{size-is, local-most, local-rest, key-home, away-absent}
+use Rattle.model.proofs.Invariant.Advance.{advance-size, advance-other, advance-split, advance-made, hash-back, hash-back-made, split-hash, home-splits, home-other, home-split, home-made}
+use Rattle.model.proofs.Laws.Joins.{has-joined, ascends-joined}
+use Rattle.model.proofs.Invariant.Claims.{claims, isClaimed, claimed}
+use Rattle.model.proofs.Invariant.LockMoves.{locks-stay}
+use Rattle.model.proofs.Invariant.Statement.{restructures, liveFor, lowFor, ExtentsOk, uses, PagesOk, BookOk, Scene, Protected, in-chain, in-old, Building, Joined, MovedBack, Emptying, PartyOk, working, Inv, sceneOf}
+use Rattle.model.proofs.Invariant.Frame.{StaysLive, Grows, Keeps, restructures-at, claims-at, named, later}
+use Rattle.model.proofs.Effects.Kept.{Kept, row-same, row-other, row-chain, extents-by-one, assemble}
+use Rattle.model.proofs.Effects.OwnRecord.{same-limits}
+use Rattle.model.proofs.Effects.PrimaryPage.{held-exclusively, length-scratch, built-sound, built-level, primary-off, primary-same, primary-long, owned-apart, written-here, written-beside, chain-linked, free-beside}
+use Rattle.model.proofs.Invariant.Facts.{At, facts-at, still-noted, changed-here, changed-elsewhere}
+use Rattle.model.proofs.Invariant.Restructurer.{low-at, others-rest, using-restructures}
+use Rattle.model.proofs.Effects.Moves.{uses-none}
+
+module _ (m : Memory) (b : Book) (i : Inv m b) (q : ℕ) (in-row : q < m .root .parties) (is-28 : partyAt (m .parties) q .step ≡ 28) where
+  abbrev me : Party
+  me = partyAt (m .parties) q
+
+  abbrev before : Scene
+  before = sceneOf m (i .ghost) b
+
+  -- The target, and the partner, which leaves the file.
+  abbrev here : ℕ
+  here = partyAt (m .parties) q .chain
+
+  abbrev gone : ℕ
+  gone = partyAt (m .parties) q .other
+
+  abbrev scratch : List ℕ
+  scratch = pageOf (m .pages) (scratchPage (m .root) q)
+
+  abbrev originals : ℕ
+  originals = m .root .originals
+
+  row-long : q < length (m .parties)
+  row-long = omega (arith, i .parties-many)
+
+  at-28 : At 28 before q me
+  at-28 = facts-at 27 before q me is-28 (i .parties-ok q in-row)
+
+  abbrev entered : Entered
+  entered = at-28 .entered
+
+  facts : Joined before q me entered
+  facts = at-28 .facts .0
+
+  chains : MovedBack before me
+  chains = at-28 .facts .1
+
+  mine : restructures me ≡ true
+  mine = restructures-at me 28 is-28
+
+  -- ---- How far the file extends: by the root, one split less than before
+
+  abbrev live : Extent
+  live = i .ghost .live
+
+  abbrev back : Extent
+  back = rootExtent (m .root)
+
+  live-is : live ≡ advance originals back
+  unfolding liveFor
+  live-is = i .extents-ok .live-by q mine ∙ (rw is-28 refl)
+
+  low-is : i .ghost .low ≡ back
+  unfolding lowFor
+  low-is = i .extents-ok .low-by q mine ∙ (rw is-28 refl)
+
+  inside : back .next < span originals (back .level)
+  inside = i .extents-ok .root-next
+
+  here-is : here ≡ back .next
+  here-is = chains .target
+
+  gone-is : gone ≡ size originals back
+  unfolding size
+  gone-is = chains .partner
+
+  fits : here < m .root .primaries
+  fits = at-28 .busy .chain-fits
+
+  longer : size originals live ≡ suc (size originals back)
+  longer = ap (size originals) live-is ∙ advance-size originals back inside
+
+  back-here : here < size originals back
+  back-here = omega (arith, here-is, inside, size-is originals back)
+
+  live-here : here < size originals live
+  live-here = omega (arith, back-here, longer)
+
+  live-gone : gone < size originals live
+  live-gone = omega (arith, gone-is, longer)
+
+  apart : here ≢ gone
+  apart = omega (arith, back-here, gone-is)
+
+  not-gone : (d : ℕ) → d < size originals back → d ≢ gone
+  not-gone d l = omega (arith, gone-is)
+
+  still-live : (d : ℕ) → d < size originals back → d < size originals live
+  still-live d l = omega (arith, longer)
+
+  local-here : localLevel originals live here ≡ back .level + 1
+  local-here = ap (λ (e : Extent). localLevel originals e here) live-is ∙ ap (localLevel originals (advance originals back)) here-is ∙ advance-split originals back inside
+
+  local-gone : localLevel originals live gone ≡ back .level + 1
+  local-gone = ap (λ (e : Extent). localLevel originals e gone) live-is ∙ ap (localLevel originals (advance originals back)) gone-is ∙ advance-made originals back inside
+
+  local-back : localLevel originals back here ≡ back .level
+  local-back = local-rest originals back here (omega (arith, here-is)) (omega (arith, here-is, inside))
+
+  local-other : (d : ℕ) → d ≢ here → d < size originals back → localLevel originals back d ≡ localLevel originals live d
+  local-other d n l = sym (ap (λ (e : Extent). localLevel originals e d) live-is ∙ advance-other originals back inside d (λ e. n (e ∙ sym here-is)) l)
+
+  -- ---- The page written
+
+  abbrev both : List Entry
+  both = joined (i .ghost .records here) (i .ghost .records gone)
+
+  abbrev lowered : List ℕ
+  lowered = withLocalLevel (levelOf scratch - 1) scratch
+
+  abbrev pages-then : List ℕ
+  pages-then = withPage (m .pages) (primaryPage here) lowered
+
+  built : Building before q (back .level + 1) both
+  built = subst (λ (l : ℕ). Building before q l both) local-here (facts .joins)
+
+  scratch-sound : pageSound (m .root) scratch ≡ true
+  scratch-sound = built-sound m b i q (back .level + 1) both built (omega (arith, local-here, local-most i here))
+
+  scratch-level : levelOf scratch ≡ back .level + 1
+  scratch-level = built-level m b i q (back .level + 1) both built
+
+  not-lowest : eqb (levelOf scratch) 0 ≡ false
+  not-lowest = eqb-diff (levelOf scratch) 0 (omega (arith, scratch-level))
+
+  whole : length lowered ≡ pageWords
+  whole = length-withLocalLevel (levelOf scratch - 1) scratch (length-scratch m b i q in-row)
+
+  lowered-is : lowered ≡ primaryOf (m .root .capacity) (back .level) both (i .ghost .held (builtBy q))
+  unfolding primaryOf
+  lowered-is =
+      let down : levelOf scratch - 1 ≡ back .level = omega (arith, scratch-level) in
+      ap (λ (l : ℕ). withLocalLevel l scratch) down ∙ ap (withLocalLevel (back .level)) (built .scratch-is) ∙ withLocalLevel-filledPage (back .level) (back .level + 1) _ _
+
+  off : (x : ℕ) → x ≢ here → pageOf pages-then x ≡ pageOf (m .pages) x
+  off = primary-off m b i here fits lowered whole
+
+  chain-here : ChainIs (m .root .capacity) pages-then here (back .level) both (i .ghost .held (builtBy q))
+  chain-here = written-here m b i here fits lowered whole (back .level) both (builtBy q) lowered-is (built .built)
+
+  -- ---- Ghost and record afterwards
+
+  abbrev then-party : Party
+  then-party = atStep 29 (partyAt (m .parties) q)
+
+  abbrev row-then : List Party
+  row-then = set (m .parties) q (atStep 29 (partyAt (m .parties) q))
+
+  -- The partner's records are no part of the file any more, and stay.
+  abbrev ghost-then : Ghost
+  ghost-then = record {
+    own = ownAlso (i .ghost .own) (i .ghost .held) here q (inChain gone) (partnerOf q);
+    held = heldAlso (i .ghost .held) here q (inChain gone) (partnerOf q);
+    records = changedAt (i .ghost .records) here both;
+    live = rootExtent (m .root);
+    low = rootExtent (m .root);
+  }
+
+  abbrev then-scene : Scene
+  then-scene = record { root = m .root; parties = row-then; pages = pages-then; ghost = ghost-then; entries = b .entries }
+
+  -- The target is written anew, and the pages of the partner become the party's to give back.
+  hands : Also (i .ghost .held) here q (inChain gone) (partnerOf q)
+  hands = record {
+    from = beside-chain here q gone (λ e. apart (sym e));
+    to = beside-kind here q (partnerOf q) refl refl refl;
+    two = kinds-apart (inChain gone) (partnerOf q) refl;
+    from-some = kinds-apart (inChain gone) nobody refl;
+    to-some = kinds-apart (partnerOf q) nobody refl;
+    to-kind = omega arith;
+    no-old = facts .nothing-old .no-old;
+    to-none = facts .nothing-old .no-partner;
+  }
+
+  other-chain : (d : ℕ) → d ≢ gone → d ≢ here → ghost-then .held (inChain d) ≡ i .ghost .held (inChain d)
+  other-chain d x y = also-other hands (inChain d) (beside-chain here q d y) (indices-apart (inChain d) (inChain gone) x) (kinds-apart (inChain d) (partnerOf q) refl)
+
+  other-party : (k j : ℕ) → 3 ≤ k → j ≢ q → ghost-then .held (owner k j) ≡ i .ghost .held (owner k j)
+  other-party k j l n =
+      also-other hands (owner k j) (beside-party here q k j l n) (kinds-apart (owner k j) (inChain gone) (eqb-diff k 2 (omega arith))) (indices-apart (owner k j) (partnerOf q) n)
+
+  free-then : ghost-then .held free ≡ i .ghost .held free
+  free-then = also-other hands free (beside-kind here q free refl refl refl) (kinds-apart free (inChain gone) refl) (kinds-apart free (partnerOf q) refl)
+
+  records-here : ghost-then .records here ≡ both
+  records-here = changed-here (i .ghost .records) here both here refl
+
+  records-other : (d : ℕ) → d ≢ here → ghost-then .records d ≡ i .ghost .records d
+  records-other d n = changed-elsewhere (i .ghost .records) here both d n
+
+  -- ---- What others rely on
+
+  claims-28 : claims (m .root) me ≡ rootSelective ∷ (chainExclusive me ∷ (otherExclusive me ∷ []))
+  claims-28 = claims-at (m .root) me 28 is-28
+
+  holds-here : claimed (m .root) (m .parties) (chainWord here) q Exclusive ≡ true
+  holds-here =
+      rw claims-28 (later rootSelective (chainExclusive me ∷ (otherExclusive me ∷ [])) (chainWord here) Exclusive (named (otherExclusive me ∷ []) (chainWord here) Exclusive))
+
+  holds-gone : claimed (m .root) (m .parties) (chainWord gone) q Exclusive ≡ true
+  holds-gone =
+      rw claims-28
+      (later rootSelective (chainExclusive me ∷ (otherExclusive me ∷ [])) (chainWord gone) Exclusive
+      (later (chainExclusive me) (otherExclusive me ∷ []) (chainWord gone) Exclusive (named [] (chainWord gone) Exclusive)))
+
+  -- Nobody else holds either chain.
+  not-here : (j : ℕ) → j ≢ q → (d : ℕ) (o : Mode) → isClaimed (claims (m .root) (partyAt (m .parties) j)) (chainWord d) o ≡ true → d ≢ here
+  not-here = held-exclusively m b i q here fits holds-here
+
+  not-partner : (j : ℕ) → j ≢ q → (d : ℕ) (o : Mode) → isClaimed (claims (m .root) (partyAt (m .parties) j)) (chainWord d) o ≡ true → d ≢ gone
+  not-partner = held-exclusively m b i q gone (at-28 .busy .other-fits) holds-gone
+
+  others-rest-here : (j : ℕ) → j ≢ q → restructures (partyAt (m .parties) j) ≡ false
+  others-rest-here = others-rest m b i q mine
+
+  -- Every other chain stays in the file, at its local level.
+  stays-live : (d : ℕ) → d ≢ here → d ≢ gone → StaysLive originals live back d
+  stays-live d x y l =
+      let inside-back : d < size originals back = omega (arith, longer, gone-is) in
+      (inside-back, omega (arith, local-other d x inside-back))
+
+  grows : (j : ℕ) → j ≢ q → Grows before then-scene (partyAt (m .parties) j)
+  grows j n = record {
+    same-for-restructurer = λ h. absurd (false≢true (sym (others-rest-here j n) ∙ h));
+    level-rises = λ _. omega arith;
+    low-grows = λ _ d. rw low-is (λ l. (l, omega arith));
+    live-grows = λ d o h. stays-live d (not-here j n d o h) (not-partner j n d o h);
+    firm = λ d o h r l.
+        let x = not-here j n d o h in
+        local-other d x (stays-live d x (not-partner j n d o h) (l (others-rest-here j n)) .0);
+  }
+
+  -- A page that a reader of another chain may walk stays, and stays protected.
+  read-page : (d x : ℕ) → d ≢ here → d ≢ gone → Protected before d x → Protected then-scene d x × (pageOf pages-then x ≡ pageOf (m .pages) x)
+  read-page d x n k (in-chain y) = (
+    in-chain
+        (own-also-other hands (i .pages-ok .owned) x (inChain d) (indices-apart (inChain d) (inChain here) n) (kinds-apart (inChain d) (builtBy q) refl)
+        (indices-apart (inChain d) (inChain gone) k) y),
+    off x (owned-apart m b i here fits lowered whole x (inChain d) y refl),
+  )
+  read-page d x n k (in-old j y z) = (
+    in-old j
+        (own-also-other hands (i .pages-ok .owned) x (oldOf j) (kinds-apart (oldOf j) (inChain here) refl) (kinds-apart (oldOf j) (builtBy q) refl)
+        (kinds-apart (oldOf j) (inChain gone) refl) y) (row-chain (m .parties) q then-party row-long refl j ∙ z),
+    off x (owned-apart m b i here fits lowered whole x (oldOf j) y refl),
+  )
+
+  -- A find at 9 holds its chain.
+  finds : (j : ℕ) → partyAt (m .parties) j .step ≡ 9 → isClaimed (claims (m .root) (partyAt (m .parties) j)) (chainWord (partyAt (m .parties) j .chain)) (modeOf (partyAt (m .parties) j)) ≡ true
+  finds j e = rw (claims-at (m .root) (partyAt (m .parties) j) 9 e) (named [] (chainWord (partyAt (m .parties) j .chain)) (modeOf (partyAt (m .parties) j)))
+
+  keeps-others : (j : ℕ) → j ≢ q → Keeps before then-scene j (partyAt (m .parties) j)
+  keeps-others j n =
+      let p = partyAt (m .parties) j in
+      record {
+        sizes = same-limits (m .root);
+        grows = grows j n;
+        entry= = refl;
+        ours = λ k a d. (other-party k j a n, primary-same m b i here fits lowered whole (owner k j));
+        scratch= = off (scratchPage (m .root) j) (omega (arith, fits));
+        chain= = λ d o h r l. (records-other d (not-here j n d o h), other-chain d (not-partner j n d o h) (not-here j n d o h));
+        reading = λ x e h. read-page (p .chain) x (not-here j n (p .chain) (modeOf p) (finds j e)) (not-partner j n (p .chain) (modeOf p) (finds j e)) h;
+        spare = λ u. absurd (false≢true (sym (others-rest-here j n) ∙ using-restructures p (p .other) u));
+      }
+
+  -- ---- The pages
+
+  each-chain : (d : ℕ) → d < size originals back → Cmp d here → ChainIs (m .root .capacity) pages-then d (localLevel originals back d) (ghost-then .records d) (ghost-then .held (inChain d))
+  each-chain d l (same e) =
+      subst (λ (k : ℕ). ChainIs (m .root .capacity) pages-then k (localLevel originals back k) (ghost-then .records k) (ghost-then .held (inChain k))) (sym e)
+      (subst₃ (λ (j : ℕ) (es : List Entry) (xs : List ℕ). ChainIs (m .root .capacity) pages-then here j es xs) (sym local-back) (sym records-here) (sym (also-chain hands)) chain-here)
+  each-chain d l (diff n) =
+      subst₃ (λ (j : ℕ) (es : List Entry) (xs : List ℕ). ChainIs (m .root .capacity) pages-then d j es xs) (sym (local-other d n l)) (sym (records-other d n))
+      (sym (other-chain d (not-gone d l) n))
+      (written-beside m b i here fits lowered whole d _ (i .ghost .records d) (inChain d) n (i .pages-ok .chain d (still-live d l)))
+
+  -- The two chains have no key in common: a key has one home.
+  ascends-both : ascending both ≡ true
+  ascends-both =
+      ascends-joined (i .ghost .records here) (i .ghost .records gone) (i .pages-ok .ascends here live-here) (i .pages-ok .ascends gone live-gone)
+      (λ k h. away-absent i gone live-gone k (λ e. apart (sym (key-home i here live-here k h) ∙ e)))
+
+  each-ascends : (d : ℕ) → d < size originals back → Cmp d here → ascending (ghost-then .records d) ≡ true
+  each-ascends d l (same e) = ap (λ (k : ℕ). ascending (ghost-then .records k)) e ∙ ap ascending records-here ∙ ascends-both
+  each-ascends d l (diff n) = ap ascending (records-other d n) ∙ i .pages-ok .ascends d (still-live d l)
+
+  -- A key of either chain is led to the target by one bit less.
+  homed-both : (k : ℕ) → hasKey k both ≡ true → hash originals (back .level) k ≡ here
+  homed-both k h = go (or-either (hasKey k (i .ghost .records here)) (hasKey k (i .ghost .records gone)) (sym (has-joined k (i .ghost .records here) (i .ghost .records gone)) ∙ h)) ∙ sym here-is
+    where
+      go : (hasKey k (i .ghost .records here) ≡ true) ⊎ (hasKey k (i .ghost .records gone) ≡ true) → hash originals (back .level) k ≡ back .next
+      go (inl x) =
+          hash-back originals back inside (i .limits .some-original) k
+          (ap (λ (j : ℕ). hash originals j k) (sym local-here) ∙ i .pages-ok .homed here live-here k x ∙ here-is)
+      go (inr x) =
+          hash-back-made originals back inside (i .limits .some-original) k
+          (ap (λ (j : ℕ). hash originals j k) (sym local-gone) ∙ i .pages-ok .homed gone live-gone k x ∙ gone-is)
+
+  each-homed : (d : ℕ) → d < size originals back → Cmp d here → (k : ℕ) → hasKey k (ghost-then .records d) ≡ true → hash originals (localLevel originals back d) k ≡ d
+  each-homed d l (same e) k h =
+      ap (λ (c : ℕ). hash originals (localLevel originals back c) k) e ∙ ap (λ (j : ℕ). hash originals j k) local-back
+      ∙ homed-both k (sym (ap (hasKey k) (ap (ghost-then .records) e ∙ records-here)) ∙ h) ∙ sym e
+  each-homed d l (diff n) k h =
+      ap (λ (j : ℕ). hash originals j k) (local-other d n l) ∙ i .pages-ok .homed d (still-live d l) k (sym (ap (hasKey k) (records-other d n)) ∙ h)
+
+  -- Outside the shorter file the partner alone has pages in use, all of them the party's now.
+  each-beyond : (d : ℕ) → size originals back ≤ d → Cmp d gone → ghost-then .held (inChain d) ≡ []
+  each-beyond d far (same e) = ap (λ (k : ℕ). ghost-then .held (inChain k)) e ∙ also-from hands
+  each-beyond d far (diff n) = other-chain d n (omega (arith, back-here)) ∙ i .pages-ok .beyond d (omega (arith, longer, gone-is))
+
+  uses-gone : uses then-party gone ≡ true
+  unfolding uses
+  uses-gone = eqb-same gone gone refl
+
+  unused-before : (d : ℕ) → ((j : ℕ) → uses (partyAt row-then j) d ≡ false) → (j : ℕ) → Cmp j q → uses (partyAt (m .parties) j) d ≡ false
+  unused-before d u j (same e) = rw e (uses-none me 28 is-28 refl d)
+  unused-before d u j (diff n) = rw (row-other (m .parties) q j then-party n) at (u j)
+
+  each-dead : (d : ℕ) → size originals back ≤ d → d < m .root .primaries → ((j : ℕ) → uses (partyAt row-then j) d ≡ false) → pageOf pages-then (primaryPage d) ≡ zeroPage
+  each-dead d far r u = off d (omega (arith, back-here)) ∙ i .pages-ok .dead d (omega (arith, longer, gone-is, unlike)) r (λ j. unused-before d u j (cmp j q))
+    where
+      unlike : d ≢ gone
+      unlike e =
+          let free-of-it : uses then-party gone ≡ false = subst (λ (k : ℕ). uses then-party k ≡ false) e (rw (row-same (m .parties) q then-party row-long) at (u q)) in
+          false≢true (sym free-of-it ∙ uses-gone)
+
+  pages-ok-then : PagesOk (m .root) row-then pages-then ghost-then
+  pages-ok-then =
+      let ok = i .pages-ok in
+      record {
+        owned = owned-also hands (ok .owned);
+        kinds = λ x. kinds-also hands (ok .owned) x (ok .kinds x);
+        beyond = λ d l. each-beyond d l (cmp d gone);
+        head-is = ok .head-is ∙ ap linkToFirst (sym free-then);
+        free-count = ok .free-count ∙ ap length (sym free-then);
+        free-pages = rw free-then (free-beside m b i here fits lowered whole);
+        chain = λ d l. each-chain d l (cmp d here);
+        ascends = λ d l. each-ascends d l (cmp d here);
+        homed = λ d l. each-homed d l (cmp d here);
+        dead = each-dead;
+      }
+
+  -- ---- The book
+
+  home : ℕ → ℕ
+  home k = addressOf originals (live .level) (live .next) k
+
+  home-then : ℕ → ℕ
+  home-then k = addressOf originals (back .level) (back .next) k
+
+  -- Each key is on its home afterwards where it was before.
+  same-keys : (k : ℕ) → Cmp (home-then k) here → hasKey k (ghost-then .records (home-then k)) ≡ hasKey k (i .ghost .records (home k))
+  unfolding home home-then
+  same-keys k place = go place
+    where
+      -- Homes before, by the root's extent and one split more.
+      was : (c : ℕ) → addressOf originals (advance originals back .level) (advance originals back .next) k ≡ c → home k ≡ c
+      was c e = ap (λ (x : Extent). addressOf originals (x .level) (x .next) k) live-is ∙ e
+
+      -- The key was at home on the target, or on the partner, and not on the other of the two.
+      either : (c : ℕ) → home k ≡ c → (hasKey k (i .ghost .records here) || hasKey k (i .ghost .records gone)) ≡ hasKey k (i .ghost .records c)
+          → hasKey k (ghost-then .records here) ≡ hasKey k (i .ghost .records (home k))
+      either c e f =
+          ap (hasKey k) records-here ∙ has-joined k (i .ghost .records here) (i .ghost .records gone) ∙ f
+          ∙ ap (λ (d : ℕ). hasKey k (i .ghost .records d)) (sym e)
+
+      at-here : home k ≡ here → hasKey k (ghost-then .records here) ≡ hasKey k (i .ghost .records (home k))
+      at-here e =
+          either here e
+          (ap (λ (x : Bool). hasKey k (i .ghost .records here) || x) (away-absent i gone live-gone k (λ f. apart (sym e ∙ f)))
+          ∙ or-false (hasKey k (i .ghost .records here)))
+
+      at-gone : home k ≡ gone → hasKey k (ghost-then .records here) ≡ hasKey k (i .ghost .records (home k))
+      at-gone e =
+          either gone e
+          (ap (λ (x : Bool). x || hasKey k (i .ghost .records gone)) (away-absent i here live-here k (λ f. apart (sym f ∙ e))))
+
+      from : hash originals (back .level) k ≡ back .next → Cmp (hash originals (back .level + 1) k) (back .next)
+          → hasKey k (ghost-then .records here) ≡ hasKey k (i .ghost .records (home k))
+      from led (same s) = at-here (was here (home-split originals back inside (i .limits .some-original) k s ∙ sym here-is))
+      from led (diff d) =
+          at-gone (was gone (home-made originals back inside (i .limits .some-original) k (split-hash originals back inside (i .limits .some-original) k led d) ∙ sym gone-is))
+
+      go : Cmp (home-then k) here → hasKey k (ghost-then .records (home-then k)) ≡ hasKey k (i .ghost .records (home k))
+      go (diff n) =
+          ap (hasKey k) (records-other (home-then k) n)
+          ∙ ap (λ (c : ℕ). hasKey k (i .ghost .records c)) (sym (was (home-then k) (home-other originals back inside (i .limits .some-original) k (λ e. n (e ∙ sym here-is)))))
+      go (same e) =
+          ap (λ (c : ℕ). hasKey k (ghost-then .records c)) e
+          ∙ from (home-splits originals back inside (i .limits .some-original) k (e ∙ here-is)) (cmp (hash originals (back .level + 1) k) (back .next))
+
+  book-ok-then : BookOk (m .root) ghost-then b
+  unfolding home home-then
+  book-ok-then = record { same = λ k. i .book-ok .same k ∙ sym (same-keys k (cmp (home-then k) here)) }
+
+  -- ---- The party at 29
+
+  emptying-then : Emptying then-scene q then-party entered
+  emptying-then =
+      let partner = i .pages-ok .chain gone live-gone in
+      let unwritten : pageOf pages-then (primaryPage gone) ≡ pageOf (m .pages) (primaryPage gone) = off gone (λ e. apart (sym e)) in
+      record {
+        noted = facts .noted;
+        made = facts .made;
+        trash = record {
+          link = facts .keeps-link ∙ ap linkToFirst (sym (also-old hands));
+          linked = rw (also-old hands) (chain-linked m b i here fits lowered whole here live-here);
+        };
+        partner-sound = ap (pageSound (m .root)) unwritten
+            ∙ chain-sound (m .root) (m .pages) gone _ (i .ghost .records gone) (i .ghost .held (inChain gone)) partner (held-overflow (m .root) (i .pages-ok .owned) (inChain gone)) (local-most i gone);
+        partner-link = ap linkOf unwritten
+            ∙ chain-link (m .root .capacity) (m .pages) gone _ (i .ghost .records gone) (i .ghost .held (inChain gone)) partner ∙ ap linkToFirst (sym (also-to hands));
+        partner-linked = rw (also-to hands) (chain-linked m b i here fits lowered whole gone live-gone);
+        nothing-built = record {
+          no-built = also-built hands;
+          no-new = also-other hands (newBy q) (beside-kind here q (newBy q) refl refl refl) (kinds-apart (newBy q) (inChain gone) refl) (kinds-apart (newBy q) (partnerOf q) refl) ∙ facts .no-new;
+        };
+      }
+
+  self-then : PartyOk then-scene q then-party
+  unfolding hasStep
+  self-then =
+      let k = at-28 .busy in
+      working entered
+      (record {
+        entry = k .entry;
+        same-operation = k .same-operation;
+        same-key = k .same-key;
+        step-fits = subst (λ (n : ℕ). hasStep (me .operation) n ≡ true) is-28 (k .step-fits);
+        lev-fits = k .lev-fits;
+        owed-fits = k .owed-fits;
+        answer-fits = k .answer-fits;
+        answer-set = λ _. k .answer-set (omega arith);
+        chain-fits = k .chain-fits;
+        other-fits = k .other-fits;
+      })
+      (emptying-then, record { target = chains .target; partner = chains .partner; room = chains .room })
+
+  extents-then : ExtentsOk (m .root) row-then ghost-then
+  unfolding liveFor
+  extents-then =
+      let ok = i .extents-ok in
+      extents-by-one (m .root) (m .parties) ghost-then q then-party row-long others-rest-here (restructures-at then-party 29 refl) refl
+      (sym (low-at (m .root) then-party 29 refl refl)) (ok .root-next) (ok .root-fits) (ok .root-next) (ok .root-fits)
+
+  written-inv : Inv (record { root = m .root; parties = row-then; locks = m .locks; pages = pages-then }) b
+  unfolding claims
+  written-inv = assemble m b i q in-row (m .root) (m .locks) pages-then then-party b ghost-then (record {
+    sizes = same-limits (m .root);
+    pages-many = primary-long m b i here fits lowered whole;
+    extents = extents-then;
+    locks = locks-stay (m .root) (m .parties) q then-party row-long (sym claims-28) (i .locks-ok);
+    pages = pages-ok-then;
+    book = book-ok-then;
+    self = self-then;
+    others = keeps-others;
+  })
+
+  pub step28-kept : Kept m b q (step28 (viewOf m q))
+  unfolding step28 refusalNumber agreesWith afterReply
+  step28-kept =
+      rw (scratch-sound, not-lowest)
+      (record {
+        allowed = refl;
+        right = refl;
+        inv = rw (still-noted b q (b .entries q) (me .step) (omega arith) (omega arith) (omega arith)) written-inv;
+      })

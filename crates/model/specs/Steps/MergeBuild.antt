@@ -1,0 +1,53 @@
+-- Two chains joined: step 26 (document 01, "The thirty steps"), inside a delete.
+-- Main definitions: Pair and pairOf (the two chains), mergeGoes; step26.
+use mathlib.Core.Bool.{Bool, cond, not}
+use mathlib.Core.List.{List}
+use Prim.Native.Nat.{ℕ}
+use Rattle.model.specs.declared.Restructuring.{Restructuring}
+use Rattle.model.specs.declared.Restructuring.the-variants as Restructuring
+use Rattle.model.specs.declared.Root.{Root}
+use Rattle.model.specs.Records.{atStep, withOld}
+use Rattle.model.specs.Entries.{Entry, joined, sharesKey}
+use Rattle.model.specs.Chains.{Checked, andThen, Chain, chainOf, soundIf}
+use Rattle.model.specs.Filling.{pagesFor}
+use Rattle.model.specs.Outcome.{View, withParty, Outcome, moved, guarded, checked}
+use Rattle.model.specs.FreeList.{tooFew, Taken, pagesTaken}
+use Rattle.model.specs.LockRequests.{rootExclusive}
+use Rattle.model.specs.ScratchPages.{builtBeside}
+use Rattle.model.specs.Endings.{endedWith}
+use Rattle.model.specs.Steps.MergeLocks.{mergeStops, mergeLocks}
+
+-- The two chains of a merge.
+pub record Pair : Type 0 where
+  pub target : Chain
+  pub partner : Chain
+
+-- Both chains looked through whole; "a key in both halves of a merge" is damage.
+unfoldable pub pairOf : Root → List ℕ → ℕ → ℕ → Checked Pair
+pairOf r ps c o =
+    andThen (chainOf r ps c) (λ t. andThen (chainOf r ps o) (λ u. soundIf (not (sharesKey (t .entries) (u .entries))) (record { target = t; partner = u })))
+
+-- The records of the joined chain, and whether the merge goes ahead: pages enough for them.
+unfoldable pub joinedEntries : Pair → List Entry
+joinedEntries m = joined (m .target .entries) (m .partner .entries)
+
+unfoldable pub mergeGoes : Root → List Entry → Bool
+mergeGoes r es = not (tooFew r (pagesFor (r .capacity) es))
+
+-- "join both key lists in new pages, primary page in scratch at the target's local level, and set the old link to the target's".
+unfoldable pub combined : View → Pair → Taken → Outcome
+combined v m t =
+    moved (withParty (atStep 27 (withOld (m .target .link) (v .party))) (builtBeside v (m .target .level) (joinedEntries m) t))
+
+-- "too few free: take none, give up all, done, merge skipped".
+unfoldable pub combineWith : View → Pair → Outcome
+combineWith v m =
+    let es = joinedEntries m in
+    let build = checked v (pagesTaken (v .root) (v .pages) (pagesFor (v .root .capacity) es)) (λ t. combined v m t) in
+    cond (mergeGoes (v .root) es) build (endedWith v (mergeLocks rootExclusive (v .party)) Restructuring.MergeSkipped)
+
+-- 26: join both key lists. "n = N at 26" is damage.
+unfoldable pub step26 : View → Outcome
+step26 v =
+    let join = checked v (pairOf (v .root) (v .pages) (v .party .chain) (v .party .other)) (λ m. combineWith v m) in
+    guarded v (not (mergeStops (v .root))) join

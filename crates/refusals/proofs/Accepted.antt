@@ -1,0 +1,83 @@
+-- The causes against the model's rows, and what holds of a call that meets none.
+-- Main statements: format-cause-is, begin-cause-is, step-cause-is (for every memory, with its lengths); past-row-refused (past the row's end no record is looked at);
+-- place-of-begin, place-of-step, row-length, number-below (the party's record stands in the row); ready (what a step's code may take for granted).
+use mathlib.Core.Path.{_≡_, refl, sym, _∙_}
+use mathlib.Core.Logic.{_≢_}
+use mathlib.Core.Bool.{false}
+use mathlib.Core.List.{List, [], _∷_}
+use Prim.Native.Nat.{ℕ, _≤_, _<_}
+use native.Mathlib.Omega.{arith}
+use lib.ListN.{length, replicate, length-replicate, getD-replicate}
+use borrow.Author.Tests.{leb-false, eqb-true, not-false}
+use Rattle.model.specs.declared.Root.{Root}
+use Rattle.model.specs.declared.Party.{Party}
+use Rattle.model.specs.Records.{idle}
+use Rattle.model.specs.Memory.{Memory, partyAt}
+use Rattle.model.specs.Refusals.{firstCause, lengthsFit, busyRow, idleRow, damageRow, formatRows, beginRows, stepRows}
+use Rattle.model.specs.Ready.{Ready, viewing}
+use Rattle.model.proofs.Laws.Lists.{All}
+use Rattle.model.proofs.Laws.Booleans.{and-left, and-right}
+use Rattle.model.proofs.Theorems.Gate as Gate
+use Rattle.refusals.specs.Causes.{lengthsAre, placeRows, formatCause, placeCause, beginCause, stepCause}
+use Rattle.refusals.proofs.Causes.{none-earlier}
+
+-- ---- The model's rows
+
+module _ (m : Memory) where
+  pub format-cause-is : (r : Root) → formatCause r (length (m .parties)) (length (m .locks)) (length (m .pages)) ≡ firstCause (formatRows r m)
+  unfolding formatCause formatRows lengthsAre lengthsFit
+  format-cause-is r = refl
+
+  module _ (q : ℕ) where
+    pub begin-cause-is :
+        beginCause (m .root) (partyAt (m .parties) q) (length (m .parties)) (length (m .locks)) (length (m .pages)) q ≡ firstCause (beginRows m q)
+    unfolding beginCause beginRows lengthsAre lengthsFit
+    begin-cause-is = refl
+
+    pub step-cause-is :
+        stepCause (m .root) (partyAt (m .parties) q) (length (m .parties)) (length (m .locks)) (length (m .pages)) q ≡ firstCause (stepRows m q)
+    unfolding stepCause stepRows lengthsAre lengthsFit
+    step-cause-is = refl
+
+-- ---- The party's place in the row
+
+module _ (r : Root) (parties locks pages q : ℕ) (passed : placeCause r parties locks pages q ≡ 0) where
+  unmet : All (λ x. x .met ≡ false) (placeRows r parties locks pages q)
+  unfolding placeCause
+  unmet = Gate.none-met (placeRows r parties locks pages q) (omega arith) passed
+
+  -- The row has the length that the root record says.
+  pub row-length : parties ≡ r .parties
+  unfolding lengthsAre
+  row-length =
+      let are = not-false (lengthsAre r parties locks pages) (unmet .1 .0) in
+      eqb-true parties (r .parties) (search (and-left, and-right))
+
+  -- The party's record stands in it.
+  pub number-below : q < parties
+  number-below = let h = leb-false (r .parties) q (unmet .1 .1 .0) in omega (arith, row-length)
+
+-- Past the row's end the cause is decided before a record is looked at.
+pub past-row-refused : (r : Root) (parties locks pages q : ℕ) → parties ≤ q → placeCause r parties locks pages q ≢ 0
+past-row-refused r parties locks pages q h e = let k = number-below r parties locks pages q e in omega arith
+
+-- ---- A call that meets no cause
+
+module _ (r : Root) (p : Party) (parties locks pages q : ℕ) where
+  pub place-of-begin : beginCause r p parties locks pages q ≡ 0 → placeCause r parties locks pages q ≡ 0
+  unfolding beginCause placeCause
+  place-of-begin none = none-earlier (placeRows r parties locks pages q) (busyRow p ∷ []) none
+
+  pub place-of-step : stepCause r p parties locks pages q ≡ 0 → placeCause r parties locks pages q ≡ 0
+  unfolding stepCause placeCause
+  place-of-step none = none-earlier (placeRows r parties locks pages q) (idleRow p ∷ (damageRow r p ∷ [])) none
+
+-- The view is ready, whatever the row's other records are.
+pub ready : (r : Root) (p : Party) (parties q : ℕ) (ls ps : List ℕ) → stepCause r p parties (length ls) (length ps) q ≡ 0 → Ready (viewing r p q ls ps)
+ready r p parties q ls ps none =
+    let m : Memory = record { root = r; parties = replicate parties p; locks = ls; pages = ps } in
+    let below = number-below r parties (length ls) (length ps) q (place-of-step r p parties (length ls) (length ps) q none) in
+    let here : partyAt (m .parties) q ≡ p = getD-replicate parties q p idle below in
+    let long : length (m .parties) ≡ parties = length-replicate parties p in
+    let accepted : firstCause (stepRows m q) ≡ 0 = sym (step-cause-is m q) ∙ rw (here, long) none in
+    rw here at (Gate.ready m q accepted)

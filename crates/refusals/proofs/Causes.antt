@@ -1,0 +1,122 @@
+-- The first cause, row by row: an earlier cause stands whatever rows follow, and where there is none the rows that follow decide.
+-- Main statements: earlier-stands, none-earlier, later-decides (of any rows); size-refused, length-refused, file-passed; file-stands, party-refused, place-passed;
+-- place-stands-at-begin, busy-refused, begin-passed; place-stands-at-step, idle-refused, damage-refused, step-passed.
+use mathlib.Core.Path.{_≡_, refl, _∙_}
+use mathlib.Core.Logic.{_≢_}
+use mathlib.Core.Bool.{Bool, true, false}
+use mathlib.Core.List.{List, [], _∷_, _++_}
+use Prim.Native.Nat.{ℕ, _≤_, _<_}
+use native.Mathlib.Omega.{arith}
+use borrow.Author.Tests.{le-leb, lt-leb, eq-eqb, ne-eqb}
+use Rattle.model.specs.declared.Root.{Root}
+use Rattle.model.specs.declared.Party.{Party}
+use Rattle.model.specs.Sizes.{withinLimits}
+use Rattle.model.specs.Refusals.{Row, firstCause, recordSound, partyRow, busyRow, idleRow, damageRow}
+use Rattle.model.proofs.Laws.Lists.{All, Cmp, cmp, same, diff}
+use Rattle.model.proofs.Theorems.Gate.{none-met}
+use Rattle.refusals.specs.Causes.{lengthsAre, fileRows, placeRows, formatCause, placeCause, beginCause, stepCause}
+
+-- ---- Any rows
+
+-- A cause that is met stands, whatever rows follow.
+pub earlier-stands : (xs ys : List Row) → firstCause xs ≢ 0 → firstCause xs ≡ firstCause (xs ++ ys)
+unfolding firstCause
+earlier-stands [] ys h = absurd (h refl)
+earlier-stands (x ∷ xs) ys h = go (x .met) refl (λ k. earlier-stands xs ys k)
+  where
+    go : (t : Bool) → x .met ≡ t → (firstCause xs ≢ 0 → firstCause xs ≡ firstCause (xs ++ ys)) → firstCause (x ∷ xs) ≡ firstCause (x ∷ (xs ++ ys))
+    go true k ih = rw k
+    go false k ih = rw k (ih (rw k at h))
+
+-- Where there is none at all, there is none among the first rows.
+pub none-earlier : (xs ys : List Row) → firstCause (xs ++ ys) ≡ 0 → firstCause xs ≡ 0
+none-earlier xs ys none = go (cmp (firstCause xs) 0)
+  where
+    go : Cmp (firstCause xs) 0 → firstCause xs ≡ 0
+    go (same e) = e
+    go (diff n) = earlier-stands xs ys n ∙ none
+
+-- Where no row is met, the rows that follow decide.
+pub later-decides : (xs ys : List Row) → All (λ x. x .met ≡ false) xs → firstCause ys ≡ firstCause (xs ++ ys)
+unfolding firstCause
+later-decides [] ys a = refl
+later-decides (x ∷ xs) ys a = rw (a .0) (later-decides xs ys (a .1))
+
+-- ---- The rows that every call has
+
+module _ (r : Root) (parties locks pages : ℕ) where
+  pub size-refused : withinLimits r ≡ false → 2 ≡ formatCause r parties locks pages
+  unfolding formatCause firstCause
+  size-refused s = rw s
+
+  pub length-refused : withinLimits r ≡ true → lengthsAre r parties locks pages ≡ false → 1 ≡ formatCause r parties locks pages
+  unfolding formatCause firstCause
+  length-refused s l = rw (s, l)
+
+  pub file-passed : withinLimits r ≡ true → lengthsAre r parties locks pages ≡ true → 0 ≡ formatCause r parties locks pages
+  unfolding formatCause firstCause
+  file-passed s l = rw (s, l)
+
+-- ---- The rows that begin and step share
+
+module _ (r : Root) (parties locks pages q : ℕ) where
+  pub file-stands : formatCause r parties locks pages ≢ 0 → formatCause r parties locks pages ≡ placeCause r parties locks pages q
+  unfolding formatCause placeCause
+  file-stands h = earlier-stands (fileRows r parties locks pages) (partyRow r q ∷ []) h
+
+  module _ (passed : formatCause r parties locks pages ≡ 0) where
+    past-file : firstCause (partyRow r q ∷ []) ≡ placeCause r parties locks pages q
+    unfolding formatCause placeCause
+    past-file = later-decides (fileRows r parties locks pages) (partyRow r q ∷ []) (none-met (fileRows r parties locks pages) (omega arith) passed)
+
+    pub party-refused : r .parties ≤ q → 3 ≡ placeCause r parties locks pages q
+    unfolding firstCause
+    party-refused h = rw (le-leb (r .parties) q h) at past-file
+
+    pub place-passed : q < r .parties → 0 ≡ placeCause r parties locks pages q
+    unfolding firstCause
+    place-passed h = rw (lt-leb (r .parties) q h) at past-file
+
+-- ---- Begin and step, by the party's record
+
+module _ (r : Root) (p : Party) (parties locks pages q : ℕ) where
+  pub place-stands-at-begin : placeCause r parties locks pages q ≢ 0 → placeCause r parties locks pages q ≡ beginCause r p parties locks pages q
+  unfolding placeCause beginCause
+  place-stands-at-begin h = earlier-stands (placeRows r parties locks pages q) (busyRow p ∷ []) h
+
+  pub place-stands-at-step : placeCause r parties locks pages q ≢ 0 → placeCause r parties locks pages q ≡ stepCause r p parties locks pages q
+  unfolding placeCause stepCause
+  place-stands-at-step h = earlier-stands (placeRows r parties locks pages q) (idleRow p ∷ (damageRow r p ∷ [])) h
+
+  module _ (passed : placeCause r parties locks pages q ≡ 0) where
+    unmet : All (λ x. x .met ≡ false) (placeRows r parties locks pages q)
+    unfolding placeCause
+    unmet = none-met (placeRows r parties locks pages q) (omega arith) passed
+
+    past-place-at-begin : firstCause (busyRow p ∷ []) ≡ beginCause r p parties locks pages q
+    unfolding beginCause
+    past-place-at-begin = later-decides (placeRows r parties locks pages q) (busyRow p ∷ []) unmet
+
+    pub busy-refused : p .operation ≢ 0 → 4 ≡ beginCause r p parties locks pages q
+    unfolding firstCause
+    busy-refused h = rw (ne-eqb (p .operation) 0 h) at past-place-at-begin
+
+    pub begin-passed : p .operation ≡ 0 → 0 ≡ beginCause r p parties locks pages q
+    unfolding firstCause
+    begin-passed h = rw (eq-eqb (p .operation) 0 h) at past-place-at-begin
+
+    past-place-at-step : firstCause (idleRow p ∷ (damageRow r p ∷ [])) ≡ stepCause r p parties locks pages q
+    unfolding stepCause
+    past-place-at-step = later-decides (placeRows r parties locks pages q) (idleRow p ∷ (damageRow r p ∷ [])) unmet
+
+    pub idle-refused : p .operation ≡ 0 → 5 ≡ stepCause r p parties locks pages q
+    unfolding firstCause
+    idle-refused h = rw (eq-eqb (p .operation) 0 h) at past-place-at-step
+
+    pub damage-refused : p .operation ≢ 0 → recordSound r p ≡ false → 6 ≡ stepCause r p parties locks pages q
+    unfolding firstCause
+    damage-refused h s = rw (ne-eqb (p .operation) 0 h, s) at past-place-at-step
+
+    pub step-passed : p .operation ≢ 0 → recordSound r p ≡ true → 0 ≡ stepCause r p parties locks pages q
+    unfolding firstCause
+    step-passed h s = rw (ne-eqb (p .operation) 0 h, s) at past-place-at-step
