@@ -19,4 +19,5 @@ pub mod BookFed
 pub mod Meanings
 pub mod Consistency
 pub mod Places
+pub mod Reads
 pub mod Singly

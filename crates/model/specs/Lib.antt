@@ -28,4 +28,5 @@ pub mod Holds
 pub mod Sequential
 pub mod Consistency
 pub mod PagePlaces
+pub mod Reads
 pub mod Demands

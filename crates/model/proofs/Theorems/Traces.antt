@@ -372,7 +372,7 @@ given-leaves v ready xs a = record {
   spares = spares-given v ready (v .pages) (spares-all v) (v .root .head) xs a;
 }
 
-names-sound : (r : Root) (l : ℕ) → namesOverflow r l ≡ true → linkSound r l ≡ true
+pub names-sound : (r : Root) (l : ℕ) → namesOverflow r l ≡ true → linkSound r l ≡ true
 unfolding linkSound
 names-sound r l h = right-or (eqb l 0) h
 
@@ -399,10 +399,10 @@ traced-16 v ready e =
     cond-ind (Traced 16 v) (splitBarred (countOfChains (v .root)) (v .root .primaries)) _ _ (λ _. ended-traced 16 v ready _ _)
     (λ _. request-traced 16 v _ _ (passes 16 v _ _ refl refl))
 
-all-taken : (r : Root) (k : ℕ) (xs : List ℕ) → All (IsOverflow r) xs → All (IsOverflow r) (take k xs)
+pub all-taken : (r : Root) (k : ℕ) (xs : List ℕ) → All (IsOverflow r) xs → All (IsOverflow r) (take k xs)
 all-taken r k xs a = all-from (IsOverflow r) (take k xs) (λ x h. all-in (IsOverflow r) x xs a (among-take x k xs h))
 
-all-left : (r : Root) (k : ℕ) (xs : List ℕ) → All (IsOverflow r) xs → All (IsOverflow r) (drop k xs)
+pub all-left : (r : Root) (k : ℕ) (xs : List ℕ) → All (IsOverflow r) xs → All (IsOverflow r) (drop k xs)
 all-left r k xs a = all-from (IsOverflow r) (drop k xs) (λ x h. all-in (IsOverflow r) x xs a (among-drop x k xs h))
 
 halves-spares : (v : View) → Ready v → (h : Halves) (xs : List ℕ) → All (IsOverflow (v .root)) xs → Spares v (halvesWritten v h xs)
@@ -534,7 +534,7 @@ traced-28 v ready e =
     (keeps 28 v _ _ refl refl (open-at (v .party) 28 e) (λ t s o. refl)))
 
 -- The pages to give back at 29.
-merged-overflow : (r : Root) (ps : List ℕ) (p : Party) → IfSound (All (IsOverflow r)) (mergedAway r ps p)
+pub merged-overflow : (r : Root) (ps : List ℕ) (p : Party) → IfSound (All (IsOverflow r)) (mergedAway r ps p)
 unfolding mergedAway
 merged-overflow r ps p =
     let w = pageOf ps (primaryPage (p .other)) in
