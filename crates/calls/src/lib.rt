@@ -1,5 +1,5 @@
 // The three calls over values (document 01, "What it covers" and "Refused calls"): the root and one party's record by value, the lock words and the page words lent.
-// Every refusal is decided here, in the table's order. There is nothing that a caller must see to: the contracts hold for all words and all lengths.
+// The refusal table's tests are made here, in its order; damage that only one step can meet is refused by that step. There is nothing that a caller must see to: the contracts hold for all words and all lengths.
 // Main statements: format, begin and step leave what the model's formatCall, beginCall and stepCall leave, whatever the other parties' records are.
 
 ghost use mathlib.Core.Path.{_≡_};
@@ -12,6 +12,7 @@ ghost use Rattle.model.specs.Calls.{called, formatCall, beginCall, stepCall};
 ghost use Rattle.records.specs.Words.{recordWords, rootIn, partyIn};
 ghost use Rattle.calls.specs.Lent.{lent, leftByFormat, leftByBegin, leftByStep};
 use model::BeginAnswer;
+use model::FileSizes;
 use model::FormatAnswer;
 use model::NO_CAUSE;
 use model::Operation;
@@ -32,28 +33,24 @@ pub struct Begun {
     pub answer: BeginAnswer,
 }
 
-// Format with the sizes N b P V Q, over a row of `parties` records.
+// Format with these sizes, over a row of `parties` records.
 pub fn format(
     root: Root,
-    n: u32,
-    b: u32,
-    p: u32,
-    v: u32,
-    q: u32,
+    sizes: FileSizes,
     parties: usize,
     locks: &mut [u32],
     pages: &mut [u32],
 ) -> Formatted
-    ensures { λ r. ⌜ ((row : List Party) → length row ≡ parties → leftByFormat r row (now (locks .exit)) (now (pages .exit)) ≡ formatCall (lent root row (now (locks .entry)) (now (pages .entry))) n b p v q) ⌝ }
+    ensures { λ r. ⌜ ((row : List Party) → length row ≡ parties → leftByFormat r row (now (locks .exit)) (now (pages .exit)) ≡ formatCall (lent root row (now (locks .entry)) (now (pages .entry))) (sizes .originals) (sizes .capacity) (sizes .primaries) (sizes .overflow) (sizes .parties)) ⌝ }
 {
-    let cause = refusals::format_cause(n, b, p, v, q, parties, locks.len(), pages.len());
+    let cause = refusals::format_cause(sizes, parties, locks.len(), pages.len());
     if cause != NO_CAUSE {
         return Formatted {
             root,
             answer: FormatAnswer::Refused(cause),
         };
     }
-    let made = memory::format_words(n, b, p, v, q, locks, pages);
+    let made = memory::format_words(sizes, locks, pages);
     Formatted {
         root: made,
         answer: FormatAnswer::Formatted,

@@ -2,7 +2,7 @@
 -- Main statements: key-copied (one turn), keys-copied (the end).
 use mathlib.Core.Path.{_≡_, sym, ap, _∙_}
 use mathlib.Core.List.{List, [], _∷_, _++_, append-assoc}
-use Prim.Native.Nat.{ℕ, _+_, _≤_, _<_}
+use Prim.Native.Nat.{ℕ, _+_, _*_, _≤_, _<_}
 use native.Mathlib.Numerals.{add-one}
 use native.Mathlib.Omega.{arith}
 use lib.ListN.{length, getD, set, take, drop, length-drop}
@@ -10,13 +10,14 @@ use lib.Seq.{length-take-le, getD-drop, take-append-add, take-suc, take-suc-set,
 use Rattle.model.specs.Pages.{countOf, entriesOf}
 
 module _ (keys₀ keys w : List ℕ) (at i : ℕ) (copied : take (at + i) keys ≡ take at keys₀ ++ take i (drop 3 w)) where
-  -- Word 3 + i goes to at + i.
-  pub key-copied : at + i < length keys → 3 + i < length w → take (at + (i + 1)) (set keys (at + i) (getD w (3 + i) 0)) ≡ take at keys₀ ++ take (i + 1) (drop 3 w)
+  -- The key of record i goes to at + i.
+  pub key-copied : at + i < length keys → 3 + i * 1 < length w → take (at + (i + 1)) (set keys (at + i) (getD w (3 + i * 1) 0)) ≡ take at keys₀ ++ take (i + 1) (drop 3 w)
   key-copied h k =
-      let x = getD w (3 + i) 0 in
+      let x = getD w (3 + i * 1) 0 in
+      let word : 3 + i * 1 ≡ 3 + i = omega arith in
       let q : at + (i + 1) ≡ at + i + 1 = omega arith in
       let left : i < length (drop 3 w) = rw length-drop (omega arith) in
-      let next : take i (drop 3 w) ++ (x ∷ []) ≡ take (i + 1) (drop 3 w) = rw (add-one, ← getD-drop 3 w i 0) (sym (take-suc (drop 3 w) i 0 left)) in
+      let next : take i (drop 3 w) ++ (x ∷ []) ≡ take (i + 1) (drop 3 w) = rw (word, add-one, ← getD-drop 3 w i 0) (sym (take-suc (drop 3 w) i 0 left)) in
       ap (λ (n : ℕ). take n (set keys (at + i) x)) q
       ∙ rw add-one (take-suc-set keys (at + i) x h)
       ∙ ap (λ (l : List ℕ). l ++ (x ∷ [])) copied

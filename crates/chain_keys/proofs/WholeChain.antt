@@ -1,60 +1,60 @@
 -- A chain whose pages were walked and whose records were gathered, over the model's chainOf.
--- Main statements: sound-ascends (the records of a chain looked through whole ascend); pages-bounded, unwalked-damaged; walked-chain (what chainOf is once the pages were walked); keys-fall-refused, keys-ascend-whole (what it is once the records were gathered); front-is, front-long (a chain gathered, as the front of its buffer is lent).
+-- Main statements: chain-reads (what was read of a chain looked through whole), sound-ascends (its records ascend); pages-bounded, unwalked-damaged; walked-chain (what chainOf is once the pages
+-- were walked), pages-walked (how many they are); keys-fall-damaged, keys-ascend-gathered, keys-ascend-in-front (what gather answers and leaves); Whole, gathered-damaged, gathered-whole
+-- (what its caller learns); front-is, front-long (a chain gathered, as the front of its buffer is lent).
 use mathlib.Core.Path.{_≡_, refl, sym, ap, _∙_}
 use mathlib.Core.Bool.{Bool, true, false, cond}
-use mathlib.Core.List.{List, [], _∷_, _++_}
-use Prim.Native.Nat.{ℕ, zero, suc, _-_, _≤_}
+use mathlib.Core.List.{List, _∷_, _++_}
+use Prim.Native.Nat.{ℕ, _-_, _≤_}
 use native.Mathlib.Omega.{arith}
-use lib.ListN.{length, take}
+use lib.ListN.{length, take, length-take}
 use lib.Dec.{eqb}
 use lib.Seq.{length-take-le}
 use Rattle.model.specs.declared.Root.{Root}
 use Rattle.model.specs.Sizes.{mostRecords}
 use Rattle.model.specs.Entries.{ascending}
-use Rattle.model.specs.Pages.{pageOf, levelOf, countOf, linkOf, entriesOf, pageSound}
-use Rattle.model.specs.Chains.{Checked, damaged, sound, soundIf, andThen, Chain, overflowFrom, listFrom, entriesOn, readChain, ascendingChain, chainOf}
+use Rattle.model.specs.Pages.{pageOf, levelOf, countOf, linkOf, entriesOf, pageSound, primaryPage}
+use Rattle.model.specs.Chains.{Checked, damaged, sound, soundIf, andThen, Chain, listFrom, entriesOn, readChain, ascendingChain, chainOf}
 use Rattle.model.proofs.Laws.Lists.{front-part}
+use Rattle.model.proofs.Laws.Walks.{walked-chained}
 use Rattle.chains.specs.Walks.{counted}
 use Rattle.chains.specs.declared.Walked.the-variants as Walked
-use Rattle.chains.proofs.Tests.{sound-page-links}
+use Rattle.model.proofs.Laws.Tests.{sound-page-links, sound-page-counts}
+use Rattle.chain_keys.specs.declared.Front.{Front}
 use Rattle.chain_keys.specs.declared.Gathered.{Gathered}
-use Rattle.chain_keys.specs.Gathering.{overflowOf, CanGather, Followed, entriesFrom, Whole}
-use Rattle.chain_keys.proofs.Following.{sound-count, walked-walks}
+use Rattle.chain_keys.specs.declared.Gathered.the-variants as Gathered
+use Rattle.chain_keys.specs.Gathering.{overflowOf, CanGather, Followed, entriesFrom, frontOf, gathered, inFront, entriesIn}
+use Rattle.chain_keys.proofs.Following.{walked-walks}
 
-ascending-is : (ch d : Chain) → ascendingChain ch ≡ sound d → ascending (d .entries) ≡ true
-unfolding ascendingChain
-ascending-is ch d e = go (ascending (ch .entries)) refl e
+-- ---- What was read of a chain
+
+-- Chain c was looked through whole, its overflow pages are xs, and d is what was read.
+pub record Reads (r : Root) (ps : List ℕ) (c : ℕ) (d : Chain) : Type 0 where
+  pub xs : List ℕ
+  pub page-sound : pageSound r (pageOf ps (primaryPage c)) ≡ true
+  pub listed : listFrom r ps (linkOf (pageOf ps (primaryPage c))) ≡ sound xs
+  pub chain-is : readChain ps c xs ≡ d
+  pub ascends : ascending (d .entries) ≡ true
+
+pub chain-reads : (r : Root) (ps : List ℕ) (c : ℕ) (d : Chain) → chainOf r ps c ≡ sound d → Reads r ps c d
+unfolding chainOf ascendingChain
+chain-reads r ps c d e = go (pageSound r (pageOf ps c)) (listFrom r ps (linkOf (pageOf ps c))) refl refl e
   where
-    go : (b : Bool) → b ≡ ascending (ch .entries) → soundIf b ch ≡ sound d → ascending (d .entries) ≡ true
-    go true eb e = let q : ch ≡ d = cc in rw (← q) (sym eb)
-    go false eb e = absurd (let z : _≡_ {A = ℕ} 0 1 = cc in omega arith)
+    whole : (xs : List ℕ) → pageSound r (pageOf ps c) ≡ true → listFrom r ps (linkOf (pageOf ps c)) ≡ sound xs
+        → (b : Bool) → b ≡ ascending (readChain ps c xs .entries) → soundIf b (readChain ps c xs) ≡ sound d → Reads r ps c d
+    whole xs g f true eb e = let q : readChain ps c xs ≡ d = cc in record { xs = xs; page-sound = g; listed = f; chain-is = q; ascends = rw (← q) (sym eb) }
+    whole xs g f false eb e = absurd (let z : _≡_ {A = ℕ} 0 1 = cc in omega arith)
+
+    go : (b : Bool) (x : Checked (List ℕ)) → b ≡ pageSound r (pageOf ps c) → x ≡ listFrom r ps (linkOf (pageOf ps c))
+        → cond b (andThen x (λ xs. ascendingChain (readChain ps c xs))) damaged ≡ sound d → Reads r ps c d
+    go true damaged eb ex e = absurd (let z : _≡_ {A = ℕ} 0 1 = cc in omega arith)
+    go true (sound xs) eb ex e = whole xs (sym eb) (sym ex) (ascending (readChain ps c xs .entries)) refl e
+    go false x eb ex e = absurd (let z : _≡_ {A = ℕ} 0 1 = cc in omega arith)
 
 pub sound-ascends : (r : Root) (ps : List ℕ) (c : ℕ) (d : Chain) → chainOf r ps c ≡ sound d → ascending (d .entries) ≡ true
-unfolding chainOf
-sound-ascends r ps c d e = go (pageSound r (pageOf ps c)) (listFrom r ps (linkOf (pageOf ps c))) e
-  where
-    go : (b : Bool) (x : Checked (List ℕ)) → cond b (andThen x (λ xs. ascendingChain (readChain ps c xs))) damaged ≡ sound d → ascending (d .entries) ≡ true
-    go true damaged e = absurd (let z : _≡_ {A = ℕ} 0 1 = cc in omega arith)
-    go true (sound xs) e = ascending-is (readChain ps c xs) d e
-    go false x e = absurd (let z : _≡_ {A = ℕ} 0 1 = cc in omega arith)
+sound-ascends r ps c d e = chain-reads r ps c d e .ascends
 
 -- ---- A chain whose pages were walked
-
-walk-bounded : (r : Root) (ps : List ℕ) (n l : ℕ) (xs : List ℕ) → overflowFrom r ps n l ≡ sound xs → length xs ≤ n
-unfolding overflowFrom
-walk-bounded r ps zero l xs e = go (eqb l 0) e
-  where
-    go : (b : Bool) → soundIf b [] ≡ sound xs → length xs ≤ 0
-    go true e = let q : [] ≡ xs = cc in rw (← q) (omega arith)
-    go false e = absurd (let z : _≡_ {A = ℕ} 0 1 = cc in omega arith)
-walk-bounded r ps (suc n) l xs e = go (walk-bounded r ps n (linkOf (pageOf ps (l - 1)))) (eqb l 0) (pageSound r (pageOf ps (l - 1))) (overflowFrom r ps n (linkOf (pageOf ps (l - 1)))) refl e
-  where
-    go : ((ys : List ℕ) → overflowFrom r ps n (linkOf (pageOf ps (l - 1))) ≡ sound ys → length ys ≤ n) → (b g : Bool) (rest : Checked (List ℕ))
-        → rest ≡ overflowFrom r ps n (linkOf (pageOf ps (l - 1))) → cond b (sound []) (cond g (andThen rest (λ ys. sound ((l - 1) ∷ ys))) damaged) ≡ sound xs → length xs ≤ suc n
-    go ih true g rest er e = let q : [] ≡ xs = cc in rw (← q) (omega arith)
-    go ih false false rest er e = absurd (let z : _≡_ {A = ℕ} 0 1 = cc in omega arith)
-    go ih false true damaged er e = absurd (let z : _≡_ {A = ℕ} 0 1 = cc in omega arith)
-    go ih false true (sound ys) er e = let q : (l - 1) ∷ ys ≡ xs = cc in let h = ih ys (sym er) in rw (← q) (omega arith)
 
 module _ (r : Root) (ps : List ℕ) (c : ℕ) where
   -- It has at most V overflow pages.
@@ -64,7 +64,7 @@ module _ (r : Root) (ps : List ℕ) (c : ℕ) where
     where
       go : (b : Bool) (x : Checked (List ℕ)) → x ≡ listFrom r ps (linkOf (pageOf ps c)) → counted (cond b x damaged) ≡ Walked.Pages n → n ≤ r .overflow
       go true damaged ex e = absurd (let z : _≡_ {A = ℕ} 0 1 = cc in omega arith)
-      go true (sound xs) ex e = let q : length xs ≡ n = cc in omega (arith, walk-bounded r ps (r .overflow) (linkOf (pageOf ps c)) xs (sym ex))
+      go true (sound xs) ex e = let q : length xs ≡ n = cc in omega (arith, walked-chained r ps (r .overflow) (linkOf (pageOf ps c)) xs (sym ex) .1)
       go false x ex e = absurd (let z : _≡_ {A = ℕ} 0 1 = cc in omega arith)
 
   pub unwalked-damaged : counted (overflowOf r ps c) ≡ Walked.Damaged → chainOf r ps c ≡ damaged
@@ -100,7 +100,7 @@ walked-chain r ps c n room can = go (pageSound r w) refl (can .walked)
         record {
           xs = xs;
           many = many;
-          few = omega (arith, sound-count r w good, can .keys-fit);
+          few = omega (arith, sound-page-counts r w good, can .keys-fit);
           followed = rw many at (walks .followed);
           records = ap (λ (es : List ℕ). entriesOf w ++ es) (ap (λ (k : ℕ). entriesFrom ps k (linkOf w)) (sym many) ∙ walks .entries);
           chain-is = rw (good, ← ex) refl;
@@ -110,30 +110,81 @@ walked-chain r ps c n room can = go (pageSound r w) refl (can .walked)
     go true eb e = pages (sym eb) (listFrom r ps (linkOf w)) refl e
     go false eb e = absurd (let z : _≡_ {A = ℕ} 0 1 = cc in omega arith)
 
-module _ (r : Root) (ps : List ℕ) (c n : ℕ) (passed : Passed r ps c n) (keys w : List ℕ) (g : Gathered) where
-  module _ (page : w ≡ pageOf ps c) (gathered : take (g .count) keys ≡ entriesOf w ++ entriesFrom ps n (linkOf w)) where
-    entries-are : take (g .count) keys ≡ entriesOn ps (c ∷ passed .xs)
-    entries-are = gathered ∙ ap (λ (v : List ℕ). entriesOf v ++ entriesFrom ps n (linkOf v)) page ∙ passed .records
+-- As many overflow pages as the chain has were walked.
+pub pages-walked : (r : Root) (ps : List ℕ) (c n : ℕ) (d : Chain) → Passed r ps c n → chainOf r ps c ≡ sound d → n ≡ length (d .pages)
+unfolding ascendingChain readChain
+pages-walked r ps c n d passed e = go (ascending (entriesOn ps (c ∷ passed .xs))) (sym (passed .chain-is) ∙ e)
+  where
+    go : (b : Bool) → soundIf b (readChain ps c (passed .xs)) ≡ sound d → n ≡ length (d .pages)
+    go true e = let q : readChain ps c (passed .xs) ≡ d = cc in sym (passed .many) ∙ ap (λ (x : Chain). length (x .pages)) q
+    go false e = absurd (let z : _≡_ {A = ℕ} 0 1 = cc in omega arith)
 
-    pub keys-fall-refused : ascending (take (g .count) keys) ≡ false → chainOf r ps c ≡ damaged
-    unfolding ascendingChain readChain
-    keys-fall-refused e = passed .chain-is ∙ rw (← entries-are, e) refl
+-- ---- A chain whose records were gathered, m of them
 
-    pub keys-ascend-whole : ascending (take (g .count) keys) ≡ true → g .level ≡ levelOf w → g .link ≡ linkOf w → g .count ≤ length keys → Whole (chainOf r ps c) n g keys
+module _ (r : Root) (ps : List ℕ) (c n : ℕ) (passed : Passed r ps c n) (keys w : List ℕ) (m : ℕ) where
+  module _ (page : w ≡ pageOf ps c) (front : take m keys ≡ entriesOf w ++ entriesFrom ps n (linkOf w)) where
+    entries-are : take m keys ≡ entriesOn ps (c ∷ passed .xs)
+    entries-are = front ∙ ap (λ (v : List ℕ). entriesOf v ++ entriesFrom ps n (linkOf v)) page ∙ passed .records
+
+    pub keys-fall-damaged : ascending (take m keys) ≡ false → chainOf r ps c ≡ damaged
     unfolding ascendingChain readChain
-    keys-ascend-whole e el ek fits = record {
-      chain = readChain ps c (passed .xs);
-      is-sound = passed .chain-is ∙ rw (← entries-are, e) refl;
-      level = el ∙ ap levelOf page;
-      link = ek ∙ ap linkOf page;
-      pages = sym (passed .many);
-      count = sym (length-take-le (g .count) keys fits) ∙ ap length entries-are;
-      fits = fits;
-      entries = entries-are;
-    }
+    keys-fall-damaged e = passed .chain-is ∙ rw (← entries-are, e) refl
+
+    -- The chain that was gathered.
+    keys-ascend-sound : ascending (take m keys) ≡ true → chainOf r ps c ≡ sound (readChain ps c (passed .xs))
+    unfolding ascendingChain readChain
+    keys-ascend-sound e = passed .chain-is ∙ rw (← entries-are, e) refl
+
+    module _ (e : ascending (take m keys) ≡ true) (fits : m ≤ length keys) {level link : ℕ} (el : level ≡ levelOf w) (ek : link ≡ linkOf w) where
+      pub keys-ascend-gathered : Gathered.Sound (record { level = level; link = link; count = m }) ≡ gathered (chainOf r ps c)
+      unfolding readChain
+      keys-ascend-gathered =
+          let many : m ≡ length (entriesOn ps (c ∷ passed .xs)) = sym (length-take-le m keys fits) ∙ ap length entries-are in
+          rw (keys-ascend-sound e, el, ek, page, many) refl
+
+    pub keys-ascend-in-front : ascending (take m keys) ≡ true → sound (take m keys) ≡ entriesIn (chainOf r ps c)
+    unfolding readChain
+    keys-ascend-in-front e = rw (keys-ascend-sound e, entries-are) refl
+
+-- The chain x, of n overflow pages, was looked through whole: what was gathered says its fields, and its records stand at the front of the buffer.
+pub record Whole (x : Checked Chain) (n : ℕ) (g : Front) (keys : List ℕ) : Type 0 where
+  pub chain : Chain
+  pub is-sound : x ≡ sound chain
+  pub level : g .level ≡ chain .level
+  pub link : g .link ≡ chain .link
+  pub pages : n ≡ length (chain .pages)
+  pub count : g .count ≡ length (chain .entries)
+  pub fits : g .count ≤ length keys
+  pub entries : take (g .count) keys ≡ chain .entries
+
+pub gathered-damaged : (x : Checked Chain) {a : Gathered} → a ≡ gathered x → a ≡ Gathered.Damaged → x ≡ damaged
+gathered-damaged damaged e f = refl
+gathered-damaged (sound c) e f = absurd (let z : _≡_ {A = ℕ} 0 1 = cc in omega arith)
+
+pub gathered-whole : {r : Root} {ps : List ℕ} {c n room : ℕ} → CanGather r ps c n room → {a : Gathered} {g : Front} (keys : List ℕ)
+    → (a ≡ gathered (chainOf r ps c)) × (inFront a keys ≡ entriesIn (chainOf r ps c)) → a ≡ Gathered.Sound g → Whole (chainOf r ps c) n g keys
+gathered-whole {r} {ps} {c} {n} {room} can {a} {g} keys told f = go (chainOf r ps c) (λ d e. pages-walked r ps c n d (walked-chain r ps c n room can) e) (told .0) (told .1)
+  where
+    go : (x : Checked Chain) → ((d : Chain) → x ≡ sound d → n ≡ length (d .pages)) → a ≡ gathered x → inFront a keys ≡ entriesIn x → Whole x n g keys
+    go damaged many e h = absurd (let z : _≡_ {A = ℕ} 0 1 = cc in omega arith)
+    go (sound d) many e h =
+        let same : g ≡ frontOf d = cc in
+        let kept : sound (take (g .count) keys) ≡ sound (d .entries) = ap (λ (y : Gathered). inFront y keys) (sym f) ∙ h in
+        let count : g .count ≡ length (d .entries) = ap (λ (y : Front). y .count) same in
+        let entries : take (g .count) keys ≡ d .entries = cc in
+        record {
+          chain = d;
+          is-sound = refl;
+          level = ap (λ (y : Front). y .level) same;
+          link = ap (λ (y : Front). y .link) same;
+          pages = many d refl;
+          count = count;
+          fits = omega (arith, sym (length-take (g .count) keys) ∙ ap length entries ∙ sym count);
+          entries = entries;
+        }
 
 -- A chain gathered, as the front of its buffer is lent.
-module _ {x : Checked Chain} {n : ℕ} (g : Gathered) (keys : List ℕ) (whole : Whole x n g keys) where
+module _ {x : Checked Chain} {n : ℕ} (g : Front) (keys : List ℕ) (whole : Whole x n g keys) where
   pub front-is : take (g .count - 0) keys ≡ whole .chain .entries
   front-is = front-part (g .count) keys ∙ whole .entries
 

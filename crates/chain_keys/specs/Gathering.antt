@@ -1,18 +1,22 @@
 -- A chain looked through in two passes: its pages walked, then its keys gathered.
--- Main definitions: overflowOf (a chain's overflow pages, walked), CanWalk, CanGather; entriesFrom and Followed (the records on the pages that a link leads to); Whole (a chain gathered).
+-- Main definitions: overflowOf (a chain's overflow pages, walked), CanWalk, CanGather; entriesFrom and Followed (the records on the pages that a link leads to);
+-- gathered, inFront and entriesIn (a chain gathered in a buffer).
 use mathlib.Core.Path.{_≡_}
 use mathlib.Core.Bool.{cond}
-use mathlib.Core.List.{List, [], _++_}
-use Prim.Native.Nat.{ℕ, zero, suc, _+_, _-_, _*_, _≤_, _<_}
+use mathlib.Core.List.{List}
+use Prim.Native.Nat.{ℕ, _+_, _*_, _≤_, _<_}
 use lib.ListN.{length, take}
 use Rattle.model.specs.declared.Root.{Root}
 use Rattle.model.specs.Sizes.{pageWords, mostRecords}
 use Rattle.model.specs.Entries.{Entry}
-use Rattle.model.specs.Pages.{pageOf, countOf, linkOf, entriesOf, pageSound, primaryPage, linkedPage}
-use Rattle.model.specs.Chains.{Checked, damaged, sound, listFrom, Chain}
+use Rattle.model.specs.Pages.{pageOf, levelOf, countOf, linkOf, pageSound, primaryPage}
+use Rattle.model.specs.Chains.{Checked, damaged, sound, andThen, listFrom, entriesOn, Chain}
+use Rattle.chains.specs.Links.{linkedPages, LeadsOn}
 use Rattle.chains.specs.Walks.{counted}
 use Rattle.chains.specs.declared.Walked.the-variants as Walked
+use Rattle.chain_keys.specs.declared.Front.{Front}
 use Rattle.chain_keys.specs.declared.Gathered.{Gathered}
+use Rattle.chain_keys.specs.declared.Gathered.the-variants as Gathered
 
 -- The overflow pages of chain c: its primary page is tested, and every page of the list.
 unfoldable pub overflowOf : Root → List ℕ → ℕ → Checked (List ℕ)
@@ -32,21 +36,31 @@ pub record CanGather (r : Root) (ps : List ℕ) (c n room : ℕ) : Type 0 where
 
 -- The records on the n pages from link l on.
 unfoldable pub entriesFrom : List ℕ → ℕ → ℕ → List Entry
-entriesFrom ps zero l = []
-entriesFrom ps (suc n) l = entriesOf (pageOf ps (linkedPage l)) ++ entriesFrom ps n (linkOf (pageOf ps (linkedPage l)))
+entriesFrom ps n l = entriesOn ps (linkedPages ps n l)
 
--- There are n pages from link l on, each within the page memory, with a count that is no damage.
-pub data Followed (ps : List ℕ) : ℕ → ℕ → Type 0 where
-  none : (l : ℕ) → Followed ps 0 l
-  also : (n l : ℕ) → 0 < l → (l - 1) * pageWords + pageWords ≤ length ps → countOf (pageOf ps (l - 1)) ≤ mostRecords → Followed ps n (linkOf (pageOf ps (l - 1))) → Followed ps (suc n) l
+-- Page x is within the page memory, and its count is no damage.
+pub record CanRead (ps : List ℕ) (x : ℕ) : Type 0 where
+  pub fits : x * pageWords + pageWords ≤ length ps
+  pub few : countOf (pageOf ps x) ≤ mostRecords
 
--- The chain x was looked through whole: what was gathered says its fields, and its records stand at the front of the buffer.
-pub record Whole (x : Checked Chain) (n : ℕ) (g : Gathered) (keys : List ℕ) : Type 0 where
-  pub chain : Chain
-  pub is-sound : x ≡ sound chain
-  pub level : g .level ≡ chain .level
-  pub link : g .link ≡ chain .link
-  pub pages : n ≡ length (chain .pages)
-  pub count : g .count ≡ length (chain .entries)
-  pub fits : g .count ≤ length keys
-  pub entries : take (g .count) keys ≡ chain .entries
+-- There are n pages from link l on, and they can be read.
+abbrev pub Followed : List ℕ → ℕ → ℕ → Type 0
+Followed ps n l = LeadsOn (CanRead ps) ps n l
+
+-- What is said of a chain whose records stand at the front of a buffer.
+abbrev pub frontOf : Chain → Front
+frontOf c = record { level = c .level; link = c .link; count = length (c .entries) }
+
+-- What gathering a chain answers.
+abbrev pub gathered : Checked Chain → Gathered
+gathered damaged = Gathered.Damaged
+gathered (sound c) = Gathered.Sound (frontOf c)
+
+-- The keys that gathering left at the front of the buffer.
+abbrev pub inFront : Gathered → List ℕ → Checked (List Entry)
+inFront Gathered.Damaged keys = damaged
+inFront (Gathered.Sound g) keys = sound (take (g .count) keys)
+
+-- The records of a chain that was looked through whole.
+abbrev pub entriesIn : Checked Chain → Checked (List Entry)
+entriesIn x = andThen x (λ c. sound (c .entries))

@@ -2,28 +2,34 @@
 // Main statements: walk is the walk of a chain's overflow pages; gather is chainOf, for every memory in which the pages were walked.
 
 ghost use mathlib.Core.Path.{_≡_};
-ghost use mathlib.Core.Bool.{true, false};
 ghost use mathlib.Core.List.{_++_};
 ghost use Prim.Native.Nat.{_+_, _*_, _≤_, _<_};
 ghost use lib.ListN.{length, take};
 ghost use Rattle.model.specs.Sizes.{mostRecords};
 ghost use Rattle.model.specs.Pages.{countOf, linkOf, entriesOf};
-ghost use Rattle.model.specs.Chains.{chainOf, damaged};
+ghost use Rattle.model.specs.Chains.{chainOf};
 ghost use Rattle.chains.specs.Walks.{counted};
-ghost use Rattle.chain_keys.specs.Gathering.{overflowOf, CanWalk, CanGather, Followed, entriesFrom, Whole};
+ghost use Rattle.chain_keys.specs.Gathering.{overflowOf, CanWalk, CanGather, Followed, entriesFrom, gathered, inFront, entriesIn};
 use chains::Walked;
 use model::ChainAddress;
 use model::FIRST_RECORD;
+use model::MOST_RECORDS;
 use model::Page;
 use model::PageAddress;
+use model::RECORD_WORDS;
 use model::Root;
 
-// A chain gathered: whether its keys ascend, its local level, its link, and how many keys it has.
-pub struct Gathered {
-    pub ok: bool,
+// A chain whose keys stand at the front of a buffer: its local level, its link, and how many keys it has.
+pub struct Front {
     pub level: u32,
     pub link: u32,
     pub count: usize,
+}
+
+// What gathering came to: damage, or all keys.
+pub enum Gathered {
+    Damaged,
+    Sound(Front),
 }
 
 // How many overflow pages the chain has: every page is tested, the primary page first.
@@ -39,9 +45,6 @@ pub fn walk(root: Root, chain: ChainAddress, pages: &[u32]) -> Walked
     }
 }
 
-// The most keys of a page.
-const MOST_KEYS: usize = 12;
-
 // A page's keys go into the buffer from `at` on: where the next would go. All its key words are copied, and those past its keys count for nothing.
 fn copy_keys(w: Page, keys: &mut [u32], at: usize) -> usize
     requires { ⌜ (countOf w ≤ mostRecords) × (at + mostRecords ≤ length (now keys)) ⌝ }
@@ -49,8 +52,8 @@ fn copy_keys(w: Page, keys: &mut [u32], at: usize) -> usize
 {
     let n = chains::count_of(w) as usize;
     let mut i = 0;
-    while i < MOST_KEYS {
-        keys[at + i] = w[FIRST_RECORD + i];
+    while i < MOST_RECORDS as usize {
+        keys[at + i] = w[FIRST_RECORD + i * RECORD_WORDS];
         i += 1;
     }
     at + n
@@ -76,17 +79,15 @@ fn gather_keys(w: Page, n: u32, pages: &[u32], keys: &mut [u32]) -> usize
 // The chain whose n overflow pages were walked, with its keys at the front of the buffer; "keys that do not strictly ascend" are damage.
 pub fn gather(root: Root, chain: ChainAddress, n: u32, pages: &[u32], keys: &mut [u32]) -> Gathered
     requires { ⌜ CanGather root (now pages) (chain .0) n (length (now keys)) ⌝ }
-    ensures { λ r. ⌜ (r .ok ≡ false → chainOf root (now (pages .entry)) (chain .0) ≡ damaged) × (r .ok ≡ true → Whole (chainOf root (now (pages .entry)) (chain .0)) n r (now (keys .exit))) ⌝ }
+    ensures { λ r. ⌜ (r ≡ gathered (chainOf root (now (pages .entry)) (chain .0))) × (inFront r (now (keys .exit)) ≡ entriesIn (chainOf root (now (pages .entry)) (chain .0))) ⌝ }
 {
     let w = pages::load(pages, PageAddress(chain.0));
     let count = gather_keys(w, n, pages, keys);
-    let ok = entries::ascends(&keys[0..count]);
-    let level = chains::level_of(w);
-    let link = chains::link_of(w);
-    Gathered {
-        ok,
-        level,
-        link,
-        count,
+    if entries::ascends(&keys[0..count]) {
+        let level = chains::level_of(w);
+        let link = chains::link_of(w);
+        Gathered::Sound(Front { level, link, count })
+    } else {
+        Gathered::Damaged
     }
 }

@@ -1,5 +1,6 @@
 -- A chain whose pages were walked, over the model's chainOf: its primary page is the one that link c + 1 names.
--- Main statements: page-falls, page-passed, pages-passed (one turn over the pages); walked-passed, pages-followed, chain-scanned (what is said of the chain, over the records from link c + 1 on).
+-- Main statements: page-falls, page-passed, pages-passed (one turn over the pages); walked-passed, pages-followed, chain-scanned (what is said of the chain, over the records from link c + 1 on);
+-- looked-at, unsound-chain (what the answer says of the chain).
 use mathlib.Core.Path.{_≡_, refl, _∙_}
 use mathlib.Core.Bool.{Bool, true, false, cond, _||_}
 use mathlib.Core.List.{List, _∷_, _++_}
@@ -11,15 +12,17 @@ use Rattle.model.specs.declared.Root.{Root}
 use Rattle.model.specs.Sizes.{pageWords, mostRecords}
 use Rattle.model.specs.Entries.{hasKey, ascending}
 use Rattle.model.specs.Pages.{pageOf, countOf, linkOf, entriesOf}
-use Rattle.model.specs.Chains.{soundIf, entriesOn, readChain, ascendingChain, chainOf}
+use Rattle.model.specs.Chains.{Checked, damaged, sound, soundIf, Chain, entriesOn, readChain, ascendingChain, chainOf}
 use Rattle.model.proofs.Laws.Pages.{length-entriesOf}
 use Rattle.chains.specs.Walks.{counted}
 use Rattle.chains.specs.declared.Walked.the-variants as Walked
-use Rattle.chain_keys.specs.Gathering.{overflowOf, CanWalk, Followed, also, entriesFrom}
+use Rattle.chains.specs.Links.{also}
+use Rattle.chain_keys.specs.Gathering.{overflowOf, CanWalk, Followed, entriesFrom}
 use Rattle.chain_keys.proofs.Following.{entries-next, entries-none}
 use Rattle.chain_keys.proofs.WholeChain.{Passed, walked-chain}
 use Rattle.chain_scan.specs.Scans.{ascentFrom, looked, examined, scanned}
 use Rattle.chain_scan.specs.declared.Ascent.the-variants as Ascent
+use Rattle.chain_scan.specs.declared.Looked.{Looked}
 use Rattle.chain_scan.specs.declared.Scan.the-variants as Scan
 use Rattle.chain_scan.proofs.Ascents.{resumed, list-falls, list-passed, all-passed}
 
@@ -53,7 +56,7 @@ module _ (r : Root) (ps : List ℕ) (c n : ℕ) where
     first-is = omega arith
 
     pub pages-followed : c * pageWords + pageWords ≤ length ps → Followed ps (n + 1) (c + 1)
-    pages-followed fits = rw (add-one n) (also n (c + 1) (omega arith) (rw first-is fits) (rw first-is (passed .few)) (rw first-is (passed .followed)))
+    pages-followed fits = rw (add-one n) (also {k = n} {l = c + 1} (omega arith) (rw first-is record { fits = fits; few = passed .few }) (rw first-is (passed .followed)))
 
     entries-are : entriesFrom ps (n + 1) (c + 1) ≡ entriesOn ps (c ∷ passed .xs)
     entries-are =
@@ -67,3 +70,21 @@ module _ (r : Root) (ps : List ℕ) (c n : ℕ) where
         go : (b : Bool) → scanned key (soundIf b (readChain ps c (passed .xs))) ≡ cond b (Scan.Sound (looked key n (entriesOn ps (c ∷ passed .xs)))) Scan.Damaged
         go true = rw (passed .many) refl
         go false = refl
+
+-- ---- What was found
+
+-- The chain x is sound, and l says how many pages and keys it has and whether the key is among them.
+pub record LookedAt (x : Checked Chain) (key : ℕ) (l : Looked) : Type 0 where
+  pub chain : Chain
+  pub is-sound : x ≡ sound chain
+  pub pages : l .pages ≡ length (chain .pages)
+  pub count : l .count ≡ length (chain .entries)
+  pub found : l .found ≡ hasKey key (chain .entries)
+
+pub looked-at : (x : Checked Chain) (key : ℕ) (l : Looked) → Scan.Sound l ≡ scanned key x → LookedAt x key l
+looked-at damaged key l e = absurd (let z : _≡_ {A = ℕ} 0 1 = cc in omega arith)
+looked-at (sound c) key l e = record { chain = c; is-sound = refl; pages = cc; count = cc; found = cc }
+
+pub unsound-chain : (x : Checked Chain) (key : ℕ) → Scan.Damaged ≡ scanned key x → x ≡ damaged
+unsound-chain damaged key e = refl
+unsound-chain (sound c) key e = absurd (let z : _≡_ {A = ℕ} 0 1 = cc in omega arith)

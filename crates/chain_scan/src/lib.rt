@@ -12,8 +12,10 @@ ghost use Rattle.chain_scan.specs.Scans.{ascentFrom, examined, scanned};
 use chains::Walked;
 use model::ChainAddress;
 use model::FIRST_RECORD;
+use model::MOST_RECORDS;
 use model::Page;
 use model::PageAddress;
+use model::RECORD_WORDS;
 use model::Root;
 
 // Whether the keys passed ascend, and the least that the next key may be.
@@ -34,20 +36,19 @@ pub enum Scan {
     Sound(Looked),
 }
 
-// Whether a page has key k among the keys that it counts.
+// Whether a page has key k among the keys that it counts. All twelve words are compared, so that no branch goes by where the key stands.
 pub fn has_key(w: Page, k: u32) -> bool
     requires { ⌜ countOf w ≤ mostRecords ⌝ }
     ensures { λ r. ⌜ r ≡ hasKey k (entriesOf w) ⌝ }
 {
     let count = chains::count_of(w) as usize;
+    let mut found = false;
     let mut i = 0;
-    while i < count {
-        if w[FIRST_RECORD + i] == k {
-            return true;
-        }
+    while i < MOST_RECORDS as usize {
+        found = found | ((w[FIRST_RECORD + i * RECORD_WORDS] == k) & (i < count));
         i += 1;
     }
-    false
+    found
 }
 
 // Whether a page's keys ascend and the first is at least `floor`. The floor of the next page is one more than the last key.
@@ -59,7 +60,7 @@ fn ascend(w: Page, floor: u64) -> Ascent
     let mut low = floor;
     let mut i = 0;
     while i < n {
-        let k = w[FIRST_RECORD + i] as u64;
+        let k = w[FIRST_RECORD + i * RECORD_WORDS] as u64;
         if k < low {
             return Ascent::Falls;
         }

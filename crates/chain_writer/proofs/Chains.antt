@@ -12,17 +12,18 @@ use Rattle.model.specs.Entries.{Entry}
 use Rattle.model.specs.Pages.{withPage, filledPage, linkToFirst}
 use Rattle.model.specs.Filling.{overflowNeeded, primaryOf, filled, overflowWritten}
 use Rattle.model.proofs.Laws.Lists.{All, all-map}
-use Rattle.model.proofs.Laws.Distinct.{Outside}
+use Rattle.model.proofs.Laws.Distinct.{Outside, Distinct}
 use Rattle.model.proofs.Laws.Pages.{Has, length-withPage, length-filledPage}
 use Rattle.model.proofs.Laws.Filling.{needed-few, needed-more, length-filled, length-overflowWritten, length-primaryOf}
+use Rattle.chains.specs.Links.{nextLink, linkedPages, linkAfter}
+use Rattle.chains.proofs.Links.{NextPage, first-of, leads-all}
 use Rattle.key_source.specs.declared.Source.{Source}
 use Rattle.key_source.specs.Sources.{Sits, CanChoose, keysOf}
 use Rattle.chain_writer.specs.declared.Planned.{Planned}
 use Rattle.chain_writer.specs.declared.Rest.{Rest}
 use Rattle.chain_writer.specs.declared.Rest.the-variants.{Nothing, Chain}
-use Rattle.chain_writer.specs.Writing.{nextLink, linkedPages, linkAfter, chainWritten, restWritten, allWritten, CanPlace, CanPlaceRest, CanWrite}
+use Rattle.chain_writer.specs.Writing.{CanFill, chainWritten, restWritten, allWritten, CanPlace, CanPlaceRest, CanWrite}
 use Rattle.chain_writer.proofs.PagesApart.{filled-beside, filled-apart}
-use Rattle.chain_writer.proofs.Links.{OneMore, first-of, pages-has, first-link}
 
 -- ---- Lengths
 
@@ -31,7 +32,7 @@ unfolding restWritten chainWritten
 placed-length b d l ps small can =
     let xs = linkedPages ps (overflowNeeded b (d .left)) l in
     let es = keysOf ps (d .source) in
-    let beside = length-overflowWritten b small ps xs es (pages-has ps (can .can-fill)) in
+    let beside = length-overflowWritten b small ps xs es (leads-all ps (can .can-fill .leads)) in
     length-withPage (overflowWritten b ps xs es) (d .to .0) (primaryOf b (d .level) es xs) record { fits = rw beside (can .page-fits) } (length-primaryOf b (d .level) es xs small) ∙ beside
 
 rest-length : (b : ℕ) (rest : Rest) (l : ℕ) (ps : List ℕ) → b ≤ mostRecords → CanPlaceRest b rest l ps → length (restWritten b ps rest l) ≡ length ps
@@ -57,6 +58,10 @@ cons-is : (ps : List ℕ) (k l : ℕ) → linkedPages ps (suc k) l ≡ (l - 1) �
 unfolding linkedPages
 cons-is ps k l = refl
 
+first-link : (l : ℕ) (xs : List ℕ) → 1 ≤ l → linkToFirst ((l - 1) ∷ xs) ≡ l
+unfolding linkToFirst
+first-link l xs h = omega arith
+
 module _ (b : ℕ) (c : Planned) (l : ℕ) (rest : Rest) (ps : List ℕ) (can : CanWrite b c l rest ps) (more : b < c .left) where
   -- How many pages the keys after the first b need beside the first of these.
   abbrev fewer : ℕ
@@ -65,8 +70,14 @@ module _ (b : ℕ) (c : Planned) (l : ℕ) (rest : Rest) (ps : List ℕ) (can : 
   needed : overflowNeeded b (c .left) ≡ suc fewer
   needed = needed-more b (c .left) (can .some-key) more
 
-  pub one : OneMore ps fewer l
-  one = first-of ps (rw needed at (can .chain .can-fill))
+  fills : CanFill ps (suc fewer) l
+  fills = rw needed at (can .chain .can-fill)
+
+  apart : Distinct ((l - 1) ∷ linkedPages ps fewer (nextLink ps l))
+  apart = rw (cons-is ps fewer l) at (fills .distinct)
+
+  pub one : NextPage (Has ps) ps fewer l
+  one = first-of ps (fills .leads)
 
   -- The link after all of c's pages.
   same-after : linkAfter ps (overflowNeeded b (c .left)) l ≡ linkAfter ps fewer (nextLink ps l)
@@ -85,8 +96,8 @@ module _ (b : ℕ) (c : Planned) (l : ℕ) (rest : Rest) (ps : List ℕ) (can : 
           sits = sits;
           can-choose = choose;
           many = ap length keys ∙ long ∙ sym left;
-          page-fits = rw to (one .has .fits);
-          can-fill = rw (left, link) (one .rest);
+          page-fits = rw to (one .page .fits);
+          can-fill = rw (left, link) record { leads = one .rest; distinct = apart .1 };
         };
         others = rw (left, link, ← same-after) (can .others);
       }
@@ -102,10 +113,10 @@ module _ (b : ℕ) (c : Planned) (l : ℕ) (rest : Rest) (ps : List ℕ) (can : 
       let xs = linkedPages ps fewer (nextLink ps l) in
       let kept = rest-length b rest (linkAfter ps (overflowNeeded b (c .left)) l) ps (can .keys-fit) (can .others) in
       let same : qs ≡ chainWritten b rs (l - 1) 0 (drop b es) xs = written ∙ rw (link, keys, ← same-after) refl in
-      let has : Has rs (l - 1) = record { fits = rw kept (one .has .fits) } in
-      let all : All (Has rs) xs = all-map xs (λ x h. record { fits = rw kept (h .fits) }) (pages-has ps (one .rest)) in
-      let first : linkToFirst ((l - 1) ∷ xs) ≡ l = ap linkToFirst (sym (cons-is ps fewer l)) ∙ first-link ps fewer l (one .linked) in
-      let step = page-before b (c .level) rs xs es (c .to .0) (l - 1) l (can .keys-fit) has all (one .apart) first in
+      let has : Has rs (l - 1) = record { fits = rw kept (one .page .fits) } in
+      let all : All (Has rs) xs = all-map xs (λ x h. record { fits = rw kept (h .fits) }) (leads-all ps (one .rest)) in
+      let first : linkToFirst ((l - 1) ∷ xs) ≡ l = first-link l xs (one .linked) in
+      let step = page-before b (c .level) rs xs es (c .to .0) (l - 1) l (can .keys-fit) has all (apart .0) first in
       ap (λ (v : List ℕ). withPage qs (c .to .0) v) page ∙ ap (λ (v : List ℕ). withPage v (c .to .0) (filledPage (c .level) (take b es) l)) same ∙ step
       ∙ ap (chainWritten b rs (c .to .0) (c .level) es) (sym (ap (λ (k : ℕ). linkedPages ps k l) needed ∙ cons-is ps fewer l))
 

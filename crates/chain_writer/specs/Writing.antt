@@ -1,18 +1,16 @@
 -- A chain written to its page and on to free pages, and after it the rest.
--- Main definitions: linkedPages and linkAfter (the pages that links lead to, and the link after them), CanFill (these are pages of the memory, and none comes twice);
+-- Main definitions: CanFill (links lead to pages of the memory, and none comes twice);
 -- HasPage (a page made of the next keys); chainWritten, restWritten, allWritten (what is written), CanPlace, CanPlaceRest and CanWrite (what writing needs).
 use mathlib.Core.Path.{_≡_}
-use mathlib.Core.Bool.{false}
-use mathlib.Core.List.{List, [], _∷_}
-use Prim.Native.Nat.{ℕ, zero, suc, _+_, _*_, _≤_}
+use mathlib.Core.List.{List}
+use Prim.Native.Nat.{ℕ, _+_, _*_, _≤_}
 use lib.ListN.{length, take, drop}
 use Rattle.model.specs.Sizes.{pageWords, mostRecords}
 use Rattle.model.specs.Entries.{Entry}
-use Rattle.model.specs.Pages.{pageOf, withPage, linkOf, linkedPage, filledPage}
+use Rattle.model.specs.Pages.{withPage, filledPage}
 use Rattle.model.specs.Filling.{overflowNeeded, primaryOf, overflowWritten}
-use Rattle.model.specs.FreeList.{isAmong}
-pub use Rattle.free_list.specs.Taking.{nextLink}
-unfoldable pub use Rattle.free_list.specs.Taking.{linkedPages, linkAfter}
+use Rattle.model.proofs.Laws.Pages.{Has}
+use Rattle.chains.specs.Links.{linkedPages, linkAfter, LeadsApart}
 use Rattle.key_source.specs.declared.Source.{Source}
 use Rattle.key_source.specs.Sources.{Sits, CanChoose, keysOf}
 use Rattle.chain_writer.specs.declared.Planned.{Planned}
@@ -20,12 +18,9 @@ use Rattle.chain_writer.specs.declared.Rest.{Rest}
 use Rattle.chain_writer.specs.declared.Rest.the-variants.{Nothing, Chain}
 use Rattle.chain_writer.specs.declared.Filled.{Filled}
 
--- ---- Pages that links lead to
-
 -- Each of the k links from l on names a page of the memory, and no page comes twice.
-pub data CanFill (ps : List ℕ) : ℕ → ℕ → Type 0 where
-  none : {l : ℕ} → CanFill ps 0 l
-  one-more : {k l : ℕ} → 1 ≤ l → linkedPage l * pageWords + pageWords ≤ length ps → isAmong (linkedPage l) (linkedPages ps k (nextLink ps l)) ≡ false → CanFill ps k (nextLink ps l) → CanFill ps (suc k) l
+abbrev pub CanFill : List ℕ → ℕ → ℕ → Type 0
+CanFill ps k l = LeadsApart (Has ps) ps k l
 
 -- ---- Pages made
 

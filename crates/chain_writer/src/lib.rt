@@ -1,4 +1,4 @@
-// A new chain written without buffers (document 01, steps 10, 17 and 26): each page is made on the way down and written on the way up,
+// A new chain written without buffers (document 01, steps 10 and 17): each page is made on the way down and written on the way up,
 // so that everything is read before anything is written. A free page may also be a page of the chain that is read.
 // Main statements: page_of is filledPage of the next keys; write_chain is allWritten, for every memory.
 
@@ -16,6 +16,7 @@ use model::LINK_WORD;
 use model::PAGE_WORDS;
 use model::Page;
 use model::PageAddress;
+use model::RECORD_WORDS;
 
 // A chain to be written: its local level, how many keys it gets, where they come from, and the page for its primary page.
 pub struct Planned {
@@ -51,7 +52,7 @@ fn page_of(level: u32, n: u32, link: u32, s: Source, pages: &[u32]) -> Filled
     let mut i = 0;
     while i < end {
         let x = key_source::next(pages, t);
-        w[FIRST_RECORD + i] = x.key;
+        w[FIRST_RECORD + i * RECORD_WORDS] = x.key;
         t = x.source;
         i += 1;
     }

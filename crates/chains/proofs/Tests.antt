@@ -1,68 +1,13 @@
--- The tests of links and pages: what each means once it holds, and what makes it fail.
--- Main statements: named-within (where a link that names an overflow page points), sound-link-fits (its page stands in the memory); overfull-unsound, high-unsound,
--- link-decides (of the three words); words-of-page; sound-page-links, sound-page-counts, sound-page-levels (of a sound page).
-use mathlib.Core.Path.{_≡_, refl, sym, _∙_}
-use mathlib.Core.Bool.{Bool, true, false, _&&_, _||_}
+-- The test of a page's three words.
+-- Main statements: overfull-unsound, high-unsound, link-decides (of the three words); words-of-page.
+use mathlib.Core.Path.{_≡_, refl}
+use mathlib.Core.Bool.{false}
 use mathlib.Core.List.{List}
-use Prim.Native.Nat.{ℕ, _+_, _-_, _*_, _≤_, _<_}
-use native.Mathlib.Omega.{arith}
-use lib.Dec.{ltb, leb, eqb}
-use borrow.Author.Tests.{ltb-true, leb-true, le-leb, lt-leb, lt-ltb, le-ltb, eq-eqb, ne-eqb}
+use Prim.Native.Nat.{ℕ, _≤_, _<_}
+use borrow.Author.Tests.{le-leb, lt-leb}
 use Rattle.model.specs.declared.Root.{Root}
-use Rattle.model.specs.Sizes.{pageWords}
-use Rattle.model.specs.Pages.{levelOf, countOf, linkOf, namesOverflow, linkSound, pageSound, mostLevel}
+use Rattle.model.specs.Pages.{levelOf, countOf, linkOf, linkSound, pageSound, mostLevel}
 use Rattle.chains.specs.Walks.{wordsSound}
-
-pub and-true : (a b : Bool) → (a && b) ≡ true → (a ≡ true) × (b ≡ true)
-and-true true b e = (refl, e)
-and-true false b e = absurd (let z : _≡_ {A = ℕ} 0 1 = cc in omega arith)
-
--- ---- Links
-
-module _ (r : Root) (l : ℕ) where
-  pub low-unnamed : l ≤ r .primaries → namesOverflow r l ≡ false
-  unfolding namesOverflow
-  low-unnamed h = rw (le-ltb (r .primaries) l h) refl
-
-  pub high-unnamed : r .primaries + r .overflow < l → namesOverflow r l ≡ false
-  unfolding namesOverflow
-  high-unnamed h = rw (lt-ltb (r .primaries) l (omega arith), lt-leb l (r .primaries + r .overflow) h) refl
-
-  pub between-named : r .primaries < l → l ≤ r .primaries + r .overflow → namesOverflow r l ≡ true
-  unfolding namesOverflow
-  between-named h k = rw (lt-ltb (r .primaries) l h, le-leb l (r .primaries + r .overflow) k) refl
-
-  pub named-within : namesOverflow r l ≡ true → (r .primaries < l) × (l ≤ r .primaries + r .overflow)
-  unfolding namesOverflow
-  named-within e =
-      let h = and-true (ltb (r .primaries) l) (leb l (r .primaries + r .overflow)) e in
-      (ltb-true _ _ (h .0), leb-true _ _ (h .1))
-
-  pub zero-sound : l ≡ 0 → linkSound r l ≡ true
-  unfolding linkSound
-  zero-sound e = rw (eq-eqb l 0 e) refl
-
-  -- Of a link other than 0, whether it names an overflow page decides.
-  pub naming-decides : (l ≡ 0 → ⊥) → linkSound r l ≡ namesOverflow r l
-  unfolding linkSound
-  naming-decides h = rw (ne-eqb l 0 h) refl
-
-  pub named-sound : namesOverflow r l ≡ true → linkSound r l ≡ true
-  unfolding linkSound
-  named-sound e = go (eqb l 0)
-    where
-      go : (b : Bool) → (b || namesOverflow r l) ≡ true
-      go true = refl
-      go false = e
-
-  pub sound-named : (l ≡ 0 → ⊥) → linkSound r l ≡ true → namesOverflow r l ≡ true
-  sound-named h e = sym (naming-decides h) ∙ e
-
-  -- The page that a sound link names stands in a memory that has all overflow pages.
-  pub sound-link-fits : (n : ℕ) → (l ≡ 0 → ⊥) → linkSound r l ≡ true → pageWords * (r .primaries + r .overflow) ≤ n → (l - 1) * pageWords + pageWords ≤ n
-  sound-link-fits n h e fits = let named = named-within (sound-named h e) in omega arith
-
--- ---- Words
 
 module _ (r : Root) (level count link : ℕ) where
   pub overfull-unsound : r .capacity < count → wordsSound r level count link ≡ false
@@ -78,25 +23,6 @@ module _ (r : Root) (level count link : ℕ) where
   unfolding wordsSound
   link-decides h k = rw (le-leb count (r .capacity) h, le-leb level mostLevel k) refl
 
--- ---- Pages
-
-module _ (r : Root) (w : List ℕ) where
-  pub words-of-page : wordsSound r (levelOf w) (countOf w) (linkOf w) ≡ pageSound r w
-  unfolding wordsSound pageSound
-  words-of-page = refl
-
-  pub sound-page-links : pageSound r w ≡ true → linkSound r (linkOf w) ≡ true
-  unfolding pageSound
-  sound-page-links e = and-true (leb (countOf w) (r .capacity) && leb (levelOf w) mostLevel) (linkSound r (linkOf w)) e .1
-
-  sound-page-tests : pageSound r w ≡ true → (leb (countOf w) (r .capacity) ≡ true) × (leb (levelOf w) mostLevel ≡ true)
-  unfolding pageSound
-  sound-page-tests e =
-      let both = leb (countOf w) (r .capacity) && leb (levelOf w) mostLevel in
-      and-true (leb (countOf w) (r .capacity)) (leb (levelOf w) mostLevel) (and-true both (linkSound r (linkOf w)) e .0)
-
-  pub sound-page-counts : pageSound r w ≡ true → countOf w ≤ r .capacity
-  sound-page-counts e = leb-true _ _ (sound-page-tests e .0)
-
-  pub sound-page-levels : pageSound r w ≡ true → levelOf w ≤ mostLevel
-  sound-page-levels e = leb-true _ _ (sound-page-tests e .1)
+pub words-of-page : (r : Root) (w : List ℕ) → wordsSound r (levelOf w) (countOf w) (linkOf w) ≡ pageSound r w
+unfolding wordsSound pageSound
+words-of-page r w = refl

@@ -8,12 +8,12 @@ use Prim.Native.Nat.{ℕ, zero, suc, _+_, _-_, _*_, _<_}
 use native.Mathlib.Nat.{add-zero}
 use native.Mathlib.Omega.{arith}
 use lib.ListN.{length, getD}
-use lib.Seq.{getD-take, getD-drop}
 use borrow.Author.Tests.{eq-eqb, ne-eqb}
 use Rattle.model.specs.declared.Root.{Root}
 use Rattle.model.specs.Sizes.{pageWords}
 use Rattle.model.specs.Pages.{pageOf, levelOf, countOf, linkOf, pageSound}
 use Rattle.model.specs.Chains.{Checked, damaged, sound, andThen, overflowFrom}
+use Rattle.model.proofs.Laws.Pages.{word-at}
 use Rattle.chains.specs.Walks.{wordsSound, counted}
 use Rattle.chains.specs.declared.Walked.{Walked}
 use Rattle.chains.specs.declared.Walked.the-variants as Walked
@@ -31,22 +31,17 @@ none-passed (sound xs) = ap Walked.Pages (omega arith)
 -- ---- The words of page p
 
 module _ (ps : List ℕ) (p : ℕ) where
-  -- Word i.
-  word-at : (i : ℕ) → i < pageWords → getD ps (p * pageWords + i) 0 ≡ getD (pageOf ps p) i 0
-  unfolding pageOf
-  word-at i h = rw (getD-take, getD-drop)
-
   pub level-at : getD ps (p * pageWords) 0 ≡ levelOf (pageOf ps p)
   unfolding levelOf
-  level-at = ap (λ (k : ℕ). getD ps k 0) (sym (add-zero (p * pageWords))) ∙ word-at 0 (omega arith)
+  level-at = ap (λ (k : ℕ). getD ps k 0) (sym (add-zero (p * pageWords))) ∙ word-at ps p 0 (omega arith)
 
   pub count-at : getD ps (p * pageWords + 1) 0 ≡ countOf (pageOf ps p)
   unfolding countOf
-  count-at = word-at 1 (omega arith)
+  count-at = word-at ps p 1 (omega arith)
 
   pub link-at : getD ps (p * pageWords + 2) 0 ≡ linkOf (pageOf ps p)
   unfolding linkOf
-  link-at = word-at 2 (omega arith)
+  link-at = word-at ps p 2 (omega arith)
 
   -- The test over the three words is the test of the page.
   pub words-at : (r : Root)

@@ -12,6 +12,7 @@ ghost use Rattle.chain_change.specs.Changing.{afterChange, changedAnswer};
 ghost use Rattle.few_pages.specs.Few.{CanWriteFew, CanChangeFew};
 use chain_change::Changed;
 use chain_change::Rebuilt;
+use chain_keys::Gathered;
 use free_list::Drawn;
 use model::ChainAddress;
 use model::INSERT;
@@ -68,10 +69,15 @@ fn change_gathered(
     requires { ⌜ CanChangeFew root q (party .chain) n (now pages) × (64 ≤ length (now keys)) ⌝ }
     ensures { λ r. ⌜ ((ls : List ℕ) → afterChange (viewing root party q ls (now (pages .entry))) (now (pages .exit)) r ≡ Rebuild.step10 (viewing root party q ls (now (pages .entry)))) ⌝ }
 {
-    let g = chain_keys::gather(root, ChainAddress(party.chain), n, &pages[..], keys);
-    if !g.ok {
+    let Gathered::Sound(g) = chain_keys::gather(
+        root,
+        ChainAddress(party.chain),
+        n,
+        &pages[..],
+        keys,
+    ) else {
         return Changed::Damaged;
-    }
+    };
     let count = g.count;
     let at = entries::below(&keys[0..count], party.key);
     let found = entries::has_at(&keys[0..count], at, party.key);

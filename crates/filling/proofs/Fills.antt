@@ -1,15 +1,19 @@
 -- Overflow pages filled one after the other: one turn, over the model's filled.
--- Main statements: rest-run, whole-run (a page's share of the keys); first-link, no-link; page-filled (a turn), all-filled (the end).
+-- Main statements: rest-run, whole-run (a page's share of the keys); first-link, no-link; page-filled (a turn), all-filled (the end); overflow-fillable.
 use mathlib.Core.Path.{_≡_, sym, ap, _∙_}
-use mathlib.Core.List.{List}
-use Prim.Native.Nat.{ℕ, _+_, _-_, _≤_, _<_}
+use mathlib.Core.List.{List, [], _∷_}
+use Prim.Native.Nat.{ℕ, zero, suc, _+_, _-_, _*_, _≤_, _<_}
 use native.Mathlib.Numerals.{add-one}
 use native.Mathlib.Omega.{arith}
 use lib.ListN.{length, getD, take, drop, length-drop, drop-of-length-le}
 use lib.Seq.{drop-cons, drop-drop, take-all}
+use Rattle.model.specs.declared.Root.{Root}
+use Rattle.model.specs.Sizes.{pageWords}
 use Rattle.model.specs.Pages.{withPage, filledPage, linkToFirst}
 use Rattle.model.specs.Filling.{filled}
-use Rattle.filling.specs.Fills.{Run}
+use Rattle.model.proofs.Laws.Lists.{All}
+use Rattle.model.proofs.Laws.Filling.{IsOverflow}
+use Rattle.filling.specs.Fills.{Run, Fillable}
 
 -- ---- A page's share
 
@@ -61,3 +65,16 @@ module _ (b : ℕ) (ps xs : List ℕ) (i : ℕ) where
   pub all-filled : (es : List ℕ) → length xs ≤ i → filled b ps (drop i xs) es ≡ ps
   unfolding filled
   all-filled es h = ap (λ (ys : List ℕ). filled b ps ys es) (drop-of-length-le xs h)
+
+-- ---- Overflow pages can be filled
+
+all-at : (r : Root) (xs : List ℕ) → All (IsOverflow r) xs → (i : ℕ) → i < length xs → IsOverflow r (getD xs i 0)
+all-at r [] a i h = absurd (omega arith)
+all-at r (x ∷ xs) a zero h = a .0
+all-at r (x ∷ xs) a (suc i) h = all-at r xs (a .1) i (omega arith)
+
+pub overflow-fillable : (r : Root) (ps xs : List ℕ) → r .primaries ≤ 256 → r .overflow ≤ 752 → pageWords * (r .primaries + r .overflow) ≤ length ps → All (IsOverflow r) xs → Fillable ps xs
+overflow-fillable r ps xs primaries overflow fits a = record {
+  fits = λ i h. let o = all-at r xs a i h in omega (arith, o .below);
+  links = λ i h. let o = all-at r xs a i h in omega (arith, o .below);
+}

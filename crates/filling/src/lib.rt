@@ -16,6 +16,7 @@ use model::LINK_WORD;
 use model::PAGE_WORDS;
 use model::Page;
 use model::PageAddress;
+use model::RECORD_WORDS;
 
 // "m keys need ceil(m/b) − 1 overflow pages, none for m = 0".
 pub fn pages_for(b: u32, m: usize) -> usize
@@ -41,7 +42,7 @@ fn page_words(level: u32, keys: &[u32], link: u32) -> Page
     w[LINK_WORD] = link;
     let mut i = 0;
     while i < keys.len() {
-        w[FIRST_RECORD + i] = keys[i];
+        w[FIRST_RECORD + i * RECORD_WORDS] = keys[i];
         i += 1;
     }
     w

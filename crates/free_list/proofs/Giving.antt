@@ -1,5 +1,5 @@
 -- A list given back page by page while its links are read: one turn, over the model's givenBack.
--- Main statements: all-to-give (the start), one-given (a turn), all-given (the end); same-sizes (giving back leaves the sizes).
+-- Main statements: walked-at-most (a list walked has at most V pages); all-to-give (the start), one-given (a turn), all-given (the end); same-sizes, free-list-kept (giving back leaves the rest of the root record).
 use mathlib.Core.Path.{_≡_, refl, sym, ap, _∙_}
 use mathlib.Core.Bool.{true}
 use mathlib.Core.List.{List, [], _∷_}
@@ -8,24 +8,33 @@ use native.Mathlib.Omega.{arith}
 use lib.ListN.{length}
 use Rattle.model.specs.declared.Root.{Root}
 use Rattle.model.specs.Sizes.{pageWords}
-use Rattle.model.specs.Pages.{pageOf, withPage, linkOf, freePage, filledPage, linkSound}
+use Rattle.model.specs.Pages.{pageOf, withPage, linkOf, freePage, linkSound, linkToFirst}
 use Rattle.model.specs.Chains.{Checked, damaged, sound, listFrom}
 use Rattle.model.specs.FreeList.{GivenBack, givenBack}
+use Rattle.model.proofs.Laws.Lists.{All}
+use Rattle.model.proofs.Laws.Pages.{Has, length-freePage}
+use Rattle.model.proofs.Laws.Structure.{linked-frame}
+use Rattle.model.proofs.Laws.Filling.{Chained, IsOverflow}
+use Rattle.model.proofs.Laws.Walks.{walked-chained, linked-overflow, linked-distinct, same-beside}
 use Rattle.chains.specs.Walks.{counted}
 use Rattle.chains.specs.declared.Walked.the-variants as Walked
-use Rattle.chains.proofs.Tests.{named-within}
-use Rattle.chains.proofs.Lists.{LeadsTo, ends, goes-on, walked-leads, later-apart, leads-after}
 use Rattle.model.specs.Records.{withFreeList}
 use Rattle.free_list.specs.Giving.{listed, Returned, returned, afterGiving}
 
-pub length-freePage : (h : ℕ) → length (freePage h) ≡ pageWords
-unfolding freePage filledPage
-length-freePage h = refl
+-- A list that was walked without damage has at most V pages.
+pub walked-at-most : (r : Root) (ps : List ℕ) (l n : ℕ) → counted (listFrom r ps l) ≡ Walked.Pages n → n ≤ r .overflow
+unfolding listFrom
+walked-at-most r ps l n e = go (listFrom r ps l) refl e
+  where
+    go : (x : Checked (List ℕ)) → x ≡ listFrom r ps l → counted x ≡ Walked.Pages n → n ≤ r .overflow
+    go damaged ex e = absurd (let z : _≡_ {A = ℕ} 0 1 = cc in omega arith)
+    go (sound xs) ex e = let count : length xs ≡ n = cc in omega (arith, walked-chained r ps (r .overflow) l xs (sym ex) .1)
 
 -- In memory ps the list at l has `left` pages, and giving them back to the free list at head leaves `whole`.
 pub record ToGive (r : Root) (whole : GivenBack) (ps : List ℕ) (head l left : ℕ) : Type 0 where
   pub rest : List ℕ
-  pub leads : LeadsTo r ps l rest
+  pub chained : Chained r ps l rest
+  pub overflow : All (IsOverflow r) rest
   pub count : length rest ≡ left
   pub same : whole ≡ givenBack ps head rest
 
@@ -37,36 +46,40 @@ all-to-give r ps head first n s e = go (listFrom r ps first) refl e
   where
     go : (x : Checked (List ℕ)) → x ≡ listFrom r ps first → counted x ≡ Walked.Pages n → ToGive r (givenBack ps head (listed x)) ps head first n
     go damaged ex e = absurd (let z : _≡_ {A = ℕ} 0 1 = cc in omega arith)
-    go (sound xs) ex e = record { rest = xs; leads = walked-leads r ps (r .overflow) first xs s (sym ex); count = cc; same = refl }
+    go (sound xs) ex e =
+        let found = walked-chained r ps (r .overflow) first xs (sym ex) .0 in
+        record { rest = xs; chained = found; overflow = linked-overflow r ps xs (rw (found .first) at s) (found .linked); count = cc; same = refl }
 
 module _ (r : Root) (whole : GivenBack) (ps : List ℕ) (head left : ℕ) (more : 0 < left) where
-  first-within : {l : ℕ} {xs : List ℕ} → LeadsTo r ps l xs → length xs ≡ left → (r .primaries < l) × (l ≤ r .primaries + r .overflow)
-  first-within ends count = absurd (omega arith)
-  first-within (goes-on {l} named u) count = named-within r l named
-
-  first-given : pageWords * (r .primaries + r .overflow) ≤ length ps → {l : ℕ} {xs : List ℕ} → LeadsTo r ps l xs → length xs ≡ left → whole ≡ givenBack ps head xs
-      → ToGive r whole (withPage ps (l - 1) (freePage head)) l (linkOf (pageOf ps (l - 1))) (left - 1)
-  unfolding givenBack
-  first-given fits ends count same = absurd (omega arith)
-  first-given fits (goes-on {l} {xs} named u) count same =
-      let w = named-within r l named in
-      let within : (l - 1) * pageWords + pageWords ≤ length ps = omega (arith, w .0, w .1) in
-      let again : l - 1 + 1 ≡ l = omega (arith, w .0) in
-      record {
-        rest = xs;
-        leads = leads-after r ps (l - 1) (freePage head) within (length-freePage head) u (later-apart r ps named (goes-on named u) u (omega arith));
-        count = omega arith;
-        same = same ∙ ap (λ (h : ℕ). givenBack (withPage ps (l - 1) (freePage head)) h xs) again;
-      }
-
   -- The next page is an overflow page.
   pub next-within : (l : ℕ) → ToGive r whole ps head l left → (r .primaries < l) × (l ≤ r .primaries + r .overflow)
-  next-within l g = first-within (g .leads) (g .count)
+  unfolding linkToFirst
+  next-within l g = go (g .rest) (g .count) (g .chained .first) (g .overflow)
+    where
+      go : (xs : List ℕ) → length xs ≡ left → l ≡ linkToFirst xs → All (IsOverflow r) xs → (r .primaries < l) × (l ≤ r .primaries + r .overflow)
+      go [] count first a = absurd (omega arith)
+      go (x ∷ xs) count first a = (omega (arith, first, a .0 .above), omega (arith, first, a .0 .below))
 
   -- The next page becomes the head; its link was read before.
   pub one-given : (l : ℕ) → pageWords * (r .primaries + r .overflow) ≤ length ps → ToGive r whole ps head l left → {ps′ : List ℕ} {head′ l′ left′ : ℕ}
       → ps′ ≡ withPage ps (l - 1) (freePage head) → head′ ≡ l → l′ ≡ linkOf (pageOf ps (l - 1)) → left′ ≡ left - 1 → ToGive r whole ps′ head′ l′ left′
-  one-given l fits g e₁ e₂ e₃ e₄ = rw (e₁, e₂, e₃, e₄) (first-given fits (g .leads) (g .count) (g .same))
+  unfolding givenBack linkToFirst
+  one-given l fits g e₁ e₂ e₃ e₄ = rw (e₁, e₂, e₃, e₄) (go (g .rest) (g .chained) (g .overflow) (g .count) (g .same))
+    where
+      go : (xs : List ℕ) → Chained r ps l xs → All (IsOverflow r) xs → length xs ≡ left → whole ≡ givenBack ps head xs
+          → ToGive r whole (withPage ps (l - 1) (freePage head)) l (linkOf (pageOf ps (l - 1))) (left - 1)
+      go [] h a count same = absurd (omega arith)
+      go (x ∷ xs) h a count same =
+          let has : Has ps x = record { fits = omega (arith, a .0 .below) } in
+          let kept = same-beside ps x (freePage head) xs has (length-freePage head) (linked-distinct r ps (x ∷ xs) (h .linked) .0) in
+          let here : l - 1 ≡ x = omega (arith, h .first) in
+          rw here record {
+            rest = xs;
+            chained = record { first = h .linked .1; linked = linked-frame r ps (withPage ps x (freePage head)) xs kept (h .linked .2) };
+            overflow = a .1;
+            count = omega arith;
+            same = same ∙ ap (λ (k : ℕ). givenBack (withPage ps x (freePage head)) k xs) (sym (h .first));
+          }
 
 -- Nothing is left.
 pub all-given : (r : Root) (whole : GivenBack) (ps : List ℕ) (head l left : ℕ) → left ≤ 0 → ToGive r whole ps head l left → whole ≡ record { pages = ps; head = head }
@@ -90,3 +103,7 @@ returned-all r r′ ps ps′ xs head n g count e = rw (e, g, count) refl
 -- Giving back leaves the sizes.
 pub same-sizes : (r r′ : Root) (ps ps′ xs : List ℕ) → returned r′ ps′ ≡ afterGiving r ps xs → (r′ .primaries ≡ r .primaries) × (r′ .overflow ≡ r .overflow)
 same-sizes r r′ ps ps′ xs g = (ap (λ (x : Returned). x .root .primaries) g, ap (λ (x : Returned). x .root .overflow) g)
+
+-- The root record differs in its free list alone.
+pub free-list-kept : (r r′ : Root) (ps ps′ xs : List ℕ) → returned r′ ps′ ≡ afterGiving r ps xs → withFreeList (r′ .head) (r′ .free) r ≡ r′
+free-list-kept r r′ ps ps′ xs g = rw (ap (λ (x : Returned). x .root) g) refl

@@ -13,9 +13,9 @@ use lib.Dec.{lit<}
 use Rattle.model.specs.declared.Root.{Root}
 use Rattle.model.specs.LockWords.{fieldOf}
 use Rattle.model.specs.Pages.{namesOverflow}
-use Rattle.model.proofs.Laws.Lists.{Cmp, same, diff, cmp}
+use Rattle.model.proofs.Laws.Lists.{Cmp, same, diff, cmp, and-both}
 use Rattle.model.proofs.Laws.Fields.{field-same, bit-other}
-use Rattle.chains.proofs.Tests.{and-true, named-within}
+use Rattle.model.proofs.Laws.Tests.{named-within}
 use Rattle.free_list.specs.Marks.{isMarked, withMark, namesNew, marksWith}
 
 -- No bit of 0 is set.
@@ -57,7 +57,7 @@ module _ (r : Root) (marks : List ℕ) (l : ℕ) where
 
   pub new-within : namesNew r marks l ≡ true → (r .primaries < l) × (l ≤ r .primaries + r .overflow)
   unfolding namesNew
-  new-within e = named-within r l (and-true (namesOverflow r l) (not (isMarked marks (l - 1 - r .primaries))) e .0)
+  new-within e = named-within r l (and-both (namesOverflow r l) (not (isMarked marks (l - 1 - r .primaries))) e .0)
 
   pub new-marksWith : namesNew r marks l ≡ true → marksWith r marks l ≡ withMark marks (l - 1 - r .primaries)
   unfolding marksWith

@@ -17,7 +17,7 @@ use Rattle.model.specs.Pages.{pageOf, linkOf, namesOverflow}
 use Rattle.model.specs.Chains.{Checked, damaged, sound, andThen}
 use Rattle.model.specs.FreeList.{Taken, isAmong, alsoTaken, takenFrom, pagesTaken}
 use Rattle.model.proofs.Laws.Lists.{Told, holds, fails, tell, Cmp, same, diff, cmp, eqb-same, eqb-diff}
-use Rattle.chains.proofs.Tests.{named-within}
+use Rattle.model.proofs.Laws.Tests.{named-within}
 use Rattle.free_list.specs.Marks.{isMarked, withMark, namesNew, marksWith}
 pub use Rattle.free_list.proofs.Linked.{taken-drawn as taken-overflow}
 use Rattle.free_list.proofs.Marks.{none-marked, marked-same, marked-other, new-within, new-marksWith}

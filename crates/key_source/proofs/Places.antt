@@ -1,27 +1,31 @@
 -- Places in a chain: the keys from a place on, key by key and page by page.
 -- Main statements: first-sits, first-keys (a page's first key); next-start, page-over, none-left (a page without a key left); first-key, onward-sits (one key further);
--- length-keysAt (how many keys there are at most).
+-- length-keysAt (how many keys there are at most); chain-starts, chain-records (a chain that was looked through whole).
 use mathlib.Core.Path.{_≡_, refl, sym, ap, _∙_}
 use mathlib.Core.List.{List, [], _∷_, _++_}
 use Prim.Native.Nat.{ℕ, zero, suc, _+_, _-_, _*_, _≤_, _<_}
 use native.Mathlib.Numerals.{add-one}
 use native.Mathlib.Omega.{arith}
 use lib.ListN.{length, getD, take, drop, length-append, length-take}
-use lib.Seq.{getD-take, getD-drop, drop-cons, drop-drop}
+use lib.Seq.{drop-cons, drop-drop}
+use Rattle.model.specs.declared.Root.{Root}
 use Rattle.model.specs.Sizes.{pageWords, mostRecords}
 use Rattle.model.specs.Entries.{Entry}
 use Rattle.model.specs.Pages.{pageOf, countOf, linkOf, entriesOf}
-use Rattle.chain_keys.specs.Gathering.{entriesFrom, Followed}
-use Rattle.chain_keys.proofs.Following.{next-page, entries-next, entries-none}
+use Rattle.model.proofs.Laws.Lists.{all-map}
+use Rattle.model.specs.Chains.{sound, Chain, listFrom, entriesOn, readChain, chainOf}
+use Rattle.model.proofs.Laws.Tests.{sound-page-links, sound-page-counts}
+use Rattle.model.proofs.Laws.Walks.{walked-chained, length-entriesOn}
+use Rattle.chains.specs.Links.{linkedPages}
+use Rattle.chains.proofs.Walking.{count-at, link-at}
+use Rattle.chains.proofs.Links.{length-linkedPages, leads-all, next-page}
+use Rattle.chain_keys.specs.Gathering.{CanWalk, entriesFrom, Followed}
+use Rattle.chain_keys.proofs.Following.{Walks, walked-walks, entries-next, entries-none}
+use Rattle.chain_keys.proofs.WholeChain.{Reads, chain-reads}
 use Rattle.key_source.specs.declared.Place.{Place}
 use Rattle.key_source.specs.Sources.{keysAt, Sits, CanStart, onward}
 
 -- ---- A page's first key
-
--- Words of a page, as words of the memory.
-pub word-of : (ps : List ℕ) (page i : ℕ) → i < pageWords → getD (pageOf ps page) i 0 ≡ getD ps (page * pageWords + i) 0
-unfolding pageOf
-word-of ps page i h = getD-take pageWords (drop (page * pageWords) ps) i 0 h ∙ getD-drop (page * pageWords) ps i 0
 
 -- Some words of a front, after the first m.
 part-of-front : (m k n : ℕ) (l : List ℕ) → m + k ≤ n → take k (drop m (take n l)) ≡ take k (drop m l)
@@ -38,20 +42,12 @@ module _ (ps : List ℕ) (page n : ℕ) (can : CanStart ps page n) where
   abbrev firstPlace : Place
   firstPlace = record { at = page * 16 + 3; left = getD ps (page * 16 + 1) 0; link = getD ps (page * 16 + 2) 0; pages = n }
 
-  count-read : getD ps (page * 16 + 1) 0 ≡ countOf (pageOf ps page)
-  unfolding countOf
-  count-read = sym (word-of ps page 1 (omega arith))
-
-  link-read : getD ps (page * 16 + 2) 0 ≡ linkOf (pageOf ps page)
-  unfolding linkOf
-  link-read = sym (word-of ps page 2 (omega arith))
-
   pub first-sits : Sits ps firstPlace
   first-sits = record {
-    within = omega (arith, count-read, can .fits, can .few);
-    few = omega (arith, count-read, can .few);
+    within = omega (arith, count-at ps page, can .fits, can .few);
+    few = omega (arith, count-at ps page, can .few);
     few-pages = can .few-pages;
-    followed = rw link-read (can .followed);
+    followed = rw (link-at ps page) (can .followed);
   }
 
   keys-read : take (countOf (pageOf ps page)) (drop (page * 16 + 3) ps) ≡ entriesOf (pageOf ps page)
@@ -62,7 +58,7 @@ module _ (ps : List ℕ) (page n : ℕ) (can : CanStart ps page n) where
 
   pub first-keys : keysAt ps firstPlace ≡ entriesOf (pageOf ps page) ++ entriesFrom ps n (linkOf (pageOf ps page))
   unfolding keysAt
-  first-keys = rw (count-read, link-read, keys-read)
+  first-keys = rw (count-at ps page, link-at ps page, keys-read)
 
 -- ---- A page without a key left
 
@@ -80,7 +76,7 @@ module _ (ps : List ℕ) (p : Place) (sits : Sits ps p) where
   pub next-start : 0 < p .pages → CanStart ps (p .link - 1) (p .pages - 1)
   next-start h =
       let next = next-page ps h (sits .followed) in
-      record { fits = next .fits; few = next .few; few-pages = omega (arith, sits .few-pages); followed = next .rest }
+      record { fits = next .page .fits; few = next .page .few; few-pages = omega (arith, sits .few-pages); followed = next .rest }
 
   pub page-over :
       p .left ≡ 0 → 0 < p .pages → keysAt ps p ≡ entriesOf (pageOf ps (p .link - 1)) ++ entriesFrom ps (p .pages - 1) (linkOf (pageOf ps (p .link - 1)))
@@ -110,12 +106,34 @@ module _ (ps : List ℕ) (p : Place) (sits : Sits ps p) where
 -- ---- How many keys there are
 
 length-from : (ps : List ℕ) {n l : ℕ} → Followed ps n l → length (entriesFrom ps n l) ≤ mostRecords * n
-unfolding entriesFrom entriesOf
-length-from ps (Followed.none l) = omega arith
-length-from ps (Followed.also n l h f k rest) =
-    let w = pageOf ps (l - 1) in
-    rw (length-append, length-take) (omega (arith, length-from ps rest))
+unfolding entriesFrom
+length-from ps {n} {l} f =
+    let few = all-map (linkedPages ps n l) (λ x h. h .few) (leads-all ps f) in
+    omega (arith, length-entriesOn mostRecords ps (linkedPages ps n l) few, length-linkedPages ps n l)
 
 pub length-keysAt : (ps : List ℕ) (p : Place) → Sits ps p → length (keysAt ps p) ≤ mostRecords * 753
 unfolding keysAt
 length-keysAt ps p sits = rw (length-append, length-take) (omega (arith, length-from ps (sits .followed), sits .few, sits .few-pages))
+
+-- ---- A chain that was looked through whole can be read again, from its primary page on
+
+module _ (r : Root) (ps : List ℕ) (c : ℕ) (keys : r .capacity ≤ mostRecords) (overflow : r .overflow ≤ 752) (can : CanWalk r ps c) (d : Chain) (found : chainOf r ps c ≡ sound d) where
+  reads : Reads r ps c d
+  reads = chain-reads r ps c d found
+
+  walks : Walks ps (linkOf (pageOf ps c)) (reads .xs)
+  unfolding listFrom
+  walks = walked-walks r ps keys (can .pages-fit) (r .overflow) (linkOf (pageOf ps c)) (reads .xs) (sound-page-links r (pageOf ps c) (reads .page-sound)) (reads .listed)
+
+  pub chain-starts : CanStart ps c (length (d .pages))
+  unfolding readChain listFrom
+  chain-starts = rw (← reads .chain-is) record {
+    fits = omega (arith, can .chain-fits, can .pages-fit);
+    few = omega (arith, sound-page-counts r (pageOf ps c) (reads .page-sound), keys);
+    few-pages = omega (arith, walked-chained r ps (r .overflow) (linkOf (pageOf ps c)) (reads .xs) (reads .listed) .1, overflow);
+    followed = walks .followed;
+  }
+
+  pub chain-records : entriesOf (pageOf ps c) ++ entriesFrom ps (length (d .pages)) (linkOf (pageOf ps c)) ≡ d .entries
+  unfolding readChain entriesOn
+  chain-records = rw (← reads .chain-is) (ap (λ (es : List ℕ). entriesOf (pageOf ps c) ++ es) (walks .entries))

@@ -16,8 +16,9 @@ use model::FIRST_RECORD;
 use model::LINK_WORD;
 use model::PAGE_WORDS;
 use model::PageAddress;
+use model::RECORD_WORDS;
 
-// A place in a chain: the word of the next key, how many keys its page has from there on, the page's link, and how many pages that leads to.
+// A place in a chain: the first word of the next record, how many keys its page has from there on, the page's link, and how many pages that leads to.
 pub struct Place {
     pub at: usize,
     pub left: u32,
@@ -83,13 +84,13 @@ fn settled(pages: &[u32], p: Place) -> Place
     q
 }
 
-// One key further on the same page.
+// One record further on the same page.
 fn passed(p: Place) -> Place
     requires { ⌜ (1 ≤ p .left) × (p .at + 1 < 2 ^ 64) ⌝ }
     ensures { λ r. ⌜ r ≡ onward p ⌝ }
 {
     let mut q = p;
-    q.at = p.at + 1;
+    q.at = p.at + RECORD_WORDS;
     q.left = p.left - 1;
     q
 }

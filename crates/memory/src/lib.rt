@@ -4,9 +4,10 @@
 ghost use mathlib.Core.Path.{_≡_};
 ghost use lib.ListN.{length, replicate};
 ghost use Rattle.model.specs.Sizes.{allPageWords};
-ghost use Rattle.model.specs.Records.{rootOfSizes};
+ghost use Rattle.model.specs.Records.{rootSized};
 ghost use Rattle.model.specs.Memory.{formattedRoot, formattedPages, formatted};
 ghost use Rattle.memory.specs.Lent.{CanFormat, SizesFit};
+use model::FileSizes;
 use model::PageAddress;
 use model::Root;
 
@@ -26,24 +27,16 @@ fn list_overflow(root: Root, pages: &mut [u32]) -> u32
     link
 }
 
-// Format with the sizes N b P V Q, over lent words of the lengths that these ask for.
-pub fn format_words(
-    n: u32,
-    b: u32,
-    p: u32,
-    v: u32,
-    q: u32,
-    locks: &mut [u32],
-    pages: &mut [u32],
-) -> Root
-    requires { ⌜ CanFormat (rootOfSizes n b p v q) (length (now locks)) (length (now pages)) ⌝ }
-    ensures { λ r. ⌜ (r ≡ formatted (rootOfSizes n b p v q) .root) × (now (locks .exit) ≡ formatted (rootOfSizes n b p v q) .locks) × (now (pages .exit) ≡ formatted (rootOfSizes n b p v q) .pages) ⌝ }
+// Format with these sizes, over lent words of the lengths that they ask for.
+pub fn format_words(sizes: FileSizes, locks: &mut [u32], pages: &mut [u32]) -> Root
+    requires { ⌜ CanFormat (rootSized sizes) (length (now locks)) (length (now pages)) ⌝ }
+    ensures { λ r. ⌜ (r ≡ formatted (rootSized sizes) .root) × (now (locks .exit) ≡ formatted (rootSized sizes) .locks) × (now (pages .exit) ≡ formatted (rootSized sizes) .pages) ⌝ }
 {
     pages::zero(locks);
     pages::zero(pages);
-    let mut root = records::root_of_sizes(n, b, p, v, q);
+    let mut root = records::root_of_sizes(sizes);
     let head = list_overflow(root, pages);
     root.head = head;
-    root.free = v;
+    root.free = sizes.overflow;
     root
 }

@@ -1,5 +1,6 @@
 -- Step 26 by its cases: which test refuses it or ends the operation, and what it leaves where none does.
--- Main statements: front-need; unsound-damaged, too-few-skipped, unbuilt-damaged, built-made (the joined keys in new pages); barred-refused, open-joins, ending-is (the step);
+-- Main statements: front-need; too-few-skipped, unbuilt-damaged, built-made (the joined keys in new pages); barred-refused, unsound-damaged, sound-combines, open-joins,
+-- ending-is (the step);
 -- can-join, ready-can-merge, still-at-hand (what each part needs).
 use mathlib.Core.Path.{_≡_, refl, sym, ap, ap₂, _∙_}
 use mathlib.Core.Bool.{true, false}
@@ -62,35 +63,31 @@ module _ (r : Root) (p : Party) (q : ℕ) (ls ps : List ℕ) {d : Drawn} {ps′ 
       let head : h ≡ t .head = cc in
       rw (head, ap (λ (c : Chained). c .pages) e, ← joins) refl
 
-module _ (r : Root) (p : Party) (q : ℕ) (ls ps : List ℕ) (x : Checked Pair) where
-  pub unsound-damaged : x ≡ damaged → endingAs Combined.Damaged (viewing r p q ls ps) ≡ joinedWith (viewing r p q ls ps) x
-  unsound-damaged e = rw e refl
+-- The two chains are m, and their joined records es need k pages.
+module _ (r : Root) (p : Party) (q : ℕ) (ls ps : List ℕ) (m : Pair) (es : List Entry) (joins : es ≡ joinedEntries m) (k : ℕ) (many : k ≡ pagesFor (r .capacity) es) where
+  pub too-few-skipped : r .free < k → endingAs Combined.Skipped (viewing r p q ls ps) ≡ combineWith (viewing r p q ls ps) m
+  unfolding combineWith mergeGoes tooFew
+  too-few-skipped f = rw (← joins, ← many, lt-ltb (r .free) k f) refl
 
-  -- x are the two chains m, and their joined records es need k pages.
-  module _ (m : Pair) (is : x ≡ sound m) (es : List Entry) (joins : es ≡ joinedEntries m) (k : ℕ) (many : k ≡ pagesFor (r .capacity) es) where
-    pub too-few-skipped : r .free < k → endingAs Combined.Skipped (viewing r p q ls ps) ≡ joinedWith (viewing r p q ls ps) x
+  module _ (enough : k ≤ r .free) where
+    enough-builds : checked (viewing r p q ls ps) (pagesTaken r ps (pagesFor (r .capacity) es)) (λ t. combined (viewing r p q ls ps) m t) ≡ combineWith (viewing r p q ls ps) m
     unfolding combineWith mergeGoes tooFew
-    too-few-skipped f = rw (is, ← joins, ← many, lt-ltb (r .free) k f) refl
+    enough-builds = rw (← joins, ← many, le-ltb (r .free) k enough) refl
 
-    module _ (enough : k ≤ r .free) where
-      enough-builds : checked (viewing r p q ls ps) (pagesTaken r ps (pagesFor (r .capacity) es)) (λ t. combined (viewing r p q ls ps) m t) ≡ joinedWith (viewing r p q ls ps) x
-      unfolding combineWith mergeGoes tooFew
-      enough-builds = rw (is, ← joins, ← many, le-ltb (r .free) k enough) refl
+    -- d and ps′ are what building the chain answered and left.
+    module _ {level : ℕ} (levels : level ≡ m .target .level) {d : Drawn} {ps′ : List ℕ} (built : chained d ps′ ≡ builtChain r q ps level es) where
+      pub unbuilt-damaged : d ≡ Drawn.Damaged → endingAs Combined.Damaged (viewing r p q ls ps′) ≡ combineWith (viewing r p q ls ps) m
+      unfolding builtChain
+      unbuilt-damaged e = none-taken r p q ls ps (pagesTaken r ps (pagesFor (r .capacity) es)) _ _ built e ∙ enough-builds
 
-      -- d and ps′ are what building the chain answered and left.
-      module _ {level : ℕ} (levels : level ≡ m .target .level) {d : Drawn} {ps′ : List ℕ} (built : chained d ps′ ≡ builtChain r q ps level es) where
-        pub unbuilt-damaged : d ≡ Drawn.Damaged → endingAs Combined.Damaged (viewing r p q ls ps′) ≡ joinedWith (viewing r p q ls ps) x
-        unfolding builtChain
-        unbuilt-damaged e = none-taken r p q ls ps (pagesTaken r ps (pagesFor (r .capacity) es)) _ _ built e ∙ enough-builds
-
-        pub built-made : {h n link : ℕ} → d ≡ Drawn.Head h → n ≡ r .free - k → link ≡ m .target .link
-            → endingAs (Combined.Made h n link) (viewing r p q ls ps′) ≡ joinedWith (viewing r p q ls ps) x
-        unfolding builtChain
-        built-made {h} e en el =
-            let whole = built ∙ ap (λ (l : ℕ). builtChain r q ps l es) levels in
-            ap₂ (λ (y z : ℕ). endingAs (Combined.Made h y z) (viewing r p q ls ps′)) (en ∙ ap (λ (y : ℕ). r .free - y) many) el
-            ∙ some-taken r p q ls ps m es joins (pagesTaken r ps (pagesFor (r .capacity) es)) whole e
-            ∙ enough-builds
+      pub built-made : {h n link : ℕ} → d ≡ Drawn.Head h → n ≡ r .free - k → link ≡ m .target .link
+          → endingAs (Combined.Made h n link) (viewing r p q ls ps′) ≡ combineWith (viewing r p q ls ps) m
+      unfolding builtChain
+      built-made {h} e en el =
+          let whole = built ∙ ap (λ (l : ℕ). builtChain r q ps l es) levels in
+          ap₂ (λ (y z : ℕ). endingAs (Combined.Made h y z) (viewing r p q ls ps′)) (en ∙ ap (λ (y : ℕ). r .free - y) many) el
+          ∙ some-taken r p q ls ps m es joins (pagesTaken r ps (pagesFor (r .capacity) es)) whole e
+          ∙ enough-builds
 
 -- ---- The step
 
@@ -98,6 +95,13 @@ module _ (v : View) where
   pub barred-refused : mergeStops (v .root) ≡ true → refuse damage v ≡ step26 v
   unfolding step26
   barred-refused e = rw e refl
+
+  module _ {x : Checked Pair} where
+    pub unsound-damaged : x ≡ damaged → refuse damage v ≡ joinedWith v x
+    unsound-damaged e = rw e refl
+
+    pub sound-combines : {m : Pair} → x ≡ sound m → combineWith v m ≡ joinedWith v x
+    sound-combines e = rw e refl
 
   pub open-joins : mergeStops (v .root) ≡ false → joinedBoth v ≡ step26 v
   unfolding step26

@@ -1,7 +1,6 @@
 -- Step 26 in its parts: what each part needs of the memory and of the buffers, and what it comes to.
--- Main definitions: endingAs (what the step then leaves), joinedWith and joinedBoth (the model's step once a merge is not barred); CanCombine, CanMerge, BothWalked, JoinedFrom.
+-- Main definitions: endingAs (what the step then leaves), joinedWith and joinedBoth (the model's step once a merge is not barred); CanCombine, CanMerge, BothWalked.
 use mathlib.Core.Path.{_≡_}
-use mathlib.Core.Bool.{true, false}
 use mathlib.Core.List.{List}
 use Prim.Native.Nat.{ℕ, _^_, _≤_, _<_}
 use lib.ListN.{length}
@@ -9,7 +8,7 @@ use Rattle.model.specs.declared.Root.{Root}
 use Rattle.model.specs.declared.Party.{Party}
 use Rattle.model.specs.declared.Restructuring.the-variants as Restructuring
 use Rattle.model.specs.Records.{atStep, withOld, withFreeList}
-use Rattle.model.specs.Chains.{Checked, damaged}
+use Rattle.model.specs.Chains.{Checked}
 use Rattle.model.specs.Outcome.{View, Outcome, withRoot, withParty, refuse, damage, moved, checked}
 use Rattle.model.specs.Endings.{endedWith}
 use Rattle.model.specs.Steps.MergeBuild.{Pair, pairOf, combineWith}
@@ -17,10 +16,9 @@ use Rattle.model.specs.Steps.MergeLocks.{mergeLocks}
 use Rattle.model.specs.LockRequests.{rootExclusive}
 use Rattle.chains.specs.Walks.{counted}
 use Rattle.chains.specs.declared.Walked.the-variants as Walked
+use Rattle.chain_keys.specs.declared.Front.{Front}
 use Rattle.chain_keys.specs.Gathering.{overflowOf, CanWalk}
 use Rattle.merge_chain.specs.Building.{CanBuild}
-use Rattle.merge_join.specs.declared.Joined.{Joined}
-use Rattle.merge_join.specs.Joining.{JoinedPair}
 use Rattle.merge_build.specs.declared.Combined.{Combined}
 use Rattle.merge_build.specs.declared.Combined.the-variants as Combined
 
@@ -39,17 +37,12 @@ abbrev pub joinedBoth : View → Outcome
 joinedBoth v = joinedWith v (pairOf (v .root) (v .pages) (v .party .chain) (v .party .other))
 
 -- The sizes are within their limits, the keys joined stand in the buffer, and there is room for every overflow page.
-pub record CanCombine (r : Root) (q : ℕ) (j : Joined) (ps out taken : List ℕ) : Type 0 where
+pub record CanCombine (r : Root) (q : ℕ) (j : Front) (ps out taken : List ℕ) : Type 0 where
   pub can-build : CanBuild r q ps
   pub some-key : 1 ≤ r .capacity
-  pub fits : j .ok ≡ true → j .count ≤ length out
+  pub fits : j .count ≤ length out
   pub few : length out < 2 ^ 32
   pub taken-room : 752 ≤ length taken
-
--- What was joined is what was found of the two chains x.
-pub record JoinedFrom (x : Checked Pair) (j : Joined) (out : List ℕ) : Type 0 where
-  pub unsound : j .ok ≡ false → x ≡ damaged
-  pub joined : j .ok ≡ true → JoinedPair x j out
 
 -- The sizes are within their limits, and target and partner are chains.
 pub record CanMerge (r : Root) (p : Party) (q : ℕ) (ps : List ℕ) : Type 0 where

@@ -4,16 +4,17 @@
 ghost use mathlib.Core.Path.{_≡_};
 ghost use mathlib.Core.List.{List};
 ghost use Prim.Native.Nat.{ℕ, _+_, _<_};
-ghost use lib.ListN.{length};
+ghost use lib.ListN.{length, take};
 ghost use Rattle.model.specs.declared.Party.{Party};
-ghost use Rattle.model.specs.Chains.{Checked};
 ghost use Rattle.model.specs.Ready.{viewing};
 ghost use Rattle.model.specs.Steps.MergeBuild as MergeBuild;
 ghost use Rattle.records.specs.Words.{recordWords, rootIn, seen, left, AtHand};
-ghost use Rattle.merge_build.specs.Combining.{endingAs, joinedWith, joinedBoth, CanCombine, CanMerge, BothWalked, JoinedFrom};
+ghost use Rattle.merge_join.specs.Joining.{frontOfBoth};
+ghost use Rattle.merge_build.specs.Combining.{endingAs, joinedBoth, CanCombine, CanMerge, BothWalked};
+use chain_keys::Front;
+use chain_keys::Gathered;
 use chains::Walked;
 use free_list::Drawn;
-use merge_join::Joined;
 use model::ChainAddress;
 use model::DAMAGE;
 use model::MOST_OVERFLOW;
@@ -39,17 +40,14 @@ enum Combined {
 fn combine_with(
     root: Root,
     q: u32,
-    j: Joined,
+    j: Front,
     out: &[u32],
     pages: &mut [u32],
     taken: &mut [u32],
 ) -> Combined
     requires { ⌜ CanCombine root q j (now pages) (now out) (now taken) ⌝ }
-    ensures { λ r. ⌜ ((p : Party) (ls : List ℕ) (x : Checked MergeBuild.Pair) → JoinedFrom x j (now (out .entry)) → endingAs r (viewing root p q ls (now (pages .exit))) ≡ joinedWith (viewing root p q ls (now (pages .entry))) x) ⌝ }
+    ensures { λ r. ⌜ ((p : Party) (ls : List ℕ) (m : MergeBuild.Pair) → j ≡ frontOfBoth m → take (j .count) (now (out .entry)) ≡ MergeBuild.joinedEntries m → endingAs r (viewing root p q ls (now (pages .exit))) ≡ MergeBuild.combineWith (viewing root p q ls (now (pages .entry))) m) ⌝ }
 {
-    if !j.ok {
-        return Combined::Damaged;
-    }
     let total = j.count;
     let k = filling::pages_for(root.capacity, total);
     if (root.free as usize) < k {
@@ -73,7 +71,7 @@ fn combine_few(root: Root, party: Party, q: u32, n: u32, m: u32, pages: &mut [u3
     let mut a = [0u32; 128];
     let mut b = [0u32; 128];
     let mut out = [0u32; 256];
-    let j = merge_join::join_chains(
+    match merge_join::join_chains(
         root,
         party,
         n,
@@ -82,8 +80,10 @@ fn combine_few(root: Root, party: Party, q: u32, n: u32, m: u32, pages: &mut [u3
         &mut a[..],
         &mut b[..],
         &mut out[..],
-    );
-    combine_with(root, q, j, &out[..], pages, &mut taken[..])
+    ) {
+        Gathered::Damaged => Combined::Damaged,
+        Gathered::Sound(j) => combine_with(root, q, j, &out[..], pages, &mut taken[..]),
+    }
 }
 
 // Step 26 on two chains that were walked. The buffers go by the pages walked.
@@ -98,7 +98,7 @@ fn combine_walked(root: Root, party: Party, q: u32, n: u32, m: u32, pages: &mut 
     let mut a = [0u32; 9040];
     let mut b = [0u32; 9040];
     let mut out = [0u32; 18080];
-    let j = merge_join::join_chains(
+    match merge_join::join_chains(
         root,
         party,
         n,
@@ -107,8 +107,10 @@ fn combine_walked(root: Root, party: Party, q: u32, n: u32, m: u32, pages: &mut 
         &mut a[..],
         &mut b[..],
         &mut out[..],
-    );
-    combine_with(root, q, j, &out[..], pages, &mut taken[..])
+    ) {
+        Gathered::Damaged => Combined::Damaged,
+        Gathered::Sound(j) => combine_with(root, q, j, &out[..], pages, &mut taken[..]),
+    }
 }
 
 // Both chains are walked to their ends, and their keys joined in new pages.

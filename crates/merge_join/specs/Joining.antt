@@ -1,15 +1,17 @@
 -- Both chains of a merge gathered and joined: what that needs of the pages and of the buffers, and what it leaves.
--- Main definitions: CanJoin, JoinedPair.
-use mathlib.Core.Path.{_≡_}
+-- Main definitions: CanJoin; gatheredBoth and entriesInBoth (what was joined in a buffer).
 use mathlib.Core.List.{List}
 use Prim.Native.Nat.{ℕ, _+_, _^_, _≤_, _<_}
-use lib.ListN.{length, take}
+use lib.ListN.{length}
 use Rattle.model.specs.declared.Root.{Root}
 use Rattle.model.specs.declared.Party.{Party}
-use Rattle.model.specs.Chains.{Checked, sound}
+use Rattle.model.specs.Chains.{Checked, damaged, sound, andThen}
+use Rattle.model.specs.Entries.{Entry}
 use Rattle.model.specs.Steps.MergeBuild.{Pair, joinedEntries}
+use Rattle.chain_keys.specs.declared.Front.{Front}
+use Rattle.chain_keys.specs.declared.Gathered.{Gathered}
+use Rattle.chain_keys.specs.declared.Gathered.the-variants as Gathered
 use Rattle.chain_keys.specs.Gathering.{CanGather}
-use Rattle.merge_join.specs.declared.Joined.{Joined}
 
 -- The overflow pages of target and partner were walked, n and m of them, and the buffers have room for the keys of each and of both.
 pub record CanJoin (r : Root) (p : Party) (n m : ℕ) (ps a b out : List ℕ) : Type 0 where
@@ -18,11 +20,15 @@ pub record CanJoin (r : Root) (p : Party) (n m : ℕ) (ps a b out : List ℕ) : 
   pub out-room : length a + length b ≤ length out
   pub few : length out < 2 ^ 32
 
--- The two chains x were looked through whole: what was gathered says the target's fields, and the records of both stand at the front of the buffer.
-pub record JoinedPair (x : Checked Pair) (j : Joined) (out : List ℕ) : Type 0 where
-  pub pair : Pair
-  pub is-sound : x ≡ sound pair
-  pub level : j .level ≡ pair .target .level
-  pub link : j .link ≡ pair .target .link
-  pub fits : j .count ≤ length out
-  pub entries : take (j .count) out ≡ joinedEntries pair
+-- What is said of two chains whose joined records stand at the front of a buffer.
+abbrev pub frontOfBoth : Pair → Front
+frontOfBoth m = record { level = m .target .level; link = m .target .link; count = length (joinedEntries m) }
+
+-- What gathering both chains answers.
+abbrev pub gatheredBoth : Checked Pair → Gathered
+gatheredBoth damaged = Gathered.Damaged
+gatheredBoth (sound m) = Gathered.Sound (frontOfBoth m)
+
+-- The joined records of two chains that were looked through whole.
+abbrev pub entriesInBoth : Checked Pair → Checked (List Entry)
+entriesInBoth x = andThen x (λ m. sound (joinedEntries m))

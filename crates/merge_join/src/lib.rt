@@ -2,35 +2,17 @@
 // Main statement: join_chains finds what the model's pairOf finds of target and partner, for every word that the memory may hold.
 
 ghost use mathlib.Core.Path.{_≡_};
-ghost use mathlib.Core.Bool.{true, false};
-ghost use Rattle.model.specs.Chains.{damaged};
 ghost use Rattle.model.specs.Steps.MergeBuild as MergeBuild;
-ghost use Rattle.merge_join.specs.Joining.{CanJoin, JoinedPair};
+ghost use Rattle.chain_keys.specs.Gathering.{inFront};
+ghost use Rattle.merge_join.specs.Joining.{CanJoin, gatheredBoth, entriesInBoth};
+use chain_keys::Front;
+use chain_keys::Gathered;
 use model::ChainAddress;
 use model::Party;
 use model::Root;
 
-// Both chains of a merge gathered: whether neither they nor a key in both is damage, the target's local level and link, and how many keys both have.
-pub struct Joined {
-    pub ok: bool,
-    pub level: u32,
-    pub link: u32,
-    pub count: usize,
-}
-
-// The answer where a chain or a common key is damage.
-fn unjoined() -> Joined
-    ensures { λ r. ⌜ r .ok ≡ false ⌝ }
-{
-    Joined {
-        ok: false,
-        level: 0,
-        link: 0,
-        count: 0,
-    }
-}
-
-// The keys of both chains, whose n and m overflow pages were walked, joined at the front of `out`; "a key in both halves of a merge" is damage.
+// The keys of both chains, whose n and m overflow pages were walked, joined at the front of `out`, with the target's local level and link;
+// "a key in both halves of a merge" is damage.
 pub fn join_chains(
     root: Root,
     party: Party,
@@ -40,25 +22,26 @@ pub fn join_chains(
     a: &mut [u32],
     b: &mut [u32],
     out: &mut [u32],
-) -> Joined
+) -> Gathered
     requires { ⌜ CanJoin root party n m (now pages) (now a) (now b) (now out) ⌝ }
-    ensures { λ r. ⌜ (r .ok ≡ false → MergeBuild.pairOf root (now (pages .entry)) (party .chain) (party .other) ≡ damaged) × (r .ok ≡ true → JoinedPair (MergeBuild.pairOf root (now (pages .entry)) (party .chain) (party .other)) r (now (out .exit))) ⌝ }
+    ensures { λ r. ⌜ (r ≡ gatheredBoth (MergeBuild.pairOf root (now (pages .entry)) (party .chain) (party .other))) × (inFront r (now (out .exit)) ≡ entriesInBoth (MergeBuild.pairOf root (now (pages .entry)) (party .chain) (party .other))) ⌝ }
 {
-    let g = chain_keys::gather(root, ChainAddress(party.chain), n, pages, a);
-    if !g.ok {
-        return unjoined();
-    }
-    let h = chain_keys::gather(root, ChainAddress(party.other), m, pages, b);
-    if !h.ok {
-        return unjoined();
-    }
+    let Gathered::Sound(g) = chain_keys::gather(root, ChainAddress(party.chain), n, pages, a) else {
+        return Gathered::Damaged;
+    };
+    let Gathered::Sound(h) = chain_keys::gather(root, ChainAddress(party.other), m, pages, b) else {
+        return Gathered::Damaged;
+    };
     let x = g.count;
     let y = h.count;
-    let ok = entries::join(&a[0..x], &b[0..y], out);
-    Joined {
-        ok,
-        level: g.level,
-        link: g.link,
-        count: x + y,
+    if entries::join(&a[0..x], &b[0..y], out) {
+        let count = x + y;
+        Gathered::Sound(Front {
+            level: g.level,
+            link: g.link,
+            count,
+        })
+    } else {
+        Gathered::Damaged
     }
 }

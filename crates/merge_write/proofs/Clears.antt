@@ -1,24 +1,22 @@
 -- Step 29 by its cases: which test refuses it, and what it leaves where none does.
--- Main statements: no-room-refused, all-cleared, head-and-count-suffice (both lists are given back); first-damaged, second-damaged, both-walked (both are walked);
+-- Main statements: no-room-refused, all-cleared (both lists are given back); first-damaged, second-damaged, both-walked (both are walked);
 -- unsound-link-refused, unsound-page-refused, sound-cleared (29).
-use mathlib.Core.Path.{_≡_, refl, sym, ap, ap₂, _∙_}
+use mathlib.Core.Path.{_≡_, refl, ap}
 use mathlib.Core.Bool.{Bool, true, false, not}
 use mathlib.Core.List.{List, _++_}
 use Prim.Native.Nat.{ℕ, _+_, _≤_, _<_}
 use native.Mathlib.Omega.{arith}
-use lib.ListN.{length, set}
+use lib.ListN.{length}
 use borrow.Author.Tests.{not-true, not-false, le-leb, lt-leb}
 use Rattle.model.specs.declared.Root.{Root}
 use Rattle.model.specs.declared.Party.{Party}
-use Rattle.model.specs.Records.{atStep, withFreeList}
+use Rattle.model.specs.Records.{atStep}
 use Rattle.model.specs.Pages.{pageOf, withPage, linkOf, linkSound, pageSound, zeroPage}
 use Rattle.model.specs.Chains.{Checked, damaged, sound, soundIf, andThen, listFrom}
 use Rattle.model.specs.Outcome.{View, Outcome, refuse, damage, checked, moved}
 use Rattle.model.specs.Ready.{viewing}
 use Rattle.model.specs.FreeList.{roomToGiveBack, pagesGivenBack}
 use Rattle.model.specs.Steps.MergeWrite.{mergedAway, partnerCleared, step29}
-use Rattle.records.specs.Words.{recordWords, rootIn}
-use Rattle.records.proofs.Words.{free-list-written}
 use Rattle.chains.specs.Walks.{counted}
 use Rattle.chains.specs.declared.Walked.the-variants as Walked
 use Rattle.free_list.specs.Giving.{listed, Returned, returned, afterGiving}
@@ -36,13 +34,6 @@ module _ (r : Root) (p : Party) (q : ℕ) (ls ps zs : List ℕ) where
   unfolding roomToGiveBack partnerCleared pagesGivenBack
   all-cleared room g es ep =
       rw (le-leb (r .free + length zs) (r .overflow) room, es, ep, ap (λ (x : Returned). x .root) g, ap (λ (x : Returned). x .pages) g) refl
-
--- A root record that differs in its free list alone is written by its head and its count.
-pub head-and-count-suffice : (w : List ℕ) {r : Root} {h n : ℕ} → length w ≡ recordWords → r ≡ withFreeList h n (rootIn w) → rootIn (set (set w 7 (r .head)) 8 (r .free)) ≡ r
-head-and-count-suffice w {r} long e =
-    free-list-written w (r .head) (r .free) long
-    ∙ ap₂ (λ (x y : ℕ). withFreeList x y (rootIn w)) (ap (λ (x : Root). x .head) e) (ap (λ (x : Root). x .free) e)
-    ∙ sym e
 
 -- ---- Both lists are walked
 

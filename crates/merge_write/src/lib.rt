@@ -105,7 +105,7 @@ fn lists_given_back(
     ensures { λ a. ⌜ ((q : ℕ) (ls : List ℕ) → left a (rootIn (now (root .exit))) (now (party .exit)) q ls (now (pages .exit)) ≡ roomyCleared (seen (rootIn (now (root .entry))) (now (party .entry)) q ls (now (pages .entry))) (listed (listFrom (rootIn (now (root .entry))) (now (pages .entry)) (partyIn (now (party .entry)) .old)) ++ listed (listFrom (rootIn (now (root .entry))) (now (pages .entry)) second))) ⌝ }
 {
     let r = records::root_of(&root[..]);
-    if r.overflow - r.free < n + m {
+    if r.overflow < r.free + n + m {
         return StepAnswer::Refused(DAMAGE);
     }
     let after = merge_lists::give_back_both(r, party[OLD], n, second, m, pages);

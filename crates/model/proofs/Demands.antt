@@ -1,24 +1,25 @@
 -- THE DEMANDS as theorems, for all sizes within their limits, over every list of calls from formatted memory, with no other hypothesis. The statements are specs/Demands.antt.
--- Main statements: schedule-right (demand 3: answers-right, links-right, progress-right); granted-right, singly-right and lists-right (demand 2).
+-- Main statements: schedule-right (demand 3: answers-right, links-right, progress-right, sizes-right, no-page-right); granted-right, singly-right and lists-right (demand 2).
 use mathlib.Core.Path.{_≡_}
 use mathlib.Core.Bool.{true}
 use mathlib.Core.List.{List}
-use Prim.Native.Nat.{ℕ, _<_}
-use Rattle.model.specs.declared.Operation.{Operation}
-use Rattle.model.specs.Memory.{formatted, formattedRoot}
+use Prim.Native.Nat.{_<_}
 use Rattle.model.specs.Runs.{Call, events}
 use Rattle.model.specs.Book.{emptyBook, bookAgrees}
 use Rattle.model.specs.Links.{clockStart, linksFresh}
 use Rattle.model.specs.Progress.{progresses}
-use Rattle.model.specs.Demands.{Sizes, start, Reached, bookReached, AtRest, ScheduleRight, GrantsRight, RunSingly}
-use Rattle.model.proofs.Laws.Lists.{All}
+use Rattle.model.specs.NoPage.{noneWrote, noPageKept}
+use Rattle.model.specs.Singly.{Wanted, partiesFit}
+use Rattle.model.specs.Demands.{Sizes, start, Reached, bookReached, SizesStay, ScheduleRight, GrantsRight, AtRest, RunSingly, ListSingly}
 use Rattle.model.proofs.Theorems.Calls.{run-answers}
 use Rattle.model.proofs.Theorems.AllSteps.{steps-kept}
-use Rattle.model.proofs.Theorems.Reached.{formatted-inv, reached-inv}
+use Rattle.model.proofs.Theorems.Reached.{formatted-inv}
+use Rattle.model.proofs.Theorems.SizesStay.{sizes-stay}
 use Rattle.model.proofs.Theorems.LinkRule.{links-fresh}
 use Rattle.model.proofs.Theorems.NoDeadlock.{no-deadlock}
 use Rattle.model.proofs.Theorems.Grants.{grants-right}
-use Rattle.model.proofs.Theorems.Singly.Run.{run-singly, Wanted, EachSingly, each-singly, start-rests}
+use Rattle.model.proofs.Theorems.NoPage.{no-page-kept}
+use Rattle.model.proofs.Theorems.Singly.Run.{run-singly, list-singly}
 
 -- ---- Demand 3
 
@@ -30,25 +31,39 @@ answers-right s cs = run-answers steps-kept (start s) emptyBook (formatted-inv s
 pub links-right : (s : Sizes) (cs : List Call) → linksFresh clockStart (start s) cs ≡ true
 links-right s cs = links-fresh steps-kept s cs
 
--- After every list of calls, if operations are under way, at least one of them would answer moved or done if its step came next.
-pub progress-right : (s : Sizes) (cs : List Call) → progresses (Reached s cs) ≡ true
+-- After every list of calls, if operations were begun and not yet answered, at least one of them would answer moved or done if its step came next.
+pub progress-right : (s : Sizes) (cs : List Call) → progresses (s .parties) (bookReached s cs) (Reached s cs) ≡ true
 progress-right s cs = no-deadlock steps-kept s cs
+
+-- No call changes a size.
+pub sizes-right : (s : Sizes) (cs : List Call) → SizesStay s cs
+sizes-right s cs = sizes-stay s cs
+
+-- An operation answered no page has performed no step 11 since its begin.
+pub no-page-right : (s : Sizes) (cs : List Call) → noPageKept noneWrote (events (start s) cs) ≡ true
+no-page-right s cs = no-page-kept steps-kept s cs
 
 -- The whole of it, of one list.
 pub schedule-right : (s : Sizes) (cs : List Call) → ScheduleRight s cs
-schedule-right s cs = record { answers = answers-right s cs; links = links-right s cs; progress = progress-right s cs }
+schedule-right s cs = record {
+  answers = answers-right s cs;
+  links = links-right s cs;
+  progress = progress-right s cs;
+  sizes = sizes-right s cs;
+  no-page = no-page-right s cs;
+}
 
 -- ---- Demand 2
 
--- Over every list of calls a requesting step is granted exactly where Table I permits it against the locks held by the calls made, else it waits.
+-- Over every list of calls a requesting step is granted exactly where Table I permits it against the locks held by the calls made, else it waits; no step of an operation under way is refused, and
+-- every other call is refused, with its number, or accepted as the table of refusals says.
 pub granted-right : (s : Sizes) (cs : List Call) → GrantsRight s cs
 granted-right s cs = grants-right steps-kept s cs
 
--- From every reachable memory in which nobody is under way, an operation run alone never waits, ends, answers as the yardstick does and leaves the file that the yardstick leaves.
-pub singly-right : (s : Sizes) (cs : List Call) → AtRest (Reached s cs) → (q : ℕ) → q < Reached s cs .root .parties → (o : Operation) (k : ℕ) → RunSingly (Reached s cs) q o k
-singly-right s cs rest q in-row o k = run-singly steps-kept (Reached s cs) (bookReached s cs) (reached-inv s cs) rest q in-row o k
+-- After every list of calls that leaves nobody under way, an operation run alone never waits, ends, answers as the yardstick and as a plain set do and leaves the file and the set that they leave.
+pub singly-right : (s : Sizes) (cs : List Call) → AtRest (bookReached s cs) → (x : Wanted) → x .party < s .parties → RunSingly s cs x
+singly-right s cs rest x fits = run-singly s cs rest x fits
 
--- So do operations run singly, one after the other, from formatted memory.
-pub lists-right : (s : Sizes) (xs : List Wanted) → All (λ x. x .party < s .parties) xs → EachSingly (start s) xs
-unfolding formatted formattedRoot
-lists-right s xs f = each-singly steps-kept (start s) emptyBook (formatted-inv s) (start-rests s) xs f
+-- Operations run singly, one after the other, from formatted memory: all their answers and the file at the end are those of the yardstick run over the list, from the file that format leaves.
+pub lists-right : (s : Sizes) (xs : List Wanted) → partiesFit (s .parties) xs ≡ true → ListSingly s xs
+lists-right s xs fit = list-singly s xs fit

@@ -10,8 +10,10 @@ pub mod Ascending
 pub mod Addresses
 pub mod Fields
 pub mod Pages
+pub mod Tests
 pub mod Structure
 pub mod Filling
+pub mod Walks
 pub mod Reading
 pub mod FreeList
 pub mod Format

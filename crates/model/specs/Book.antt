@@ -17,7 +17,7 @@ use Rattle.model.specs.declared.BeginAnswer.the-variants as BeginAnswer
 use Rattle.model.specs.Answers.{answerNumber}
 use Rattle.model.specs.Runs.{Call, beginFor, stepFor, Reply, toBegin, toStep, Event}
 
--- What the book keeps beside a key that is in: nothing yet.
+-- What the book keeps beside a key that is in: nothing.
 abbrev pub Value : Type 0
 Value = Unit {0}
 

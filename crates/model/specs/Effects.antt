@@ -52,6 +52,7 @@ pub record AltersScratch (m : Memory) (q : ℕ) : Type 0 where
   pub same-record : recordAfter m q ≡ recordBefore m q
   pub another-link : scratchLinkAfter m q ≢ scratchLink m q
 
+-- The call alters the party's own words: its record, or at 9 its scratch page.
 pub data AltersOwn (m : Memory) (q : ℕ) : Type 0 where
   own-record : AltersRecord m q → AltersOwn m q
   own-scratch : AltersScratch m q → AltersOwn m q
@@ -79,6 +80,7 @@ pub record Begins (m : Memory) (q : ℕ) (o : Operation) (k : ℕ) : Type 0 wher
   pub pages : beginCall m q o k .memory .pages ≡ m .pages
   pub memory : beginCall m q o k .memory ≡ withBegun m q o k
 
+-- A begin accepted leaves what Begins says; one refused leaves all memory.
 pub record BeginAlters (m : Memory) (q : ℕ) (o : Operation) (k : ℕ) : Type 0 where
   pub accepted : beginCall m q o k .answer ≡ BeginAnswer.Begun → Begins m q o k
   pub refused : (n : ℕ) → beginCall m q o k .answer ≡ BeginAnswer.Refused n → beginCall m q o k .memory ≡ m

@@ -1,5 +1,5 @@
 -- The records of the file and ascending lists of them (document 01, "A chain's keys ascend").
--- A record (document 01: a bead's key) is its key alone for now; what tells records apart is keyOf.
+-- A record (document 01: a bead's key) is its key alone; what tells records apart is keyOf.
 -- Main definitions: Entry, keyOf; hasKey, ascending, insertedInto, removedFrom, joined, sharesKey; staying and going (the halves of a split).
 use mathlib.Core.Bool.{Bool, true, false, cond, _&&_, _||_}
 use mathlib.Core.List.{List, [], _∷_}

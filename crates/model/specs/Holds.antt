@@ -1,20 +1,28 @@
 -- Locks held, derived from the calls made and not from the lock words (demand 2): each grant adds a lock, each give-up takes it away.
--- Main definitions: tableOne (Table I, its nine entries), Hold, permitted; givesUp (what each step gives up), holdsAfter; grantsRight (over a whole list).
+-- Sizes are those of a root record z, given to format; who is under way goes by the calls (the set book's entries).
+-- Main definitions: tableOne (Table I, its nine entries), Hold, permitted; givesUp (what each step gives up), holdsAfter; grantRight, stepRight, beginRight (one answer); grantsRight (over a
+-- whole list).
 use mathlib.Core.Bool.{Bool, true, false, cond, not, _&&_, _||_}
 use mathlib.Core.List.{List, [], _∷_}
 use mathlib.Core.Option.{Option, none, some}
 use Prim.Native.Nat.{ℕ}
-use lib.Dec.{eqb}
+use lib.Dec.{eqb, leb}
+use Rattle.model.specs.declared.Root.{Root}
 use Rattle.model.specs.declared.Party.{Party}
 use Rattle.model.specs.declared.Mode.{Mode}
 use Rattle.model.specs.declared.Mode.the-variants.{Read, Selective, Exclusive}
 use Rattle.model.specs.declared.StepAnswer.{StepAnswer}
 use Rattle.model.specs.declared.StepAnswer.the-variants as StepAnswer
+use Rattle.model.specs.declared.BeginAnswer.{BeginAnswer}
+use Rattle.model.specs.declared.BeginAnswer.the-variants as BeginAnswer
 use Rattle.model.specs.LockWords.{Claim}
 use Rattle.model.specs.Memory.{Memory, partyAt}
-use Rattle.model.specs.Calls.{stepCall}
+use Rattle.model.specs.GivenSizes.{sizedRoot}
+use Rattle.model.specs.Calls.{beginCall, stepCall}
 use Rattle.model.specs.Runs.{Call, beginFor, stepFor, afterCall}
+use Rattle.model.specs.Book.{Book}
 use Rattle.model.specs.Answers.{isMoved}
+use Rattle.model.specs.Progress.{underWay, bookAfterCall}
 use Rattle.model.specs.LockRequests.{rootRead, chainLock, otherLock, chainSelective, chainExclusive, rootSelective, rootExclusive}
 use Rattle.model.specs.Steps.MergeLocks.{mergeLocks}
 use Rattle.model.specs.Steps.Dispatch.{wants}
@@ -104,43 +112,82 @@ unfoldable pub withHeld : List Hold → ℕ → Option Claim → List Hold
 withHeld hs q none = hs
 withHeld hs q (some c) = hold q c ∷ hs
 
+-- The lock that party q's next step requests, or none.
+abbrev pub wantedBy : Root → Memory → ℕ → Option Claim
+wantedBy z m q = wants (sizedRoot z (m .root)) (partyAt (m .parties) q)
+
 -- The holds after a step of party q.
-unfoldable pub holdsAfterStep : List Hold → Memory → ℕ → List Hold
-holdsAfterStep hs m q =
+unfoldable pub holdsAfterStep : Root → List Hold → Memory → ℕ → List Hold
+holdsAfterStep z hs m q =
     let p = partyAt (m .parties) q in
     let a = stepCall m q .answer in
     let left = withoutAll hs q (givesUp (p .step) p a) in
-    cond (isMoved a) (withHeld left q (requested (p .step) (wants (m .root) p))) left
+    cond (isMoved a) (withHeld left q (requested (p .step) (wantedBy z m q))) left
 
-unfoldable pub holdsAfter : List Hold → Memory → Call → List Hold
-holdsAfter hs m (beginFor q o k) = hs
-holdsAfter hs m (stepFor q) = holdsAfterStep hs m q
+unfoldable pub holdsAfter : Root → List Hold → Memory → Call → List Hold
+holdsAfter z hs m (beginFor q o k) = hs
+holdsAfter z hs m (stepFor q) = holdsAfterStep z hs m q
 
 -- ---- Grants
 
--- Whether an answer to a request is right: moved where the lock is permitted, waiting where it is not. A refused call requests nothing.
+-- Whether an answer to a request is right: moved where the lock is permitted, waiting where it is not, and never a refusal.
 unfoldable pub grantRight : Bool → StepAnswer → Bool
 grantRight may StepAnswer.Waiting = not may
 grantRight may StepAnswer.Moved = may
 grantRight may (StepAnswer.Done a s) = false
-grantRight may (StepAnswer.Refused n) = true
+grantRight may (StepAnswer.Refused n) = false
 
--- A step that requests nothing never waits.
+-- A step that requests nothing never waits, and is not refused.
 unfoldable pub neverWaits : StepAnswer → Bool
 neverWaits StepAnswer.Waiting = false
 neverWaits StepAnswer.Moved = true
 neverWaits (StepAnswer.Done a s) = true
-neverWaits (StepAnswer.Refused n) = true
+neverWaits (StepAnswer.Refused n) = false
 
+-- Whether an answer is right for an operation under way.
 unfoldable pub answerRight : List Hold → Option Claim → StepAnswer → Bool
 answerRight hs none a = neverWaits a
 answerRight hs (some c) a = grantRight (permitted hs c) a
 
-unfoldable pub callRight : List Hold → Memory → Call → Bool
-callRight hs m (beginFor q o k) = true
-callRight hs m (stepFor q) = answerRight hs (wants (m .root) (partyAt (m .parties) q)) (stepCall m q .answer)
+-- ---- Refusals
 
--- Over a list of calls: a requesting step is granted exactly where Table I permits it against the locks held, else it waits.
-unfoldable pub grantsRight : List Hold → Memory → List Call → Bool
-grantsRight hs m [] = true
-grantsRight hs m (c ∷ cs) = callRight hs m c && grantsRight (holdsAfter hs m c) (afterCall m c) cs
+-- Whether a step, or a begin, is refused with this number.
+unfoldable pub refusedWith : ℕ → StepAnswer → Bool
+refusedWith k StepAnswer.Waiting = false
+refusedWith k StepAnswer.Moved = false
+refusedWith k (StepAnswer.Done a s) = false
+refusedWith k (StepAnswer.Refused n) = eqb n k
+
+unfoldable pub beginRefusedWith : ℕ → BeginAnswer → Bool
+beginRefusedWith k BeginAnswer.Begun = false
+beginRefusedWith k (BeginAnswer.Refused n) = eqb n k
+
+unfoldable pub isBegun : BeginAnswer → Bool
+isBegun BeginAnswer.Begun = true
+isBegun (BeginAnswer.Refused n) = false
+
+-- A step of a party that has nothing under way is refused: 3 where there is no such party, else 5.
+unfoldable pub idleRight : ℕ → ℕ → StepAnswer → Bool
+idleRight parties q a = refusedWith (cond (leb parties q) 3 5) a
+
+-- A begin is refused 3 where there is no such party, 4 where it has an operation under way, and is else accepted.
+unfoldable pub beginRight : ℕ → ℕ → Bool → BeginAnswer → Bool
+beginRight parties q busy a =
+    let there = cond busy (beginRefusedWith 4 a) (isBegun a) in
+    cond (leb parties q) (beginRefusedWith 3 a) there
+
+-- ---- Over a list of calls
+
+unfoldable pub stepRight : Root → Book → List Hold → Memory → ℕ → Bool
+stepRight z b hs m q =
+    let a = stepCall m q .answer in
+    cond (underWay b q) (answerRight hs (wantedBy z m q) a) (idleRight (z .parties) q a)
+
+unfoldable pub callRight : Root → Book → List Hold → Memory → Call → Bool
+callRight z b hs m (beginFor q o k) = beginRight (z .parties) q (underWay b q) (beginCall m q o k .answer)
+callRight z b hs m (stepFor q) = stepRight z b hs m q
+
+-- A requesting step is granted exactly where Table I permits it against the locks held, else it waits; no step of an operation under way is refused, and every other call as the table of refusals has it.
+unfoldable pub grantsRight : Root → Book → List Hold → Memory → List Call → Bool
+grantsRight z b hs m [] = true
+grantsRight z b hs m (c ∷ cs) = callRight z b hs m c && grantsRight z (bookAfterCall b m c) (holdsAfter z hs m c) (afterCall m c) cs

@@ -4,6 +4,7 @@
 use Prim.Native.Nat.{ℕ}
 use Rattle.model.specs.declared.Root.{Root}
 use Rattle.model.specs.declared.Party.{Party}
+use Rattle.model.specs.declared.FileSizes.{FileSizes}
 
 -- "operation (0 idle, 1 find, 2 insert, 3 delete)".
 abbrev pub idleOperation : ℕ
@@ -78,6 +79,10 @@ withFreeList h n r = record {
 -- A root record of the sizes given, N b P V Q, all else zero.
 abbrev pub rootOfSizes : ℕ → ℕ → ℕ → ℕ → ℕ → Root
 rootOfSizes n b p v q = record { originals = n; capacity = b; primaries = p; overflow = v; parties = q; level = 0; next = 0; head = 0; free = 0 }
+
+-- The same of sizes given as one struct.
+abbrev pub rootSized : FileSizes → Root
+rootSized s = rootOfSizes (s .originals) (s .capacity) (s .primaries) (s .overflow) (s .parties)
 
 -- The zero record: a party that is idle.
 abbrev pub idle : Party

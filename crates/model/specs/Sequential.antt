@@ -1,11 +1,13 @@
 -- The sequential yardstick (demand 2): linear hashing with uncontrolled splits over lists of records, one operation at a time.
 -- A file is level, next and the records of each chain. Pages are only counted: a chain takes the overflow pages that its records need, the others are free, so that
 -- the stated shortages of pages and of chains are part of the yardstick.
--- Main definitions: File, freeIn; Finished, findIn, insertIn, deleteIn; splitFile, mergeFile; fileOf (the file that a memory holds); runAlone.
+-- Main definitions: File, freeIn; Finished, findIn, insertIn, deleteIn; splitFile, mergeFile; performedOn (one operation); setIn (the set that a file holds), startFile (the file that format
+-- leaves), fileOf (the file that a memory holds), ChainsRead.
+use mathlib.Core.Path.{_≡_}
 use mathlib.Core.Bool.{Bool, cond, _||_}
 use mathlib.Core.List.{List, [], _∷_, _++_}
-use Prim.Native.Nat.{ℕ, zero, suc, _+_, _-_}
-use lib.ListN.{getD, set, take}
+use Prim.Native.Nat.{ℕ, zero, suc, _+_, _-_, _<_}
+use lib.ListN.{getD, set, take, replicate}
 use lib.Dec.{ltb}
 use Rattle.model.specs.declared.Root.{Root}
 use Rattle.model.specs.declared.Operation.{Operation}
@@ -14,15 +16,14 @@ use Rattle.model.specs.declared.OperationAnswer.{OperationAnswer}
 use Rattle.model.specs.declared.OperationAnswer.the-variants as OperationAnswer
 use Rattle.model.specs.declared.Restructuring.{Restructuring}
 use Rattle.model.specs.declared.Restructuring.the-variants as Restructuring
-use Rattle.model.specs.declared.StepAnswer.{StepAnswer}
-use Rattle.model.specs.declared.StepAnswer.the-variants as StepAnswer
 use Rattle.model.specs.Addresses.{addressOf, chainCount, splitNext, splitLevel, mergeTarget, mergePartner, mergeLevel, splitBarred, mergeBarred}
 use Rattle.model.specs.Entries.{Entry, entryOf, hasKey, insertedInto, removedFrom, joined, staying, going}
 use Rattle.model.specs.Chains.{Checked, damaged, sound, Chain, chainOf}
 use Rattle.model.specs.Filling.{pagesFor}
 use Rattle.model.specs.Steps.Rebuild.{splitOwed, mergeOwed}
 use Rattle.model.specs.Memory.{Memory}
-use Rattle.model.specs.Calls.{Called, stepCall}
+use Rattle.model.specs.GivenSizes.{sizedRoot}
+use Rattle.model.specs.PlainSet.{PlainSet}
 
 -- Level, next and the records of each chain. The sizes are those of a root record.
 pub record File : Type 0 where
@@ -132,7 +133,17 @@ performedOn r f Operation.Find k = findIn r f k
 performedOn r f Operation.Insert k = insertIn r f k
 performedOn r f Operation.Delete k = deleteIn r f k
 
--- ---- The file that a memory holds, and an operation run alone
+-- ---- The set that a file holds, and the file that format leaves
+
+-- Whether each key is in its home chain.
+unfoldable pub setIn : Root → File → PlainSet
+setIn r f k = hasKey k (recordsAt f (homeIn r f k))
+
+-- Level 0, next 0 and N empty chains.
+unfoldable pub startFile : Root → File
+startFile r = record { level = 0; next = 0; chains = replicate (r .originals) [] }
+
+-- ---- The file that a memory holds, read with the sizes of z
 
 unfoldable pub recordsRead : Checked Chain → List Entry
 recordsRead damaged = []
@@ -143,14 +154,12 @@ unfoldable pub chainsFrom : Root → List ℕ → ℕ → ℕ → List (List Ent
 chainsFrom r ps zero c = []
 chainsFrom r ps (suc n) c = recordsRead (chainOf r ps c) ∷ chainsFrom r ps n (c + 1)
 
-unfoldable pub fileOf : Memory → File
-fileOf m =
-    let r = m .root in
+unfoldable pub fileOf : Root → Memory → File
+fileOf z m =
+    let r = sizedRoot z (m .root) in
     record { level = r .level; next = r .next; chains = chainsFrom r (m .pages) (chainCount (r .originals) (r .level) (r .next)) 0 }
 
--- At most n steps of party q, until one answers something else than moved.
-unfoldable pub runAlone : ℕ → Memory → ℕ → Called StepAnswer
-runAlone zero m q = stepCall m q
-runAlone (suc n) m q =
-    let c = stepCall m q in
-    elim (c .answer) [ StepAnswer.Waiting ↦ c | StepAnswer.Moved ↦ runAlone n (c .memory) q | StepAnswer.Done a s ↦ c | StepAnswer.Refused k ↦ c ]
+-- Each of its chains reads as sound: one that did not would count as empty.
+pub record ChainsRead (z : Root) (m : Memory) : Type 0 where
+  pub chain : ℕ → Chain
+  pub reads : (c : ℕ) → c < chainsIn z (fileOf z m) → chainOf (sizedRoot z (m .root)) (m .pages) c ≡ sound (chain c)

@@ -33,6 +33,9 @@ pub const LINK_WORD: usize = 2;
 
 pub const FIRST_RECORD: usize = 3;
 
+// A record is its key alone: the words that a record takes on a page.
+pub const RECORD_WORDS: usize = 1;
+
 // ---- Numbers in a party's record (document 01, "The lent memory")
 
 // "operation (0 idle, 1 find, 2 insert, 3 delete)".
@@ -100,6 +103,15 @@ pub struct Root {
     pub head: u32,
     // How many pages are free.
     pub free: u32,
+}
+
+// The sizes that a file is formatted with, as in the root record: N, b, P, V and Q.
+pub struct FileSizes {
+    pub originals: u32,
+    pub capacity: u32,
+    pub primaries: u32,
+    pub overflow: u32,
+    pub parties: u32,
 }
 
 // A party's record (document 01, "The lent memory"). `old` is the old overflow link, a link word.

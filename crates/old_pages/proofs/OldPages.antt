@@ -1,5 +1,5 @@
 -- Step 14 by its cases: which test refuses it, and what it leaves where none does.
--- Main statements: no-room-refused, not-held-refused, all-given-back, free-list-kept; unnamed-refused, damaged-refused, walked-given-back.
+-- Main statements: no-room-refused, not-held-refused, all-given-back; unnamed-refused, damaged-refused, walked-given-back.
 use mathlib.Core.Path.{_≡_, refl, ap}
 use mathlib.Core.Bool.{Bool, true, false}
 use mathlib.Core.List.{List}
@@ -10,7 +10,7 @@ use borrow.Author.Tests.{le-leb, lt-leb}
 use Rattle.model.specs.declared.Root.{Root}
 use Rattle.model.specs.declared.Party.{Party}
 use Rattle.model.specs.declared.Mode.the-variants.{Exclusive}
-use Rattle.model.specs.Records.{withOld, withFreeList}
+use Rattle.model.specs.Records.{withOld}
 use Rattle.model.specs.LockWords.{chainWord, holds}
 use Rattle.model.specs.Pages.{namesOverflow}
 use Rattle.model.specs.Chains.{Checked, damaged, sound, listFrom}
@@ -43,10 +43,6 @@ module _ (r : Root) (p : Party) (q : ℕ) (ls ps xs : List ℕ) where
     unfolding oldGivenBack roomToGiveBack heldAll isHeld pagesGivenBack givenUp withoutHold
     all-given-back h g ep =
         rw (le-leb (r .free + length xs) (r .overflow) room, el, ← ei, ← eb, h, ep, ap (λ (x : Returned). x .root) g, ap (λ (x : Returned). x .pages) g) refl
-
--- The root record differs in its free list alone.
-pub free-list-kept : (r r′ : Root) (ps ps′ xs : List ℕ) → returned r′ ps′ ≡ afterGiving r ps xs → withFreeList (r′ .head) (r′ .free) r ≡ r′
-free-list-kept r r′ ps ps′ xs g = rw (ap (λ (x : Returned). x .root) g) refl
 
 -- ---- The list is walked
 

@@ -54,7 +54,7 @@ fn old_given_back(
     ensures { λ a. ⌜ left a (rootIn (now (root .exit))) (now (party .exit)) q (now (locks .exit)) (now (pages .exit)) ≡ OldPages.oldGivenBack (seen (rootIn (now (root .entry))) (now (party .entry)) q (now (locks .entry)) (now (pages .entry))) (listed (listFrom (rootIn (now (root .entry))) (now (pages .entry)) (partyIn (now (party .entry)) .old))) ⌝ }
 {
     let r = records::root_of(&root[..]);
-    if r.overflow - r.free < n {
+    if r.overflow < r.free + n {
         return StepAnswer::Refused(DAMAGE);
     }
     let word = lock_requests::chain_word(ChainAddress(party[CHAIN]));

@@ -5,11 +5,12 @@
 ghost use mathlib.Core.Path.{_≡_};
 ghost use lib.ListN.{length};
 ghost use Rattle.model.specs.Records as Records;
-ghost use Rattle.model.specs.Records.{rootOfSizes, atStep};
+ghost use Rattle.model.specs.Records.{rootSized, atStep};
 ghost use Rattle.model.specs.Answers.{operationNumber};
 ghost use Rattle.records.specs.Words.{recordWords, rootIn, partyIn};
 use model::DELETE;
 use model::FIND;
+use model::FileSizes;
 use model::INSERT;
 use model::Operation;
 use model::Party;
@@ -43,16 +44,16 @@ pub const OWED: usize = 7;
 
 pub const ANSWER: usize = 8;
 
-// A root record of the sizes N b P V Q, all else zero.
-pub fn root_of_sizes(n: u32, b: u32, p: u32, v: u32, q: u32) -> Root
-    ensures { λ r. ⌜ r ≡ rootOfSizes n b p v q ⌝ }
+// A root record of these sizes, all else zero.
+pub fn root_of_sizes(sizes: FileSizes) -> Root
+    ensures { λ r. ⌜ r ≡ rootSized sizes ⌝ }
 {
     Root {
-        originals: n,
-        capacity: b,
-        primaries: p,
-        overflow: v,
-        parties: q,
+        originals: sizes.originals,
+        capacity: sizes.capacity,
+        primaries: sizes.primaries,
+        overflow: sizes.overflow,
+        parties: sizes.parties,
         level: 0,
         next: 0,
         head: 0,

@@ -1,19 +1,20 @@
 -- Tests made one by one against the model's conjunctions: what a conjunction that holds says of each test, and when the last test decides.
--- Main statements: refuses, decides (of any test); late-unanswered, late-answered (the code's test of the answer);
--- fields-fit (of a sound party's record), step-decides (where the record's other words pass).
+-- Main statements: refuses (of any test); root-fits (of a sound root record); fields-fit (of a sound party's record),
+-- step-decides (where the record's other words pass).
 use mathlib.Core.Path.{_≡_, refl, sym, _∙_}
 use mathlib.Core.Logic.{_≢_}
 use mathlib.Core.Bool.{Bool, true, false, not, _&&_, _||_, true≢false}
-use Prim.Native.Nat.{ℕ, _≤_, _<_}
+use Prim.Native.Nat.{ℕ, _+_, _≤_, _<_}
 use native.Mathlib.Omega.{arith}
 use lib.Dec.{ltb, leb, eqb}
-use borrow.Author.Tests.{leb-true, ltb-true, eqb-true, le-leb, lt-ltb, le-ltb, eq-eqb, ne-eqb}
+use borrow.Author.Tests.{leb-true, ltb-true, le-leb, lt-ltb, le-ltb, eq-eqb, ne-eqb}
 use Rattle.model.specs.declared.Root.{Root}
 use Rattle.model.specs.declared.Party.{Party}
-use Rattle.model.specs.Refusals.{partySound}
+use Rattle.model.specs.Addresses.{span, chainCount}
+use Rattle.model.specs.Refusals.{rootSound, partySound}
 use Rattle.model.specs.Steps.Dispatch.{hasStep}
-use Rattle.model.proofs.Laws.Lists.{Ord, ord, lt, ge, not-both, and-both, both-and}
-use Rattle.model.proofs.Laws.Booleans.{and-left, and-right}
+use Rattle.model.proofs.Laws.Lists.{Ord, ord, lt, ge, not-both}
+use Rattle.model.proofs.Laws.Booleans.{and-left, and-right, eq-of-iff}
 use Rattle.refusals.proofs.StepRanges.{none-other}
 
 -- ---- Any test
@@ -23,19 +24,15 @@ pub refuses : {b : Bool} → (b ≡ true → ⊥) → false ≡ b
 refuses {b = true} h = absurd (h refl)
 refuses {b = false} h = refl
 
--- Tests that hold together are equal.
-pub decides : {a b : Bool} → (a ≡ true → b ≡ true) → (b ≡ true → a ≡ true) → a ≡ b
-decides {a = true} f g = sym (f refl)
-decides {a = false} {b = true} f g = g refl
-decides {a = false} {b = false} f g = refl
+-- ---- The root record
 
--- The code's test "from step n on, and no answer".
-module _ (n s a : ℕ) where
-  pub late-unanswered : (leb n s && eqb a 0) ≡ true → (n ≤ s) × (a ≡ 0)
-  late-unanswered e = let both = and-both (leb n s) (eqb a 0) e in (leb-true n s (both .0), eqb-true a 0 (both .1))
-
-  pub late-answered : (leb n s && eqb a 0) ≡ false → n ≤ s → a ≢ 0
-  late-answered e h z = not-both (leb n s && eqb a 0) (both-and (le-leb n s h) (eq-eqb a 0 z)) e
+-- What level and next of a sound root record have.
+pub root-fits : (r : Root) → rootSound r ≡ true → (r .next < span (r .originals) (r .level)) × (span (r .originals) (r .level) + r .next ≤ r .primaries)
+unfolding rootSound chainCount
+root-fits r e = (
+  ltb-true (r .next) (span (r .originals) (r .level)) (search (and-left, and-right)),
+  leb-true (span (r .originals) (r .level) + r .next) (r .primaries) (search (and-left, and-right)),
+)
 
 -- ---- A party's record
 
@@ -83,7 +80,7 @@ module _ (r : Root) (p : Party) where
   -- Where the other words pass, the step decides.
   pub step-decides : FieldsFit r p → hasStep (p .operation) (p .step) ≡ partySound r p
   unfolding partySound
-  step-decides f = decides holds (λ e. search (and-left, and-right) depth 8)
+  step-decides f = eq-of-iff holds (λ e. search (and-left, and-right) depth 8)
     where
       holds : hasStep (p .operation) (p .step) ≡ true → partySound r p ≡ true
       holds e =

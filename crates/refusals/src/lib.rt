@@ -6,7 +6,7 @@ ghost use mathlib.Core.Path.{_≡_};
 ghost use Prim.Native.Nat.{_^_, _≤_, _<_};
 ghost use Rattle.model.specs.Sizes.{withinLimits};
 ghost use Rattle.model.specs.Addresses as Addresses;
-ghost use Rattle.model.specs.Records.{rootOfSizes};
+ghost use Rattle.model.specs.Records.{rootSized};
 ghost use Rattle.model.specs.Refusals.{rootSound, partySound};
 ghost use Rattle.model.specs.Steps.Dispatch.{hasStep};
 ghost use Rattle.refusals.specs.Causes.{lengthsAre, formatCause, placeCause, beginCause, stepCause};
@@ -14,6 +14,7 @@ use model::BUSY_REFUSED;
 use model::DAMAGE;
 use model::DELETE;
 use model::FIND;
+use model::FileSizes;
 use model::IDLE;
 use model::IDLE_REFUSED;
 use model::INSERT;
@@ -34,22 +35,22 @@ use model::SIZE_REFUSED;
 pub fn within_limits(root: Root) -> bool
     ensures { λ r. ⌜ r ≡ withinLimits root ⌝ }
 {
+    if MOST_OVERFLOW < root.overflow {
+        return false;
+    }
     if root.primaries < root.originals {
         return false;
     }
     if root.originals == 0 {
         return false;
     }
-    if MOST_PRIMARIES < root.primaries {
-        return false;
-    }
-    if MOST_OVERFLOW < root.overflow {
-        return false;
-    }
     if root.parties == 0 {
         return false;
     }
     if MOST_PARTIES < root.parties {
+        return false;
+    }
+    if MOST_PRIMARIES < root.primaries {
         return false;
     }
     if root.capacity == 0 {
@@ -91,10 +92,10 @@ pub fn root_sound(root: Root) -> bool
     }
     let size = span(root.originals, root.level);
     let next = root.next as u64;
-    if size <= next {
+    if (root.primaries as u64) < size + next {
         return false;
     }
-    if (root.primaries as u64) < size + next {
+    if size <= next {
         return false;
     }
     root.free <= root.overflow
@@ -115,26 +116,29 @@ pub fn has_step(operation: u32, step: u32) -> bool
 }
 
 // "operation above 3; a step the operation lacks; lev above 9; owed above 3; an answer above 5, or 0 from step 12 on; a chain or other chain at or above P" is damage.
-// An operation above 3 has no step.
+// An operation above 3 has no step. The answer is asked for after the step number, so that an early step makes one test less.
 pub fn party_sound(root: Root, party: Party) -> bool
     ensures { λ r. ⌜ r ≡ partySound root party ⌝ }
 {
     if 9 < party.lev {
         return false;
     }
-    if 3 < party.owed {
+    if 5 < party.answer {
         return false;
     }
-    if 5 < party.answer {
+    if 3 < party.owed {
         return false;
     }
     if root.primaries <= party.chain {
         return false;
     }
-    if (12 <= party.step) & (party.answer == NO_ANSWER) {
+    if root.primaries <= party.other {
         return false;
     }
-    if root.primaries <= party.other {
+    if party.step < 12 {
+        return has_step(party.operation, party.step);
+    }
+    if party.answer == NO_ANSWER {
         return false;
     }
     has_step(party.operation, party.step)
@@ -153,21 +157,12 @@ fn file_cause(root: Root, parties: usize, locks: usize, pages: usize) -> u32
     NO_CAUSE
 }
 
-// Format with the sizes N b P V Q: the root record that stood there is not read.
-pub fn format_cause(
-    n: u32,
-    b: u32,
-    p: u32,
-    v: u32,
-    q: u32,
-    parties: usize,
-    locks: usize,
-    pages: usize,
-) -> u32
-    ensures { λ r. ⌜ r ≡ formatCause (rootOfSizes n b p v q) parties locks pages ⌝ }
+// Format with these sizes: the root record that stood there is not read.
+pub fn format_cause(sizes: FileSizes, parties: usize, locks: usize, pages: usize) -> u32
+    ensures { λ r. ⌜ r ≡ formatCause (rootSized sizes) parties locks pages ⌝ }
 {
-    let sizes = records::root_of_sizes(n, b, p, v, q);
-    file_cause(sizes, parties, locks, pages)
+    let root = records::root_of_sizes(sizes);
+    file_cause(root, parties, locks, pages)
 }
 
 // The rows that begin and step share, for party q: no party's record is looked at.

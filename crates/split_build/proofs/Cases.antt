@@ -1,10 +1,9 @@
 -- Step 17 by its cases.
--- Main statements: scan-damaged (a chain found damaged); barred-refused, chain-refused; on a chain looked through, skipped-ends, damaged-refused and taken-divided.
+-- Main statements: barred-refused, chain-refused; on a chain looked through, skipped-ends, damaged-refused and taken-divided.
 use mathlib.Core.Path.{_≡_, refl}
 use mathlib.Core.Bool.{true, false}
 use mathlib.Core.List.{List, [], _∷_}
 use Prim.Native.Nat.{ℕ, _+_, _-_, _≤_, _<_}
-use native.Mathlib.Omega.{arith}
 use borrow.Author.Tests.{lt-ltb, le-ltb}
 use Rattle.model.specs.declared.Root.{Root}
 use Rattle.model.specs.declared.Party.{Party}
@@ -12,7 +11,7 @@ use Rattle.model.specs.declared.Restructuring.the-variants.{SplitSkipped}
 use Rattle.model.specs.Records.{atStep, withOld, withFreeList}
 use Rattle.model.specs.Addresses.{splitBarred, countOfChains}
 use Rattle.model.specs.Pages.{scratchPage}
-use Rattle.model.specs.Chains.{Checked, damaged, sound, Chain, chainOf}
+use Rattle.model.specs.Chains.{damaged, sound, Chain, chainOf}
 use Rattle.model.specs.Filling.{pagesFor}
 use Rattle.model.specs.FreeList.{Taken, tooFew, pagesTaken, rootAfterTaking}
 use Rattle.model.specs.Outcome.{View, refuse, damage, moved}
@@ -20,14 +19,7 @@ use Rattle.model.specs.Ready.{viewing}
 use Rattle.model.specs.LockRequests.{chainSelective, rootSelective}
 use Rattle.model.specs.Endings.{endedWith}
 use Rattle.model.specs.Steps.SplitBuild.{halvesOf, halvesNeed, halvesWritten, divided, divideWith, step17}
-use Rattle.chain_scan.specs.declared.Scan.the-variants as Scan
-use Rattle.chain_scan.specs.Scans.{scanned}
 use Rattle.split_build.specs.Dividing.{bothWritten, halved}
-
--- A chain that was found damaged.
-pub scan-damaged : (x : Checked Chain) → Scan.Damaged ≡ scanned 0 x → x ≡ damaged
-scan-damaged damaged e = refl
-scan-damaged (sound c) e = absurd (let z : _≡_ {A = ℕ} 0 1 = cc in omega arith)
 
 module _ (r : Root) (p : Party) (q : ℕ) (ls ps : List ℕ) where
   abbrev v : View

@@ -23,7 +23,8 @@ use Rattle.model.specs.Endings.{endedWith}
 use Rattle.records.specs.Words.{partyIn, seen, AtHand}
 use Rattle.records.proofs.Words.{old-written}
 use Rattle.free_list.specs.declared.Drawn.the-variants as Drawn
-use Rattle.free_list.specs.Taking.{linkedPages, drawn}
+use Rattle.chains.specs.Links.{linkedPages}
+use Rattle.free_list.specs.Taking.{drawn}
 use Rattle.free_list.proofs.Linked.{head-drawn, damage-drawn}
 use Rattle.chain_scan.specs.declared.Looked.{Looked}
 use Rattle.chain_scan.specs.declared.Scan.the-variants as Scan

@@ -9,12 +9,12 @@ use Rattle.model.specs.declared.Root.{Root}
 use Rattle.model.specs.declared.PageAddress.{PageAddress}
 use Rattle.model.specs.Pages.{withPage}
 use Rattle.model.specs.Filling.{overflowNeeded, primaryOf, overflowWritten}
-use Rattle.free_list.proofs.Linked.{length-linkedPages}
+use Rattle.chains.specs.Links.{linkedPages, linkAfter}
+use Rattle.chains.proofs.Links.{length-linkedPages, pages-append, leads-all, front-apart, back-apart, both-apart}
 use Rattle.key_source.specs.Sources.{keysOf}
 use Rattle.chain_writer.specs.declared.Planned.{Planned}
 use Rattle.chain_writer.specs.declared.Rest.the-variants.{Chain}
-use Rattle.chain_writer.specs.Writing.{linkedPages, linkAfter, restWritten, allWritten, CanWrite}
-use Rattle.chain_writer.proofs.Links.{pages-has, linked-append, front-fills, back-fills, fills-apart}
+use Rattle.chain_writer.specs.Writing.{restWritten, allWritten, CanWrite}
 use Rattle.chain_writer.proofs.Chains.{two-written}
 use Rattle.split_build.specs.declared.Division.{Division}
 use Rattle.split_build.specs.Dividing.{both, stayingFrom, goingFrom, firstNeed, bothNeed, CanWriteHalves, bothWritten}
@@ -46,25 +46,25 @@ module _ (r : Root) (ps : List ℕ) (d : Division) (scratch other : PageAddress)
       can-choose = can .can-halve;
       many = can .many-stay;
       page-fits = can .scratch-fits;
-      can-fill = front-fills ps (firstNeed r d) lastNeed (r .head) (can .can-fill);
+      can-fill = front-apart ps (firstNeed r d) lastNeed (r .head) (can .can-fill);
     };
     others = record {
       sits = can .sits;
       can-choose = can .can-halve;
       many = can .many-go;
       page-fits = can .other-fits;
-      can-fill = back-fills ps (firstNeed r d) lastNeed (r .head) (can .can-fill);
+      can-fill = back-apart ps (firstNeed r d) lastNeed (r .head) (can .can-fill);
     };
   }
 
   first-taken : take (firstNeed r d) (linkedPages ps (bothNeed r d) (r .head)) ≡ firsts
   first-taken =
-      ap (take (firstNeed r d)) (linked-append ps (firstNeed r d) lastNeed (r .head))
+      ap (take (firstNeed r d)) (pages-append ps (firstNeed r d) lastNeed (r .head))
       ∙ take-at firsts lasts (firstNeed r d) (length-linkedPages ps (firstNeed r d) (r .head))
 
   last-taken : drop (firstNeed r d) (linkedPages ps (bothNeed r d) (r .head)) ≡ lasts
   last-taken =
-      ap (drop (firstNeed r d)) (linked-append ps (firstNeed r d) lastNeed (r .head))
+      ap (drop (firstNeed r d)) (pages-append ps (firstNeed r d) lastNeed (r .head))
       ∙ drop-at firsts lasts (firstNeed r d) (length-linkedPages ps (firstNeed r d) (r .head))
 
   pub both-written :
@@ -78,6 +78,6 @@ module _ (r : Root) (ps : List ℕ) (d : Division) (scratch other : PageAddress)
       let write = can-write-both (r .level + 1) in
       let written : List ℕ → List ℕ → List ℕ
       = λ xs ys. withPage (withPage (overflowWritten b (overflowWritten b ps xs es) ys fs) (other .0) (primaryOf b (r .level + 1) fs ys)) (scratch .0) (primaryOf b (r .level + 1) es xs) in
-      two-written b ps (scratch .0) (r .level + 1) es firsts (other .0) (r .level + 1) fs lasts (can .keys-fit) (pages-has ps (write .chain .can-fill)) (pages-has ps (write .others .can-fill))
-      (record { fits = can .other-fits }) (can .apart) (fills-apart ps (firstNeed r d) lastNeed (r .head) (can .can-fill))
+      two-written b ps (scratch .0) (r .level + 1) es firsts (other .0) (r .level + 1) fs lasts (can .keys-fit) (leads-all ps (write .chain .can-fill .leads)) (leads-all ps (write .others .can-fill .leads))
+      (record { fits = can .other-fits }) (can .apart) (both-apart ps (firstNeed r d) lastNeed (r .head) (can .can-fill))
       ∙ sym (ap₂ written first-taken last-taken)

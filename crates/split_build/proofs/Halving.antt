@@ -14,8 +14,7 @@ use Rattle.model.specs.Entries.{Entry, staying, going}
 use Rattle.model.specs.Filling.{overflowNeeded, pagesFor}
 use Rattle.model.specs.FreeList.{Taken, pagesTaken}
 use Rattle.model.specs.Steps.SplitBuild.{Halves, halvesNeed}
-use Rattle.model.proofs.Laws.Lists.{All, all-left, all-map}
-use Rattle.model.proofs.Laws.Filling.{IsOverflow}
+use Rattle.model.proofs.Laws.Lists.{all-map}
 use Rattle.records.specs.Words.{partyIn, AtHand}
 use Rattle.chain_scan.specs.declared.Looked.{Looked}
 use Rattle.chain_scan.specs.declared.Scan.the-variants as Scan
@@ -24,8 +23,9 @@ use Rattle.key_source.specs.declared.Halving.{Halving}
 use Rattle.key_source.specs.declared.Place.{Place}
 use Rattle.key_source.specs.Sources.{Sits, keysAt, chosen, keysOf}
 use Rattle.key_source.proofs.Choices.{halves-length}
-use Rattle.free_list.specs.Taking.{linkedPages, linkAfter}
-use Rattle.free_list.proofs.Linked.{taken-drawn, drawn-overflow, pages-append}
+use Rattle.chains.specs.Links.{linkedPages}
+use Rattle.chains.proofs.Links.{leads-all, front-apart}
+use Rattle.free_list.proofs.Linked.{taken-drawn}
 use Rattle.chain_writer.proofs.Drawing.{drawn-fills}
 use Rattle.split_build.specs.declared.Division.{Division}
 use Rattle.split_build.specs.Dividing.{recordsOf, both, halved, stayingFrom, goingFrom, Divides, CanDivide, firstNeed, bothNeed, CanWriteHalves}
@@ -145,9 +145,7 @@ module _ (r : Root) (p : List ℕ) (q : ℕ) (ls ps : List ℕ) (hand : AtHand r
           let ready = hand .ready in
           let drawn = taken-drawn r ps (bothNeed r d) t taken in
           let last = overflowNeeded (r .capacity) (d .going) in
-          let over = drawn-overflow r ps (drawn .can) in
-          let front : All (IsOverflow r) (linkedPages ps (firstNeed r d) (r .head))
-          = all-left (IsOverflow r) (linkedPages ps (firstNeed r d) (r .head)) (linkedPages ps last (linkAfter ps (firstNeed r d) (r .head))) (rw (pages-append ps (firstNeed r d) last (r .head)) at over) in
+          let front = leads-all ps (front-apart ps (firstNeed r d) last (r .head) (drawn .can) .leads) in
           record {
             some-key = ready .some-key;
             keys-fit = ready .keys-fit;

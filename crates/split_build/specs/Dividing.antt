@@ -23,7 +23,8 @@ use Rattle.chain_scan.specs.Scans.{scanned}
 use Rattle.key_source.specs.declared.Choice.the-variants.{Staying, Going}
 use Rattle.key_source.specs.declared.Source.{Source}
 use Rattle.key_source.specs.Sources.{Sits, CanStart, CanHalve, keysOf}
-use Rattle.chain_writer.specs.Writing.{linkedPages, CanFill}
+use Rattle.chains.specs.Links.{linkedPages}
+use Rattle.chain_writer.specs.Writing.{CanFill}
 use Rattle.split_build.specs.declared.Division.{Division}
 
 -- ---- A chain's records and their halves

@@ -7,7 +7,7 @@ ghost use lib.ListN.{length};
 ghost use Rattle.model.specs.Steps.SplitBuild as SplitBuild;
 ghost use Rattle.records.specs.Words.{recordWords, rootIn, seen, left, AtHand};
 ghost use Rattle.key_source.specs.Sources.{keysOf};
-ghost use Rattle.chain_writer.specs.Writing.{linkedPages};
+ghost use Rattle.chains.specs.Links.{linkedPages};
 ghost use Rattle.split_build.specs.Dividing.{recordsOf, halved, stayingFrom, goingFrom, Divides, CanDivide, firstNeed, bothNeed, both, CanWriteHalves, bothWritten, CanSplit};
 use chain_scan::Looked;
 use chain_scan::Scan;

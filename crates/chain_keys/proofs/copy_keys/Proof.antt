@@ -32,11 +32,17 @@ loop-holds c =
     let none : take (a .at + 0) (a .keys .now) ≡ take (a .at) (a .keys .now) ++ [] = ap (λ (k : ℕ). take k (a .keys .now)) q ∙ sym (append-nil (take (a .at) (a .keys .now))) in
     (n, search needs, omega arith, refl, none)
 
-add-keys : tie.Need-add-keys Inv-loop μ-loop
-add-keys c = search needs
+cast-loop : tie.Need-cast-loop Inv-loop μ-loop
+cast-loop c = search needs
 
 mul-keys : tie.Need-mul-keys Inv-loop μ-loop
 mul-keys c = search needs
+
+add-keys : tie.Need-add-keys Inv-loop μ-loop
+add-keys c = search needs
+
+mul-keys-2 : tie.Need-mul-keys-2 Inv-loop μ-loop
+mul-keys-2 c = search needs
 
 array-read-keys : tie.Need-array-read-keys Inv-loop μ-loop
 array-read-keys c = search needs
@@ -44,8 +50,8 @@ array-read-keys c = search needs
 add-keys-2 : tie.Need-add-keys-2 Inv-loop μ-loop
 add-keys-2 c = search needs
 
-mul-keys-2 : tie.Need-mul-keys-2 Inv-loop μ-loop
-mul-keys-2 c = search needs
+mul-keys-3 : tie.Need-mul-keys-3 Inv-loop μ-loop
+mul-keys-3 c = search needs
 
 slice-write-keys : tie.Need-slice-write-keys Inv-loop μ-loop
 slice-write-keys c = search needs
@@ -90,11 +96,13 @@ copy-keys-spec =
     count-of-requires
     cast-n
     loop-holds
-    add-keys
+    cast-loop
     mul-keys
+    add-keys
+    mul-keys-2
     array-read-keys
     add-keys-2
-    mul-keys-2
+    mul-keys-3
     slice-write-keys
     add-i
     loop-less

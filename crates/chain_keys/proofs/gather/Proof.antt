@@ -2,12 +2,12 @@
 use mathlib.Core.Path.{_≡_, sym, ap, _∙_}
 use Prim.Native.Nat.{_≤_}
 use native.Mathlib.Omega.{arith}
-use lib.ListN.{length, take}
+use lib.ListN.{length}
 use Rattle.model.specs.Entries.{ascending}
 use Rattle.model.specs.Pages.{pageOf, countOf}
 use Rattle.model.proofs.Laws.Lists.{front-part}
-use Rattle.chain_keys.specs.declared.Gathered.{Gathered}
-use Rattle.chain_keys.proofs.WholeChain.{walked-chain, keys-fall-refused, keys-ascend-whole}
+use Rattle.chain_keys.specs.Gathering.{gathered, entriesIn}
+use Rattle.chain_keys.proofs.WholeChain.{walked-chain, keys-fall-damaged, keys-ascend-gathered, keys-ascend-in-front}
 use borrow.Author.Needs.{needs}
 use Rattle.chain_keys.proofs.gather.Statement.{statement}
 use Rattle.chain_keys.proofs.gather.Tie as tie
@@ -46,7 +46,7 @@ same-length c = search needs
 
 returns : tie.Need-returns
 returns c =
-    let gathering = c .before .before .before .before .before .before .before in
+    let gathering = c .before .before .before .before .before .before .before .before in
     let loaded = gathering .before .before in
     let start = loaded .before .before .before in
     let a = start .args in
@@ -56,13 +56,29 @@ returns c =
     let keys = gathering .gather-keys .last .1 .1 .1 .0 in
     let long : length keys ≡ length (a .keys .now) = gathering .gather-keys .kept .1 .1 .1 .0 in
     let count = gathering .gather-keys .result in
-    let tested : c .before .before .ascends .result ≡ ascending (take count keys) = c .before .before .ascends .ensures ∙ ap ascending (front-part count keys) in
-    let g : Gathered = record { ok = c .before .before .ascends .result; level = c .before .level-of .result; link = c .link-of .result; count = count } in
-    let fits : count ≤ length keys = omega (arith, gathering .gather-keys .ensures .0, long) in (
-      λ bad. keys-fall-refused (a .root) ps (a .chain .0) (a .n) passed keys (loaded .load .result) g page (gathering .gather-keys .ensures .1) (sym tested ∙ bad),
-      λ good. keys-ascend-whole (a .root) ps (a .chain .0) (a .n) passed keys (loaded .load .result) g page (gathering .gather-keys .ensures .1) (sym tested ∙ good)
-          (c .before .level-of .ensures) (c .link-of .ensures) fits,
+    let up = sym (c .before .before .before .ascends .ensures ∙ ap ascending (front-part count keys)) ∙ c .before .before .if1 .taken in
+    let fits : count ≤ length keys = omega (arith, gathering .gather-keys .ensures .0, long) in
+    let front = gathering .gather-keys .ensures .1 in (
+      keys-ascend-gathered (a .root) ps (a .chain .0) (a .n) passed keys (loaded .load .result) count page front up fits (c .before .level-of .ensures) (c .link-of .ensures),
+      keys-ascend-in-front (a .root) ps (a .chain .0) (a .n) passed keys (loaded .load .result) count page front up,
     )
+
+same-length-2 : tie.Need-same-length-2
+same-length-2 c = search needs
+
+returns-2 : tie.Need-returns-2
+returns-2 c =
+    let gathering = c .before .before .before .before .before .before in
+    let loaded = gathering .before .before in
+    let start = loaded .before .before .before in
+    let a = start .args in
+    let ps = a .pages .now in
+    let passed = walked-chain (a .root) ps (a .chain .0) (a .n) (length (a .keys .now)) (start .pre) in
+    let keys = gathering .gather-keys .last .1 .1 .1 .0 in
+    let count = gathering .gather-keys .result in
+    let falls = sym (c .before .ascends .ensures ∙ ap ascending (front-part count keys)) ∙ c .if1 .left in
+    let bad = sym (keys-fall-damaged (a .root) ps (a .chain .0) (a .n) passed keys (loaded .load .result) count (loaded .load .ensures) (gathering .gather-keys .ensures .1) falls) in
+    (ap gathered bad, ap entriesIn bad)
 
 pub gather-spec : {M : Type 1} → statement M
 gather-spec =
@@ -77,4 +93,6 @@ gather-spec =
     level-of-requires
     link-of-requires
     same-length
-    returns)
+    returns
+    same-length-2
+    returns-2)

@@ -6,8 +6,9 @@ use mathlib.Core.List.{List, _++_}
 use lib.ListN.{length, take}
 use Rattle.model.specs.Sizes.{mostRecords}
 use Rattle.model.specs.Pages.{pageOf, countOf, linkOf, entriesOf}
+use Rattle.chains.proofs.Links.{next-page}
 use Rattle.chain_keys.specs.Gathering.{entriesFrom, Followed}
-use Rattle.chain_keys.proofs.Following.{next-page, page-gathered, all-gathered}
+use Rattle.chain_keys.proofs.Following.{page-gathered, all-gathered}
 use borrow.Author.Needs.{needs}
 use Rattle.chain_keys.proofs.gather_keys.Statement.{statement}
 use Rattle.chain_keys.proofs.gather_keys.Tie as tie
@@ -47,14 +48,14 @@ load-requires : tie.Need-load-requires Inv-loop μ-loop
 load-requires c κs =
     let l = c .before .loop in
     let a = c .before .before .before .before .before .before .before .before .before .args in
-    next-page (a .pages .now) (c .loop-test .taken) (l .inv .2) .fits
+    next-page (a .pages .now) (c .loop-test .taken) (l .inv .2) .page .fits
 
 copy-keys-requires-2 : tie.Need-copy-keys-requires-2 Inv-loop μ-loop
 copy-keys-requires-2 c κs =
     let l = c .before .before .before .loop in
     let a = c .before .before .before .before .before .before .before .before .before .before .before .args in
     let more = c .before .before .loop-test .taken in
-    let few = next-page (a .pages .now) more (l .inv .2) .few in
+    let few = next-page (a .pages .now) more (l .inv .2) .page .few in
     let page = ap countOf (c .before .load .ensures) in
     (omega (arith, few, page), omega (arith, more, l .inv .0))
 
@@ -81,7 +82,7 @@ loop-again c =
     let long : length (copied .copy-keys2 .last .1 .0) ≡ length (l .keys) = copied .copy-keys2 .kept .1 .0 in
     let keys = copied .copy-keys2 .ensures .1 ∙ ap (λ (w : List ℕ). take (l .at) (l .keys) ++ entriesOf w) page in
     let gathered = page-gathered (a .pages .now) _ (take (l .at) (l .keys)) _ (l .left) (l .l) more (l .inv .3) keys in (
-      omega (arith, count, next .few, more, l .inv .0, long),
+      omega (arith, count, next .page .few, more, l .inv .0, long),
       long ∙ l .inv .1,
       rw link (next .rest),
       rw link gathered,

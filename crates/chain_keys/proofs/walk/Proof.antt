@@ -5,7 +5,7 @@ use mathlib.Core.Bool.{true, false}
 use Rattle.model.specs.Pages.{pageOf, linkOf, linkSound, pageSound}
 use Rattle.model.specs.Chains.{listFrom}
 use Rattle.chains.specs.Walks.{counted}
-use Rattle.chains.proofs.Tests.{sound-page-links}
+use Rattle.model.proofs.Laws.Tests.{sound-page-links}
 use Rattle.chain_keys.proofs.Following.{unsound-damaged, sound-listed}
 use borrow.Author.Needs.{needs}
 use Rattle.chain_keys.proofs.walk.Statement.{statement}

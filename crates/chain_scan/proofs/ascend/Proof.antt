@@ -1,6 +1,6 @@
 -- `chain_scan::ascend` meets its contract. The loop's invariant: the page's keys ascend from the floor on exactly where the keys not yet passed ascend from `low` on.
 use mathlib.Core.Path.{_≡_, refl, sym, _∙_}
-use Prim.Native.Nat.{_+_, _-_, _≤_}
+use Prim.Native.Nat.{_+_, _-_, _*_, _≤_}
 use native.Mathlib.Omega.{arith}
 use lib.ListN.{length, getD, drop}
 use mir.Syntax.{w32}
@@ -28,11 +28,14 @@ cast-n c = search needs
 loop-holds : tie.Need-loop-holds Inv-loop μ-loop
 loop-holds c = (c .count-of .ensures, omega arith, refl)
 
+mul-k : tie.Need-mul-k Inv-loop μ-loop
+mul-k c = search needs
+
 add-k : tie.Need-add-k Inv-loop μ-loop
 add-k c = search needs
 
-mul-k : tie.Need-mul-k Inv-loop μ-loop
-mul-k c = search needs
+mul-k-2 : tie.Need-mul-k-2 Inv-loop μ-loop
+mul-k-2 c = search needs
 
 array-read-k : tie.Need-array-read-k Inv-loop μ-loop
 array-read-k c = search needs
@@ -52,7 +55,7 @@ returns c =
 add-low : tie.Need-add-low Inv-loop μ-loop
 add-low c =
     let turn = c .before .before in
-    let small : Fits w32 (getD (turn .before .before .args .t1) (3 + turn .loop .i) 0) = search needs in
+    let small : Fits w32 (getD (turn .before .before .args .t1) (3 + turn .loop .i * 1) 0) = search needs in
     omega arith
 
 add-i : tie.Need-add-i Inv-loop μ-loop
@@ -88,8 +91,9 @@ ascend-spec =
     count-of-requires
     cast-n
     loop-holds
-    add-k
     mul-k
+    add-k
+    mul-k-2
     array-read-k
     cast-k
     returns

@@ -6,8 +6,8 @@ use lib.ListN.{length}
 use Rattle.model.specs.Sizes.{pageWords, mostRecords}
 use Rattle.model.specs.Entries.{hasKey}
 use Rattle.model.specs.Pages.{pageOf, countOf, linkOf, entriesOf}
+use Rattle.chains.proofs.Links.{next-page}
 use Rattle.chain_keys.specs.Gathering.{Followed, entriesFrom}
-use Rattle.chain_keys.proofs.Following.{next-page}
 use Rattle.chain_scan.specs.Scans.{examined}
 use Rattle.chain_scan.proofs.Ascents.{resumed, nothing-passed}
 use Rattle.chain_scan.proofs.ScannedChain.{page-falls, page-passed, pages-passed}
@@ -42,13 +42,13 @@ load-requires : tie.Need-load-requires Inv-loop μ-loop
 load-requires c κs =
     let l = c .before .loop in
     let a = c .before .before .before .args in
-    next-page (a .pages .now) (c .loop-test .taken) (l .inv .0) .fits
+    next-page (a .pages .now) (c .loop-test .taken) (l .inv .0) .page .fits
 
 ascend-requires : tie.Need-ascend-requires Inv-loop μ-loop
 ascend-requires c κs =
     let l = c .before .before .loop in
     let a = c .before .before .before .before .args in
-    let few = next-page (a .pages .now) (c .before .loop-test .taken) (l .inv .0) .few in
+    let few = next-page (a .pages .now) (c .before .loop-test .taken) (l .inv .0) .page .few in
     omega (arith, few, ap countOf (c .load .ensures))
 
 enum-told : tie.Need-enum-told Inv-loop μ-loop
@@ -74,7 +74,7 @@ add-count c =
     let l = loaded .before .before .loop in
     let start = loaded .before .before .before .before in
     let a = start .args in
-    let few = next-page (a .pages .now) (loaded .before .loop-test .taken) (l .inv .0) .few in
+    let few = next-page (a .pages .now) (loaded .before .loop-test .taken) (l .inv .0) .page .few in
     omega (arith, few, ap countOf (loaded .load .ensures), c .count-of .ensures, l .inv .1, loaded .before .loop-test .taken, start .pre .1)
 
 has-key-requires : tie.Need-has-key-requires Inv-loop μ-loop
@@ -82,7 +82,7 @@ has-key-requires c κs =
     let loaded = c .before .before .before .before .before in
     let l = loaded .before .before .loop in
     let a = loaded .before .before .before .before .args in
-    let few = next-page (a .pages .now) (loaded .before .loop-test .taken) (l .inv .0) .few in
+    let few = next-page (a .pages .now) (loaded .before .loop-test .taken) (l .inv .0) .page .few in
     omega (arith, few, ap countOf (loaded .load .ensures))
 
 link-of-requires : tie.Need-link-of-requires Inv-loop μ-loop
@@ -104,7 +104,7 @@ loop-again c =
     let w = loaded .load .result in
     let page : w ≡ pageOf ps (l .l - 1) = loaded .load .ensures in
     let next = next-page ps more (l .inv .0) in
-    let few : countOf w ≤ mostRecords = omega (arith, next .few, ap countOf page) in
+    let few : countOf w ≤ mostRecords = omega (arith, next .page .few, ap countOf page) in
     let sixteen : length w ≡ pageWords = search needs in
     let counted : c .before .before .count-of .result ≡ countOf w = c .before .before .count-of .ensures in
     let asked : c .before .has-key .result ≡ hasKey (a .key) (entriesOf w) = c .before .has-key .ensures in

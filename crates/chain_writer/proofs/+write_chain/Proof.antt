@@ -58,7 +58,7 @@ module _ (t : ℕ) where
       let start = c .before .before .before .before .before .before .before .before .before .before in
       let a = start .args in
       let can = start .pre .1 in
-      one (a .b) (a .c) (a .free) (a .rest) (a .pages .now) can (c .before .before .before .before .before .if1 .taken) .has .fits
+      one (a .b) (a .c) (a .free) (a .rest) (a .pages .now) can (c .before .before .before .before .before .if1 .taken) .page .fits
 
   sub-t20-2 : lts.Need-sub-t20-2 (calls t) (at t) reads.Post
   sub-t20-2 c = omega (arith, c .before .before .before .before .before .before .before .if1 .taken)

@@ -1,8 +1,8 @@
 -- `chain_writer::page_of` meets its contract. The loop's invariant: i keys are on the page, and the source has those after them.
 use mathlib.Core.Path.{_≡_, refl, sym, ap, _∙_}
-use Prim.Native.Nat.{ℕ, _-_, _≤_, _<_}
+use Prim.Native.Nat.{ℕ, _+_, _-_, _*_, _≤_, _<_}
 use native.Mathlib.Omega.{arith}
-use lib.ListN.{length, take, drop, length-set, length-drop}
+use lib.ListN.{length, set, take, drop, length-set, length-drop}
 use Rattle.model.specs.Sizes.{pageWords}
 use Rattle.key_source.specs.Sources.{Sits, CanChoose, keysOf}
 use Rattle.filling.proofs.PageWords.{wordsAfter}
@@ -42,11 +42,14 @@ next-requires c κs =
     let some : 1 ≤ length (keysOf (a .pages .now) (l .t)) = rw (l .inv .6, length-drop) (omega (arith, start .pre .3, c .loop-test .taken, l .inv .0)) in
     (l .inv .4, l .inv .5, some)
 
+mul-w : tie.Need-mul-w Inv-loop μ-loop
+mul-w c = search needs
+
 add-w : tie.Need-add-w Inv-loop μ-loop
 add-w c = search needs
 
-mul-w : tie.Need-mul-w Inv-loop μ-loop
-mul-w c = search needs
+mul-w-2 : tie.Need-mul-w-2 Inv-loop μ-loop
+mul-w-2 c = search needs
 
 array-write-w-4 : tie.Need-array-write-w-4 Inv-loop μ-loop
 array-write-w-4 c = search needs
@@ -67,11 +70,12 @@ loop-again c =
     let all = keysOf (a .pages .now) (a .s) in
     let more : l .i < a .n = omega (arith, c .before .before .loop-test .taken, l .inv .0) in
     let here = sym (l .inv .6) ∙ given .keys in
-    let rest = keysOf (a .pages .now) (x .source) in (
+    let rest = keysOf (a .pages .now) (x .source) in
+    let word : 3 + l .i * 1 ≡ 3 + l .i = omega arith in (
       l .inv .0,
       omega (arith, more),
       simp length-set (l .inv .2),
-      key-put (a .level) (a .n) (a .link) all (start .pre .0) (start .pre .3) (l .i) (x .key) rest more here (l .w) (l .inv .3),
+      ap (λ (k : ℕ). set (l .w) k (x .key)) word ∙ key-put (a .level) (a .n) (a .link) all (start .pre .0) (start .pre .3) (l .i) (x .key) rest more here (l .w) (l .inv .3),
       given .sits,
       given .can-choose,
       key-passed (a .level) (a .n) (a .link) all (start .pre .0) (start .pre .3) (l .i) (x .key) rest more here,
@@ -102,8 +106,9 @@ page-of-spec =
     array-write-w-3
     loop-holds
     next-requires
-    add-w
     mul-w
+    add-w
+    mul-w-2
     array-write-w-4
     add-i
     loop-less

@@ -11,7 +11,7 @@ use Rattle.model.specs.Sizes.{pageWords}
 use Rattle.model.specs.Pages.{pageOf, linkOf, linkSound, pageSound}
 use Rattle.model.specs.Chains.{Checked, overflowFrom, listFrom}
 use Rattle.chains.specs.Walks.{counted}
-use Rattle.chains.proofs.Tests.{sound-link-fits, sound-page-links}
+use Rattle.model.proofs.Laws.Tests.{sound-link-fits, sound-page-links}
 use Rattle.chains.proofs.Walking.{link-at, words-at, countedAfter, none-passed, walk-ends, walk-too-long, walk-unsound, walk-goes-on}
 use borrow.Author.Needs.{needs}
 use Rattle.chains.proofs.count_pages.Statement.{statement}

@@ -1,7 +1,7 @@
 -- `chains::link_sound` meets its contract.
 use mathlib.Core.Path.{sym, _∙_}
 use native.Mathlib.Omega.{arith}
-use Rattle.chains.proofs.Tests.{zero-sound, naming-decides}
+use Rattle.model.proofs.Laws.Tests.{zero-sound, naming-decides}
 use borrow.Author.Needs.{needs}
 use Rattle.chains.proofs.link_sound.Statement.{statement}
 use Rattle.chains.proofs.link_sound.Tie as tie

@@ -1,7 +1,7 @@
 -- `chains::names_overflow` meets its contract.
 use mathlib.Core.Path.{sym}
 use native.Mathlib.Omega.{arith}
-use Rattle.chains.proofs.Tests.{low-unnamed, high-unnamed, between-named}
+use Rattle.model.proofs.Laws.Tests.{low-unnamed, high-unnamed, between-named}
 use borrow.Author.Needs.{needs}
 use Rattle.chains.proofs.names_overflow.Statement.{statement}
 use Rattle.chains.proofs.names_overflow.Tie as tie

@@ -7,7 +7,7 @@ use borrow.Author.Tests.{not-true, not-false}
 use Rattle.model.specs.Pages.{withPage, levelOf, pageSound, mostLevel}
 use Rattle.model.specs.Steps.Chase.{chase}
 use Rattle.records.specs.Words.{partyIn}
-use Rattle.chains.proofs.Tests.{sound-page-levels}
+use Rattle.model.proofs.Laws.Tests.{sound-page-levels}
 use Rattle.chase.proofs.PageTests.{unsound-refused, level-below-refused, chain-beyond-refused, all-sound-moves}
 use borrow.Author.Needs.{needs}
 use Rattle.chase.proofs.step_06.Statement.{statement}

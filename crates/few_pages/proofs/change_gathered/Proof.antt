@@ -5,26 +5,26 @@ use native.Mathlib.Omega.{arith}
 use lib.ListN.{length}
 use borrow.Author.Tests.{not-true, not-false}
 use Rattle.model.specs.Entries.{ascending}
+use Rattle.model.specs.Chains.{chainOf}
 use Rattle.model.specs.Ready.{viewing}
 use Rattle.model.specs.Steps.Rebuild.{kept}
 use Rattle.model.proofs.Laws.Lists.{front-part}
 use Rattle.entries.specs.Places.{placeOf}
+use Rattle.chain_keys.proofs.WholeChain.{gathered-damaged}
 use Rattle.chain_change.proofs.Changes.{chain-refused, change-kept, key-present, key-absent}
-use Rattle.few_pages.proofs.Gathers.{front-length, front-ascends, front-few, front-has, chain-has, place-before, inserted-there, deleted-there}
+use Rattle.few_pages.proofs.Gathers.{front-length, can-gather, chain-whole, front-ascends, front-few, front-has, chain-has, place-before, inserted-there, deleted-there}
 use borrow.Author.Needs.{needs}
 use Rattle.few_pages.proofs.change_gathered.Statement.{statement}
 use Rattle.few_pages.proofs.change_gathered.Tie as tie
 
 gather-requires : tie.Need-gather-requires
-gather-requires c κs =
-    let start = c .before .before .before .before in
-    let can = start .pre .0 in
-    record {
-      can-walk = record { chain-fits = can .can-change .chain-fits; pages-fit = can .can-change .pages-fit };
-      keys-fit = can .can-change .keys-fit;
-      walked = can .walked;
-      has-room = omega (arith, can .few, start .pre .1);
-    }
+gather-requires c κs = can-gather (c .before .before .before .before .pre)
+
+enum-known-g : tie.Need-enum-known-g
+enum-known-g c = search needs
+
+enum-told : tie.Need-enum-told
+enum-told c = search needs
 
 same-length : tie.Need-same-length
 same-length c = search needs
@@ -37,7 +37,7 @@ returns c = λ ls.
     let at-gather = c .before .before .before .before in
     let start = at-gather .before .before .before .before .before in
     let a = start .args in
-    let bad = at-gather .gather .ensures .0 (not-true _ (c .if1 .taken)) in
+    let bad = gathered-damaged (chainOf (a .root) (a .pages .now) (a .party .chain)) (at-gather .gather .ensures .0) (c .enum-told .given .1) in
     chain-refused (viewing (a .root) (a .party) (a .q) ls (a .pages .now)) bad
 
 sub-below : tie.Need-sub-below
@@ -48,14 +48,14 @@ part-below-start c = search needs
 
 part-below-end : tie.Need-part-below-end
 part-below-end c =
-    let at-if1 = c .before in
-    let at-gather = at-if1 .before .before .before .before in
+    let at-g = c .before .before in
+    let at-gather = at-g .before .before .before .before in
     let start = at-gather .before .before .before .before .before in
     let a = start .args in
-    let g = at-gather .gather .result in
+    let g = at-g .g .given .0 .0 in
     let keys = at-gather .gather .last .1 .1 .1 .1 .0 in
     let long = at-gather .gather .kept .1 .1 .1 .1 .0 in
-    let whole = at-gather .gather .ensures .1 (not-false (g .ok) (at-if1 .if1 .left)) in
+    let whole = chain-whole (start .pre) keys (at-gather .gather .ensures) (at-g .g .given .1) in
     omega (arith, whole .fits)
 
 below-requires : tie.Need-below-requires
@@ -69,27 +69,27 @@ part-has-at-start c = search needs
 
 part-has-at-end : tie.Need-part-has-at-end
 part-has-at-end c =
-    let at-if1 = c .before .before .before .before in
-    let at-gather = at-if1 .before .before .before .before in
+    let at-g = c .before .before .before .before .before in
+    let at-gather = at-g .before .before .before .before in
     let start = at-gather .before .before .before .before .before in
     let a = start .args in
-    let g = at-gather .gather .result in
+    let g = at-g .g .given .0 .0 in
     let keys = at-gather .gather .last .1 .1 .1 .1 .0 in
     let long = at-gather .gather .kept .1 .1 .1 .1 .0 in
-    let whole = at-gather .gather .ensures .1 (not-false (g .ok) (at-if1 .if1 .left)) in
+    let whole = chain-whole (start .pre) keys (at-gather .gather .ensures) (at-g .g .given .1) in
     omega (arith, whole .fits)
 
 has-at-requires : tie.Need-has-at-requires
 has-at-requires c κs =
     let at-below = c .before .before in
-    let at-if1 = at-below .before .before .before in
-    let at-gather = at-if1 .before .before .before .before in
+    let at-g = at-below .before .before .before .before in
+    let at-gather = at-g .before .before .before .before in
     let start = at-gather .before .before .before .before .before in
     let a = start .args in
-    let g = at-gather .gather .result in
+    let g = at-g .g .given .0 .0 in
     let keys = at-gather .gather .last .1 .1 .1 .1 .0 in
     let long = at-gather .gather .kept .1 .1 .1 .1 .0 in
-    let whole = at-gather .gather .ensures .1 (not-false (g .ok) (at-if1 .if1 .left)) in
+    let whole = chain-whole (start .pre) keys (at-gather .gather .ensures) (at-g .g .given .1) in
     (ap ascending (front-part (g .count) keys) ∙ front-ascends (a .root) (a .pages .now) (a .party .chain) (a .n) g keys whole, at-below .below .ensures)
 
 kept-answer-requires : tie.Need-kept-answer-requires
@@ -103,53 +103,53 @@ same-length-4 c = search needs
 
 returns-2 : tie.Need-returns-2
 returns-2 c = λ ls.
-    let at-if3 = c .before in
-    let at-if2 = at-if3 .before in
-    let at-has-at = at-if2 .before .before in
-    let at-if1 = at-has-at .before .before .before .before .before .before in
-    let at-gather = at-if1 .before .before .before .before in
+    let at-if2 = c .before in
+    let at-if1 = at-if2 .before in
+    let at-has-at = at-if1 .before .before in
+    let at-g = at-has-at .before .before .before .before .before .before .before in
+    let at-gather = at-g .before .before .before .before in
     let start = at-gather .before .before .before .before .before in
     let a = start .args in
-    let g = at-gather .gather .result in
+    let g = at-g .g .given .0 .0 in
     let keys = at-gather .gather .last .1 .1 .1 .1 .0 in
     let long = at-gather .gather .kept .1 .1 .1 .1 .0 in
-    let whole = at-gather .gather .ensures .1 (not-false (g .ok) (at-if1 .if1 .left)) in
+    let whole = chain-whole (start .pre) keys (at-gather .gather .ensures) (at-g .g .given .1) in
     let told = at-has-at .has-at .ensures in
     let v = viewing (a .root) (a .party) (a .q) ls (a .pages .now) in
-    let present = chain-has (a .root) (a .pages .now) (a .party .chain) (a .n) g keys whole (a .party .key) told ∙ at-if3 .if3 .taken in
+    let present = chain-has (a .root) (a .pages .now) (a .party .chain) (a .n) g keys whole (a .party .key) told ∙ at-if2 .if2 .taken in
     change-kept v (whole .chain) (whole .is-sound) (c .kept-answer .result)
-    (ap kept (c .kept-answer .ensures) ∙ key-present (a .party .operation) (a .party .key) (whole .chain .entries) (at-if2 .if2 .taken) present)
+    (ap kept (c .kept-answer .ensures) ∙ key-present (a .party .operation) (a .party .key) (whole .chain .entries) (at-if1 .if1 .taken) present)
 
 put-in-requires : tie.Need-put-in-requires
 put-in-requires c κs =
-    let at-if3 = c .before in
-    let at-has-at = at-if3 .before .before .before in
+    let at-if2 = c .before in
+    let at-has-at = at-if2 .before .before .before in
     let at-below = at-has-at .before .before .before in
-    let at-if1 = at-below .before .before .before in
-    let at-gather = at-if1 .before .before .before .before in
+    let at-g = at-below .before .before .before .before in
+    let at-gather = at-g .before .before .before .before in
     let start = at-gather .before .before .before .before .before in
     let a = start .args in
-    let g = at-gather .gather .result in
+    let g = at-g .g .given .0 .0 in
     let keys = at-gather .gather .last .1 .1 .1 .1 .0 in
     let long = at-gather .gather .kept .1 .1 .1 .1 .0 in
-    let whole = at-gather .gather .ensures .1 (not-false (g .ok) (at-if1 .if1 .left)) in
+    let whole = chain-whole (start .pre) keys (at-gather .gather .ensures) (at-g .g .given .1) in
     let few = front-few (a .root) (a .pages .now) (a .party .chain) (a .n) g keys whole (start .pre .0 .few) in
     let keys-fit = start .pre .0 .can-change .keys-fit in
     let told = at-has-at .has-at .ensures in
     let at = at-below .below .ensures ∙ ap (placeOf (a .party .key)) (front-part (g .count) keys) in
-    let absent = front-has (a .root) (a .pages .now) (a .party .chain) (a .n) g keys whole (a .party .key) told ∙ at-if3 .if3 .left in
+    let absent = front-has (a .root) (a .pages .now) (a .party .chain) (a .n) g keys whole (a .party .key) told ∙ at-if2 .if2 .left in
     (omega (arith, few, keys-fit, long, start .pre .1), front-ascends (a .root) (a .pages .now) (a .party .chain) (a .n) g keys whole, at, absent)
 
 add-more : tie.Need-add-more
 add-more c =
-    let at-if1 = c .before .before .before .before .before .before .before .before .before .before .before .before .before in
-    let at-gather = at-if1 .before .before .before .before in
+    let at-g = c .before .before .before .before .before .before .before .before .before .before .before .before .before .before in
+    let at-gather = at-g .before .before .before .before in
     let start = at-gather .before .before .before .before .before in
     let a = start .args in
-    let g = at-gather .gather .result in
+    let g = at-g .g .given .0 .0 in
     let keys = at-gather .gather .last .1 .1 .1 .1 .0 in
     let long = at-gather .gather .kept .1 .1 .1 .1 .0 in
-    let whole = at-gather .gather .ensures .1 (not-false (g .ok) (at-if1 .if1 .left)) in
+    let whole = chain-whole (start .pre) keys (at-gather .gather .ensures) (at-g .g .given .1) in
     let few = front-few (a .root) (a .pages .now) (a .party .chain) (a .n) g keys whole (start .pre .0 .few) in
     let keys-fit = start .pre .0 .can-change .keys-fit in
     record { fits = omega (arith, few, keys-fit) }
@@ -163,14 +163,14 @@ part-write-few-start c = search needs
 part-write-few-end : tie.Need-part-write-few-end
 part-write-few-end c =
     let at-put-in = c .before .before .before in
-    let at-if1 = at-put-in .before .before .before .before .before .before .before .before .before .before .before in
-    let at-gather = at-if1 .before .before .before .before in
+    let at-g = at-put-in .before .before .before .before .before .before .before .before .before .before .before .before in
+    let at-gather = at-g .before .before .before .before in
     let start = at-gather .before .before .before .before .before in
     let a = start .args in
-    let g = at-gather .gather .result in
+    let g = at-g .g .given .0 .0 in
     let keys = at-gather .gather .last .1 .1 .1 .1 .0 in
     let long = at-gather .gather .kept .1 .1 .1 .1 .0 in
-    let whole = at-gather .gather .ensures .1 (not-false (g .ok) (at-if1 .if1 .left)) in
+    let whole = chain-whole (start .pre) keys (at-gather .gather .ensures) (at-g .g .given .1) in
     let few = front-few (a .root) (a .pages .now) (a .party .chain) (a .n) g keys whole (start .pre .0 .few) in
     let keys-fit = start .pre .0 .can-change .keys-fit in
     omega (arith, few, keys-fit, long, start .pre .1, at-put-in .put-in .kept .0)
@@ -178,14 +178,14 @@ part-write-few-end c =
 write-few-requires : tie.Need-write-few-requires
 write-few-requires c κs =
     let at-put-in = c .before .before .before .before .before in
-    let at-if1 = at-put-in .before .before .before .before .before .before .before .before .before .before .before in
-    let at-gather = at-if1 .before .before .before .before in
+    let at-g = at-put-in .before .before .before .before .before .before .before .before .before .before .before .before in
+    let at-gather = at-g .before .before .before .before in
     let start = at-gather .before .before .before .before .before in
     let a = start .args in
-    let g = at-gather .gather .result in
+    let g = at-g .g .given .0 .0 in
     let keys = at-gather .gather .last .1 .1 .1 .1 .0 in
     let long = at-gather .gather .kept .1 .1 .1 .1 .0 in
-    let whole = at-gather .gather .ensures .1 (not-false (g .ok) (at-if1 .if1 .left)) in
+    let whole = chain-whole (start .pre) keys (at-gather .gather .ensures) (at-g .g .given .1) in
     let few = front-few (a .root) (a .pages .now) (a .party .chain) (a .n) g keys whole (start .pre .0 .few) in
     let keys-fit = start .pre .0 .can-change .keys-fit in
     let after = at-put-in .put-in .last .0 in
@@ -202,20 +202,20 @@ returns-3 : tie.Need-returns-3
 returns-3 c = λ ls.
     let at-write-few = c .before .before in
     let at-put-in = at-write-few .before .before .before .before .before .before in
-    let at-if3 = at-put-in .before .before in
-    let at-if2 = at-if3 .before in
-    let at-has-at = at-if2 .before .before in
-    let at-if1 = at-has-at .before .before .before .before .before .before in
-    let at-gather = at-if1 .before .before .before .before in
+    let at-if2 = at-put-in .before .before in
+    let at-if1 = at-if2 .before in
+    let at-has-at = at-if1 .before .before in
+    let at-g = at-has-at .before .before .before .before .before .before .before in
+    let at-gather = at-g .before .before .before .before in
     let start = at-gather .before .before .before .before .before in
     let a = start .args in
-    let g = at-gather .gather .result in
+    let g = at-g .g .given .0 .0 in
     let keys = at-gather .gather .last .1 .1 .1 .1 .0 in
     let long = at-gather .gather .kept .1 .1 .1 .1 .0 in
-    let whole = at-gather .gather .ensures .1 (not-false (g .ok) (at-if1 .if1 .left)) in
+    let whole = chain-whole (start .pre) keys (at-gather .gather .ensures) (at-g .g .given .1) in
     let told = at-has-at .has-at .ensures in
-    let absent = chain-has (a .root) (a .pages .now) (a .party .chain) (a .n) g keys whole (a .party .key) told ∙ at-if3 .if3 .left in
-    let made = inserted-there (a .root) (a .pages .now) (a .party .chain) (a .n) g keys whole (a .party .operation) (a .party .key) (at-put-in .put-in .last .0) (at-if2 .if2 .taken) absent (at-put-in .put-in .ensures) in
+    let absent = chain-has (a .root) (a .pages .now) (a .party .chain) (a .n) g keys whole (a .party .key) told ∙ at-if2 .if2 .left in
+    let made = inserted-there (a .root) (a .pages .now) (a .party .chain) (a .n) g keys whole (a .party .operation) (a .party .key) (at-put-in .put-in .last .0) (at-if1 .if1 .taken) absent (at-put-in .put-in .ensures) in
     at-write-few .write-few .ensures ls (whole .chain) (whole .is-sound) (whole .level) (whole .pages) made
 
 kept-answer-requires-2 : tie.Need-kept-answer-requires-2
@@ -229,55 +229,55 @@ same-length-8 c = search needs
 
 returns-4 : tie.Need-returns-4
 returns-4 c = λ ls.
-    let at-if4 = c .before in
-    let at-if2 = at-if4 .before in
-    let at-has-at = at-if2 .before .before in
-    let at-if1 = at-has-at .before .before .before .before .before .before in
-    let at-gather = at-if1 .before .before .before .before in
+    let at-if3 = c .before in
+    let at-if1 = at-if3 .before in
+    let at-has-at = at-if1 .before .before in
+    let at-g = at-has-at .before .before .before .before .before .before .before in
+    let at-gather = at-g .before .before .before .before in
     let start = at-gather .before .before .before .before .before in
     let a = start .args in
-    let g = at-gather .gather .result in
+    let g = at-g .g .given .0 .0 in
     let keys = at-gather .gather .last .1 .1 .1 .1 .0 in
     let long = at-gather .gather .kept .1 .1 .1 .1 .0 in
-    let whole = at-gather .gather .ensures .1 (not-false (g .ok) (at-if1 .if1 .left)) in
+    let whole = chain-whole (start .pre) keys (at-gather .gather .ensures) (at-g .g .given .1) in
     let told = at-has-at .has-at .ensures in
     let v = viewing (a .root) (a .party) (a .q) ls (a .pages .now) in
-    let absent = chain-has (a .root) (a .pages .now) (a .party .chain) (a .n) g keys whole (a .party .key) told ∙ not-true _ (at-if4 .if4 .taken) in
+    let absent = chain-has (a .root) (a .pages .now) (a .party .chain) (a .n) g keys whole (a .party .key) told ∙ not-true _ (at-if3 .if3 .taken) in
     change-kept v (whole .chain) (whole .is-sound) (c .kept-answer2 .result)
-    (ap kept (c .kept-answer2 .ensures) ∙ key-absent (a .party .operation) (a .party .key) (whole .chain .entries) (at-if2 .if2 .left) absent)
+    (ap kept (c .kept-answer2 .ensures) ∙ key-absent (a .party .operation) (a .party .key) (whole .chain .entries) (at-if1 .if1 .left) absent)
 
 leave-out-requires : tie.Need-leave-out-requires
 leave-out-requires c κs =
-    let at-if4 = c .before in
-    let at-has-at = at-if4 .before .before .before in
+    let at-if3 = c .before in
+    let at-has-at = at-if3 .before .before .before in
     let at-below = at-has-at .before .before .before in
-    let at-if1 = at-below .before .before .before in
-    let at-gather = at-if1 .before .before .before .before in
+    let at-g = at-below .before .before .before .before in
+    let at-gather = at-g .before .before .before .before in
     let start = at-gather .before .before .before .before .before in
     let a = start .args in
-    let g = at-gather .gather .result in
+    let g = at-g .g .given .0 .0 in
     let keys = at-gather .gather .last .1 .1 .1 .1 .0 in
     let long = at-gather .gather .kept .1 .1 .1 .1 .0 in
-    let whole = at-gather .gather .ensures .1 (not-false (g .ok) (at-if1 .if1 .left)) in
+    let whole = chain-whole (start .pre) keys (at-gather .gather .ensures) (at-g .g .given .1) in
     let told = at-has-at .has-at .ensures in
     let at = at-below .below .ensures ∙ ap (placeOf (a .party .key)) (front-part (g .count) keys) in
-    let present = front-has (a .root) (a .pages .now) (a .party .chain) (a .n) g keys whole (a .party .key) told ∙ not-false _ (at-if4 .if4 .left) in
+    let present = front-has (a .root) (a .pages .now) (a .party .chain) (a .n) g keys whole (a .party .key) told ∙ not-false _ (at-if3 .if3 .left) in
     (omega (arith, at, place-before (a .root) (a .pages .now) (a .party .chain) (a .n) g keys whole (a .party .key) present), whole .fits)
 
 sub-fewer : tie.Need-sub-fewer
 sub-fewer c =
-    let at-if4 = c .before .before .before .before in
-    let at-has-at = at-if4 .before .before .before in
-    let at-if1 = at-has-at .before .before .before .before .before .before in
-    let at-gather = at-if1 .before .before .before .before in
+    let at-if3 = c .before .before .before .before in
+    let at-has-at = at-if3 .before .before .before in
+    let at-g = at-has-at .before .before .before .before .before .before .before in
+    let at-gather = at-g .before .before .before .before in
     let start = at-gather .before .before .before .before .before in
     let a = start .args in
-    let g = at-gather .gather .result in
+    let g = at-g .g .given .0 .0 in
     let keys = at-gather .gather .last .1 .1 .1 .1 .0 in
     let long = at-gather .gather .kept .1 .1 .1 .1 .0 in
-    let whole = at-gather .gather .ensures .1 (not-false (g .ok) (at-if1 .if1 .left)) in
+    let whole = chain-whole (start .pre) keys (at-gather .gather .ensures) (at-g .g .given .1) in
     let told = at-has-at .has-at .ensures in
-    let present = front-has (a .root) (a .pages .now) (a .party .chain) (a .n) g keys whole (a .party .key) told ∙ not-false _ (at-if4 .if4 .left) in
+    let present = front-has (a .root) (a .pages .now) (a .party .chain) (a .n) g keys whole (a .party .key) told ∙ not-false _ (at-if3 .if3 .left) in
     omega (arith, place-before (a .root) (a .pages .now) (a .party .chain) (a .n) g keys whole (a .party .key) present)
 
 sub-write-few-2 : tie.Need-sub-write-few-2
@@ -289,27 +289,27 @@ part-write-few-start-2 c = search needs
 part-write-few-end-2 : tie.Need-part-write-few-end-2
 part-write-few-end-2 c =
     let at-leave-out = c .before .before .before in
-    let at-if1 = at-leave-out .before .before .before .before .before .before .before .before .before .before .before in
-    let at-gather = at-if1 .before .before .before .before in
+    let at-g = at-leave-out .before .before .before .before .before .before .before .before .before .before .before .before in
+    let at-gather = at-g .before .before .before .before in
     let start = at-gather .before .before .before .before .before in
     let a = start .args in
-    let g = at-gather .gather .result in
+    let g = at-g .g .given .0 .0 in
     let keys = at-gather .gather .last .1 .1 .1 .1 .0 in
     let long = at-gather .gather .kept .1 .1 .1 .1 .0 in
-    let whole = at-gather .gather .ensures .1 (not-false (g .ok) (at-if1 .if1 .left)) in
+    let whole = chain-whole (start .pre) keys (at-gather .gather .ensures) (at-g .g .given .1) in
     omega (arith, whole .fits, at-leave-out .leave-out .kept .0)
 
 write-few-requires-2 : tie.Need-write-few-requires-2
 write-few-requires-2 c κs =
     let at-leave-out = c .before .before .before .before .before in
-    let at-if1 = at-leave-out .before .before .before .before .before .before .before .before .before .before .before in
-    let at-gather = at-if1 .before .before .before .before in
+    let at-g = at-leave-out .before .before .before .before .before .before .before .before .before .before .before .before in
+    let at-gather = at-g .before .before .before .before in
     let start = at-gather .before .before .before .before .before in
     let a = start .args in
-    let g = at-gather .gather .result in
+    let g = at-g .g .given .0 .0 in
     let keys = at-gather .gather .last .1 .1 .1 .1 .0 in
     let long = at-gather .gather .kept .1 .1 .1 .1 .0 in
-    let whole = at-gather .gather .ensures .1 (not-false (g .ok) (at-if1 .if1 .left)) in
+    let whole = chain-whole (start .pre) keys (at-gather .gather .ensures) (at-g .g .given .1) in
     let few = front-few (a .root) (a .pages .now) (a .party .chain) (a .n) g keys whole (start .pre .0 .few) in
     let keys-fit = start .pre .0 .can-change .keys-fit in
     let after = at-leave-out .leave-out .last .0 in
@@ -326,24 +326,24 @@ returns-5 : tie.Need-returns-5
 returns-5 c = λ ls.
     let at-write-few2 = c .before .before in
     let at-leave-out = at-write-few2 .before .before .before .before .before .before in
-    let at-if4 = at-leave-out .before .before in
-    let at-if2 = at-if4 .before in
-    let at-has-at = at-if2 .before .before in
+    let at-if3 = at-leave-out .before .before in
+    let at-if1 = at-if3 .before in
+    let at-has-at = at-if1 .before .before in
     let at-below = at-has-at .before .before .before in
-    let at-if1 = at-below .before .before .before in
-    let at-gather = at-if1 .before .before .before .before in
+    let at-g = at-below .before .before .before .before in
+    let at-gather = at-g .before .before .before .before in
     let start = at-gather .before .before .before .before .before in
     let a = start .args in
-    let g = at-gather .gather .result in
+    let g = at-g .g .given .0 .0 in
     let keys = at-gather .gather .last .1 .1 .1 .1 .0 in
     let long = at-gather .gather .kept .1 .1 .1 .1 .0 in
-    let whole = at-gather .gather .ensures .1 (not-false (g .ok) (at-if1 .if1 .left)) in
+    let whole = chain-whole (start .pre) keys (at-gather .gather .ensures) (at-g .g .given .1) in
     let told = at-has-at .has-at .ensures in
     let at = at-below .below .ensures ∙ ap (placeOf (a .party .key)) (front-part (g .count) keys) in
-    let found = not-false _ (at-if4 .if4 .left) in
+    let found = not-false _ (at-if3 .if3 .left) in
     let present = front-has (a .root) (a .pages .now) (a .party .chain) (a .n) g keys whole (a .party .key) told ∙ found in
     let left = at-leave-out .leave-out .ensures (a .party .key) (front-ascends (a .root) (a .pages .now) (a .party .chain) (a .n) g keys whole) present at in
-    let made = deleted-there (a .root) (a .pages .now) (a .party .chain) (a .n) g keys whole (a .party .operation) (a .party .key) (at-leave-out .leave-out .last .0) (at-if2 .if2 .left) (chain-has (a .root) (a .pages .now) (a .party .chain) (a .n) g keys whole (a .party .key) told ∙ found) left in
+    let made = deleted-there (a .root) (a .pages .now) (a .party .chain) (a .n) g keys whole (a .party .operation) (a .party .key) (at-leave-out .leave-out .last .0) (at-if1 .if1 .left) (chain-has (a .root) (a .pages .now) (a .party .chain) (a .n) g keys whole (a .party .key) told ∙ found) left in
     at-write-few2 .write-few2 .ensures ls (whole .chain) (whole .is-sound) (whole .level) (whole .pages) made
 
 pub change-gathered-spec : {M : Type 1} → statement M
@@ -351,6 +351,8 @@ change-gathered-spec =
     tie.close
     (tie.spec
     gather-requires
+    enum-known-g
+    enum-told
     same-length
     same-length-2
     returns

@@ -17,7 +17,8 @@ use Rattle.free_list.proofs.Taking.{taken-overflow}
 use Rattle.chain_change.specs.Changing.{changedAnswer}
 use Rattle.chain_change.proofs.Changes.{no-page-answered, free-list-damaged, change-written}
 use Rattle.chain_change.proofs.ReadChains.{chain-link}
-use Rattle.few_pages.proofs.Bounds.{few-pages, overflow-fillable}
+use Rattle.filling.proofs.Fills.{overflow-fillable}
+use Rattle.few_pages.proofs.Bounds.{few-pages}
 use borrow.Author.Needs.{needs}
 use Rattle.few_pages.proofs.write_few.Statement.{statement}
 use Rattle.few_pages.proofs.write_few.Tie as tie
@@ -89,7 +90,7 @@ write-chain-requires c κs =
     let part = front-part count xs in
     let can = start .pre .can-change in
     let over = taken-overflow (a .root) (a .pages .now) count t taken .overflow in
-    (can .keys-fit, rw part (overflow-fillable (a .root) (a .q) (a .party .chain) (a .pages .now) (take count xs) can over), rw (at-scratch-page .scratch-page .ensures) (can .scratch .page-fits))
+    (can .keys-fit, rw part (overflow-fillable (a .root) (a .pages .now) (take count xs) (can .chains-fit) (can .overflow-fits) (can .pages-fit) over), rw (at-scratch-page .scratch-page .ensures) (can .scratch .page-fits))
 
 changed-answer-requires : tie.Need-changed-answer-requires
 changed-answer-requires c κs = search needs

@@ -1,6 +1,6 @@
 -- `filling::page_words` meets its contract.
-use mathlib.Core.Path.{_≡_, ap, _∙_}
-use Prim.Native.Nat.{ℕ, _+_, _-_, _≤_}
+use mathlib.Core.Path.{_≡_, ap₂, _∙_}
+use Prim.Native.Nat.{ℕ, _+_, _-_, _*_, _≤_}
 use native.Mathlib.Omega.{arith}
 use lib.ListN.{length, getD, set, length-set}
 use mathlib.Core.List.{List}
@@ -37,11 +37,14 @@ mul-w c = search needs
 shared-slice-read-w : tie.Need-shared-slice-read-w Inv-loop μ-loop
 shared-slice-read-w c = search needs
 
+mul-w-2 : tie.Need-mul-w-2 Inv-loop μ-loop
+mul-w-2 c = search needs
+
 add-w : tie.Need-add-w Inv-loop μ-loop
 add-w c = search needs
 
-mul-w-2 : tie.Need-mul-w-2 Inv-loop μ-loop
-mul-w-2 c = search needs
+mul-w-3 : tie.Need-mul-w-3 Inv-loop μ-loop
+mul-w-3 c = search needs
 
 array-write-w-4 : tie.Need-array-write-w-4 Inv-loop μ-loop
 array-write-w-4 c = search needs
@@ -59,7 +62,8 @@ loop-again c =
     let ks = a .keys .now in
     let more = c .before .loop-test .taken in
     let written = key-written (a .level) ks (a .link) (l .i) more (c .before .before .before .pre) in
-    (omega arith, simp length-set (l .inv .1), ap (λ (w : List ℕ). set w (3 + l .i) (getD ks (l .i) 0)) (l .inv .2) ∙ written)
+    let word : 3 + l .i * 1 ≡ 3 + l .i = omega arith in
+    (omega arith, simp length-set (l .inv .1), ap₂ (λ (w : List ℕ) (n : ℕ). set w n (getD ks (l .i) 0)) (l .inv .2) word ∙ written)
 
 returns : tie.Need-returns Inv-loop μ-loop
 returns c =
@@ -80,8 +84,9 @@ page-words-spec =
     loop-holds
     mul-w
     shared-slice-read-w
-    add-w
     mul-w-2
+    add-w
+    mul-w-3
     array-write-w-4
     add-i
     loop-less

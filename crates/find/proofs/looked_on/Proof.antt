@@ -6,7 +6,7 @@ use native.Mathlib.Omega.{arith}
 use borrow.Author.Tests.{not-true, not-false}
 use Rattle.model.specs.Pages.{withPage, pageSound}
 use Rattle.records.specs.Words.{partyIn}
-use Rattle.chains.proofs.Tests.{named-within}
+use Rattle.model.proofs.Laws.Tests.{named-within}
 use Rattle.find.proofs.Pages.{next-unsound-refused, next-copied}
 use borrow.Author.Needs.{needs}
 use Rattle.find.proofs.looked_on.Statement.{statement}

@@ -6,7 +6,7 @@ use borrow.Author.Tests.{not-true, not-false}
 use Rattle.model.specs.Entries.{hasKey}
 use Rattle.model.specs.Pages.{pageOf, linkOf, entriesOf, pageSound}
 use Rattle.records.specs.Words.{partyIn}
-use Rattle.chains.proofs.Tests.{sound-named, sound-page-links, sound-page-counts}
+use Rattle.model.proofs.Laws.Tests.{sound-named, sound-page-links, sound-page-counts}
 use Rattle.endings.proofs.Scratching.{ready-has-scratch}
 use Rattle.find.proofs.Pages.{unsound-refused, key-found, no-link-absent, else-looked-on}
 use borrow.Author.Needs.{needs}

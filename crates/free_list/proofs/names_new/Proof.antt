@@ -5,7 +5,7 @@ use Prim.Native.Nat.{_-_, _*_, _<_}
 use native.Mathlib.Omega.{arith}
 use lib.ListN.{length}
 use Rattle.model.specs.Pages.{namesOverflow}
-use Rattle.chains.proofs.Tests.{named-within}
+use Rattle.model.proofs.Laws.Tests.{named-within}
 use Rattle.free_list.proofs.Marks.{unnamed-old, mark-decides, new-marksWith, old-marksWith}
 use borrow.Author.Needs.{needs}
 use Rattle.free_list.proofs.names_new.Statement.{statement}

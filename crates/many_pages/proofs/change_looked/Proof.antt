@@ -9,7 +9,8 @@ use Rattle.entries.proofs.Places.{place-inside}
 use Rattle.key_source.specs.declared.Choice.the-variants.{With}
 use Rattle.key_source.proofs.Choices.{with-length}
 use Rattle.chain_change.proofs.Changes.{change-kept, key-present, key-absent}
-use Rattle.many_pages.proofs.Chosen.{looked-at, chosen-few, one-fewer, made-with, made-without}
+use Rattle.chain_scan.proofs.ScannedChain.{looked-at}
+use Rattle.many_pages.proofs.Chosen.{chosen-few, one-fewer, made-with, made-without}
 use borrow.Author.Needs.{needs}
 use Rattle.many_pages.proofs.change_looked.Statement.{statement}
 use Rattle.many_pages.proofs.change_looked.Tie as tie

@@ -3,7 +3,7 @@ use mathlib.Core.Path.{sym, _∙_}
 use Rattle.model.specs.Chains.{chainOf}
 use Rattle.model.specs.Ready.{viewing}
 use Rattle.chain_change.proofs.Changes.{chain-refused}
-use Rattle.many_pages.proofs.Chosen.{unsound-chain}
+use Rattle.chain_scan.proofs.ScannedChain.{unsound-chain}
 use borrow.Author.Needs.{needs}
 use Rattle.many_pages.proofs.change_many.Statement.{statement}
 use Rattle.many_pages.proofs.change_many.Tie as tie

@@ -9,7 +9,7 @@ use Rattle.model.specs.FreeList.{Taken}
 use Rattle.model.specs.Ready.{viewing}
 use Rattle.model.specs.Pages.{scratchPage}
 use Rattle.model.specs.Steps.Rebuild.{changed, changeOf, owedBy}
-use Rattle.free_list.specs.Taking.{linkedPages}
+use Rattle.chains.specs.Links.{linkedPages}
 use Rattle.free_list.proofs.Linked.{head-drawn, damage-drawn, taken-drawn}
 use Rattle.key_source.specs.declared.Source.{Source}
 use Rattle.key_source.specs.Sources.{chosen, keysOf}

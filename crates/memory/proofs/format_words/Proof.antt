@@ -1,5 +1,5 @@
 -- `memory::format_words` meets its contract.
-use Rattle.model.specs.Records.{rootOfSizes}
+use Rattle.model.specs.Records.{rootSized}
 use Rattle.memory.proofs.FormattedParts.{can-list, root-formatted, locks-formatted, pages-formatted}
 use borrow.Author.Needs.{needs}
 use Rattle.memory.proofs.format_words.Statement.{statement}
@@ -19,7 +19,7 @@ list-overflow-requires c κs =
     let zeroed = c .before .before .before .before in
     let start = zeroed .before .before .before .before .before .before .before .before in
     let a = start .args in
-    can-list (rootOfSizes (a .n) (a .b) (a .p) (a .v) (a .q)) (c .before .root-of-sizes .ensures) (start .pre) (zeroed .zero2 .ensures)
+    can-list (rootSized (a .sizes)) (c .before .root-of-sizes .ensures) (start .pre) (zeroed .zero2 .ensures)
 
 same-length : tie.Need-same-length
 same-length c = search needs
@@ -34,7 +34,7 @@ returns c =
     let zeroed = c .before .before .before .before .before .before .before .before .before .before .before in
     let start = zeroed .before .before .before .before in
     let a = start .args in
-    let s = rootOfSizes (a .n) (a .b) (a .p) (a .v) (a .q) in
+    let s = rootSized (a .sizes) in
     (root-formatted s made (listed .0), locks-formatted s (start .pre) (zeroed .zero .ensures), pages-formatted s made (listed .1))
 
 pub format-words-spec : {M : Type 1} → statement M

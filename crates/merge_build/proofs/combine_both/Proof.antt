@@ -1,6 +1,6 @@
 -- `merge_build::combine_both` meets its contract.
 use mathlib.Core.Path.{_≡_, sym, _∙_}
-use Rattle.model.specs.Steps.MergeBuild.{pairOf}
+use Rattle.model.specs.Ready.{viewing}
 use Rattle.chains.specs.Walks.{counted}
 use Rattle.chains.specs.declared.Walked.the-variants as Walked
 use Rattle.chain_keys.specs.Gathering.{overflowOf}
@@ -51,7 +51,7 @@ returns c = λ ls.
     let p = a .party in
     let bad : counted (overflowOf (a .root) (a .pages .now) (p .chain)) ≡ Walked.Damaged = sym (at-walk .walk .ensures) ∙ c .enum-told .given .1 in
     let pair = target-damaged (a .root) (a .pages .now) (p .chain) (p .other) (unwalked-damaged (a .root) (a .pages .now) (p .chain) bad) in
-    unsound-damaged (a .root) p (a .q) ls (a .pages .now) (pairOf (a .root) (a .pages .now) (p .chain) (p .other)) pair
+    unsound-damaged (viewing (a .root) p (a .q) ls (a .pages .now)) pair
 
 same-length-2 : tie.Need-same-length-2
 same-length-2 c = search needs
@@ -64,7 +64,7 @@ returns-2 c = λ ls.
     let p = a .party in
     let bad : counted (overflowOf (a .root) (a .pages .now) (p .other)) ≡ Walked.Damaged = sym (at-walk2 .walk2 .ensures) ∙ c .enum-told2 .given .1 in
     let pair = partner-damaged (a .root) (a .pages .now) (p .chain) (p .other) (unwalked-damaged (a .root) (a .pages .now) (p .other) bad) in
-    unsound-damaged (a .root) p (a .q) ls (a .pages .now) (pairOf (a .root) (a .pages .now) (p .chain) (p .other)) pair
+    unsound-damaged (viewing (a .root) p (a .q) ls (a .pages .now)) pair
 
 same-length-3 : tie.Need-same-length-3
 same-length-3 c = search needs

@@ -1,42 +1,31 @@
 -- `merge_build::combine_with` meets its contract.
-use mathlib.Core.Path.{_≡_, refl, _∙_}
+use mathlib.Core.Path.{_≡_, refl, ap, _∙_}
 use Prim.Native.Nat.{_-_}
 use native.Mathlib.Omega.{arith}
 use lib.ListN.{take}
-use borrow.Author.Tests.{not-true, not-false}
 use Rattle.model.specs.Steps.MergeBuild.{joinedEntries}
 use Rattle.model.proofs.Laws.Lists.{front-part}
-use Rattle.merge_build.proofs.Combines.{front-need, unsound-damaged, too-few-skipped, unbuilt-damaged, built-made}
+use Rattle.chain_keys.specs.declared.Front.{Front}
+use Rattle.merge_build.proofs.Combines.{front-need, too-few-skipped, unbuilt-damaged, built-made}
 use borrow.Author.Needs.{needs}
 use Rattle.merge_build.proofs.combine_with.Statement.{statement}
 use Rattle.merge_build.proofs.combine_with.Tie as tie
 
-returns : tie.Need-returns
-returns c = λ p ls x joining.
-    let start = c .before .before .before .before .before in
-    let a = start .args in
-    unsound-damaged (a .root) p (a .q) ls (a .pages .now) x (joining .unsound (not-true _ (c .if1 .taken)))
-
 pages-for-requires : tie.Need-pages-for-requires
-pages-for-requires c κs =
-    let start = c .before .before .before .before .before in
-    let fits = start .pre .fits (not-false _ (c .if1 .left)) in
-    (start .pre .some-key, start .pre .can-build .keys-fit, omega (arith, fits, start .pre .few))
+pages-for-requires c κs = search needs
 
-cast-if2 : tie.Need-cast-if2
-cast-if2 c = search needs
+cast-if1 : tie.Need-cast-if1
+cast-if1 c = search needs
 
-returns-2 : tie.Need-returns-2
-returns-2 c = λ p ls x joining.
+returns : tie.Need-returns
+returns c = λ p ls m front entries.
     let at-pages-for = c .before .before in
-    let at-if1 = at-pages-for .before in
-    let start = at-if1 .before .before .before .before .before in
+    let start = at-pages-for .before .before .before .before in
     let a = start .args in
-    let both = joining .joined (not-false _ (at-if1 .if1 .left)) in
     let es = take (a .j .count - 0) (a .out .now) in
-    let joins : es ≡ joinedEntries (both .pair) = front-part (a .j .count) (a .out .now) ∙ both .entries in
-    let many = front-need (a .root .capacity) (a .j .count) (a .out .now) (both .fits) (at-pages-for .pages-for .ensures) in
-    too-few-skipped (a .root) p (a .q) ls (a .pages .now) x (both .pair) (both .is-sound) es joins _ many (c .if2 .taken)
+    let joins : es ≡ joinedEntries m = front-part (a .j .count) (a .out .now) ∙ entries in
+    let many = front-need (a .root .capacity) (a .j .count) (a .out .now) (start .pre .fits) (at-pages-for .pages-for .ensures) in
+    too-few-skipped (a .root) p (a .q) ls (a .pages .now) m es joins _ many (c .if1 .taken)
 
 sub-build-chain : tie.Need-sub-build-chain
 sub-build-chain c = search needs
@@ -45,21 +34,16 @@ part-build-chain-start : tie.Need-part-build-chain-start
 part-build-chain-start c = search needs
 
 part-build-chain-end : tie.Need-part-build-chain-end
-part-build-chain-end c =
-    let at-if1 = c .before .before .before in
-    let start = at-if1 .before .before .before .before .before in
-    start .pre .fits (not-false _ (at-if1 .if1 .left))
+part-build-chain-end c = search needs
 
 build-chain-requires : tie.Need-build-chain-requires
 build-chain-requires c κs =
-    let at-if2 = c .before .before .before in
-    let at-pages-for = at-if2 .before .before in
-    let at-if1 = at-pages-for .before in
-    let start = at-if1 .before .before .before .before .before in
+    let at-pages-for = c .before .before .before .before .before in
+    let start = at-pages-for .before .before .before .before in
     let a = start .args in
     let can = start .pre in
-    let many = front-need (a .root .capacity) (a .j .count) (a .out .now) (can .fits (not-false _ (at-if1 .if1 .left))) (at-pages-for .pages-for .ensures) in
-    (can .can-build, many, omega (arith, at-if2 .if2 .left, can .can-build .free-fits, can .can-build .overflow-fits, can .taken-room))
+    let many = front-need (a .root .capacity) (a .j .count) (a .out .now) (can .fits) (at-pages-for .pages-for .ensures) in
+    (can .can-build, many, omega (arith, c .before .before .before .if1 .left, can .can-build .free-fits, can .can-build .overflow-fits, can .taken-room))
 
 enum-told : tie.Need-enum-told
 enum-told c = search needs
@@ -79,19 +63,17 @@ same-length c = search needs
 same-length-2 : tie.Need-same-length-2
 same-length-2 c = search needs
 
-returns-3 : tie.Need-returns-3
-returns-3 c = λ p ls x joining.
+returns-2 : tie.Need-returns-2
+returns-2 c = λ p ls m front entries.
     let at-build-chain = c .before .before .before .before .before .before in
-    let at-if2 = at-build-chain .before .before .before .before in
-    let at-pages-for = at-if2 .before .before in
-    let at-if1 = at-pages-for .before in
-    let start = at-if1 .before .before .before .before .before in
+    let at-if1 = at-build-chain .before .before .before .before in
+    let at-pages-for = at-if1 .before .before in
+    let start = at-pages-for .before .before .before .before in
     let a = start .args in
-    let both = joining .joined (not-false _ (at-if1 .if1 .left)) in
     let es = take (a .j .count - 0) (a .out .now) in
-    let joins : es ≡ joinedEntries (both .pair) = front-part (a .j .count) (a .out .now) ∙ both .entries in
-    let many = front-need (a .root .capacity) (a .j .count) (a .out .now) (both .fits) (at-pages-for .pages-for .ensures) in
-    unbuilt-damaged (a .root) p (a .q) ls (a .pages .now) x (both .pair) (both .is-sound) es joins _ many (at-if2 .if2 .left) (both .level) (at-build-chain .build-chain .ensures) (c .enum-told .given .1)
+    let joins : es ≡ joinedEntries m = front-part (a .j .count) (a .out .now) ∙ entries in
+    let many = front-need (a .root .capacity) (a .j .count) (a .out .now) (start .pre .fits) (at-pages-for .pages-for .ensures) in
+    unbuilt-damaged (a .root) p (a .q) ls (a .pages .now) m es joins _ many (at-if1 .if1 .left) (ap (λ (j : Front). j .level) front) (at-build-chain .build-chain .ensures) (c .enum-told .given .1)
 
 same-length-3 : tie.Need-same-length-3
 same-length-3 c = search needs
@@ -99,29 +81,26 @@ same-length-3 c = search needs
 same-length-4 : tie.Need-same-length-4
 same-length-4 c = search needs
 
-returns-4 : tie.Need-returns-4
-returns-4 c = λ p ls x joining.
+returns-3 : tie.Need-returns-3
+returns-3 c = λ p ls m front entries.
     let at-head = c .before .before in
     let at-build-chain = at-head .before .before .before .before .before .before in
-    let at-if2 = at-build-chain .before .before .before .before in
-    let at-pages-for = at-if2 .before .before in
-    let at-if1 = at-pages-for .before in
-    let start = at-if1 .before .before .before .before .before in
+    let at-if1 = at-build-chain .before .before .before .before in
+    let at-pages-for = at-if1 .before .before in
+    let start = at-pages-for .before .before .before .before in
     let a = start .args in
-    let both = joining .joined (not-false _ (at-if1 .if1 .left)) in
     let es = take (a .j .count - 0) (a .out .now) in
-    let joins : es ≡ joinedEntries (both .pair) = front-part (a .j .count) (a .out .now) ∙ both .entries in
-    let many = front-need (a .root .capacity) (a .j .count) (a .out .now) (both .fits) (at-pages-for .pages-for .ensures) in
-    built-made (a .root) p (a .q) ls (a .pages .now) x (both .pair) (both .is-sound) es joins _ many (at-if2 .if2 .left) (both .level) (at-build-chain .build-chain .ensures) (at-head .head .given .1) refl (both .link)
+    let joins : es ≡ joinedEntries m = front-part (a .j .count) (a .out .now) ∙ entries in
+    let many = front-need (a .root .capacity) (a .j .count) (a .out .now) (start .pre .fits) (at-pages-for .pages-for .ensures) in
+    built-made (a .root) p (a .q) ls (a .pages .now) m es joins _ many (at-if1 .if1 .left) (ap (λ (j : Front). j .level) front) (at-build-chain .build-chain .ensures) (at-head .head .given .1) refl (ap (λ (j : Front). j .link) front)
 
 pub combine-with-spec : {M : Type 1} → statement M
 combine-with-spec =
     tie.close
     (tie.spec
-    returns
     pages-for-requires
-    cast-if2
-    returns-2
+    cast-if1
+    returns
     sub-build-chain
     part-build-chain-start
     part-build-chain-end
@@ -132,7 +111,7 @@ combine-with-spec =
     sub-left
     same-length
     same-length-2
-    returns-3
+    returns-2
     same-length-3
     same-length-4
-    returns-4)
+    returns-3)

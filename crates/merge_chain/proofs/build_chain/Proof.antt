@@ -3,6 +3,7 @@ use mathlib.Core.Path.{_≡_, sym, ap, ap₂, _∙_}
 use Prim.Native.Nat.{ℕ}
 use mathlib.Core.List.{List}
 use lib.ListN.{take}
+use native.Mathlib.Omega.{arith}
 use Rattle.model.specs.Pages.{withPage, scratchPage}
 use Rattle.model.specs.Chains.{damaged, sound}
 use Rattle.model.specs.Filling.{primaryOf, overflowWritten}
@@ -11,7 +12,8 @@ use Rattle.model.proofs.Laws.Lists.{front-part}
 use Rattle.free_list.specs.declared.Drawn.{Drawn}
 use Rattle.free_list.specs.Taking.{drawnAs}
 use Rattle.free_list.proofs.Taking.{taken-overflow}
-use Rattle.merge_chain.proofs.Building.{overflow-fillable, damaged-unwritten, taken-built}
+use Rattle.filling.proofs.Fills.{overflow-fillable}
+use Rattle.merge_chain.proofs.Building.{damaged-unwritten, taken-built}
 use borrow.Author.Needs.{needs}
 use Rattle.merge_chain.proofs.build_chain.Statement.{statement}
 use Rattle.merge_chain.proofs.build_chain.Tie as tie
@@ -51,7 +53,7 @@ write-chain-requires c κs =
     let part = front-part (a .k) xs in
     let can = start .pre .0 in
     let over = taken-overflow (a .root) (a .pages .now) (a .k) t taken .overflow in
-    (can .keys-fit, rw part (overflow-fillable (a .root) (a .q) (a .pages .now) (take (a .k) xs) can over), rw (at-scratch-page .scratch-page .ensures) (can .scratch .page-fits))
+    (can .keys-fit, rw part (overflow-fillable (a .root) (a .pages .now) (take (a .k) xs) (can .chains-fit) (can .overflow-fits) (omega (arith, can .scratch .page-fits)) over), rw (at-scratch-page .scratch-page .ensures) (can .scratch .page-fits))
 
 same-length : tie.Need-same-length
 same-length c = search needs

@@ -1,13 +1,13 @@
 -- `merge_join::join_chains` meets its contract.
-use mathlib.Core.Path.{_≡_, refl, ap, _∙_}
-use Prim.Native.Nat.{ℕ, _+_, _≤_}
+use mathlib.Core.Path.{_≡_, sym, ap, _∙_}
+use Prim.Native.Nat.{_+_, _≤_}
 use native.Mathlib.Omega.{arith}
 use lib.ListN.{length}
-use borrow.Author.Tests.{not-true, not-false}
 use Rattle.model.specs.Entries.{ascending}
-use Rattle.chain_keys.proofs.WholeChain.{sound-ascends, front-is, front-long}
-use Rattle.merge_join.specs.declared.Joined.{Joined}
-use Rattle.merge_join.proofs.Pairs.{target-damaged, partner-damaged, pair-damaged, pair-joined}
+use Rattle.model.specs.Chains.{chainOf}
+use Rattle.chain_keys.proofs.WholeChain.{sound-ascends, gathered-damaged, gathered-whole, front-is, front-long}
+use Rattle.merge_join.specs.Joining.{gatheredBoth, entriesInBoth}
+use Rattle.merge_join.proofs.Pairs.{target-damaged, partner-damaged, pair-damaged, pair-gathered, pair-in-front}
 use borrow.Author.Needs.{needs}
 use Rattle.merge_join.proofs.join_chains.Statement.{statement}
 use Rattle.merge_join.proofs.join_chains.Tie as tie
@@ -15,23 +15,31 @@ use Rattle.merge_join.proofs.join_chains.Tie as tie
 gather-requires : tie.Need-gather-requires
 gather-requires c κs = search needs
 
-unjoined-requires : tie.Need-unjoined-requires
-unjoined-requires c κs = search needs
+enum-known-g : tie.Need-enum-known-g
+enum-known-g c = search needs
+
+enum-told : tie.Need-enum-told
+enum-told c = search needs
 
 same-length : tie.Need-same-length
 same-length c = search needs
 
 returns : tie.Need-returns
 returns c =
-    let a = c .before .before .before .before .before .before .before .before .before .before .before .args in
-    let bad = target-damaged (a .root) (a .pages .now) (a .party .chain) (a .party .other) (c .before .before .before .before .before .gather .ensures .0 (not-true _ (c .before .if1 .taken))) in
-    (λ e. bad, λ e. absurd (let h = c .unjoined .ensures in let z : _≡_ {A = ℕ} 0 1 = cc in omega arith))
+    let at-gather = c .before .before .before .before in
+    let a = at-gather .before .before .before .before .before .before .args in
+    let chain = gathered-damaged (chainOf (a .root) (a .pages .now) (a .party .chain)) (at-gather .gather .ensures .0) (c .enum-told .given .1) in
+    let bad = sym (target-damaged (a .root) (a .pages .now) (a .party .chain) (a .party .other) chain) in
+    (ap gatheredBoth bad, ap entriesInBoth bad)
 
 gather-requires-2 : tie.Need-gather-requires-2
 gather-requires-2 c κs = search needs
 
-unjoined-requires-2 : tie.Need-unjoined-requires-2
-unjoined-requires-2 c κs = search needs
+enum-known-h : tie.Need-enum-known-h
+enum-known-h c = search needs
+
+enum-told-2 : tie.Need-enum-told-2
+enum-told-2 c = search needs
 
 same-length-2 : tie.Need-same-length-2
 same-length-2 c = search needs
@@ -41,9 +49,11 @@ same-length-3 c = search needs
 
 returns-2 : tie.Need-returns-2
 returns-2 c =
-    let a = c .before .before .before .before .before .before .before .before .before .before .before .before .before .before .before .before .before .args in
-    let bad = partner-damaged (a .root) (a .pages .now) (a .party .chain) (a .party .other) (c .before .before .before .before .before .gather2 .ensures .0 (not-true _ (c .before .if2 .taken))) in
-    (λ e. bad, λ e. absurd (let h = c .unjoined2 .ensures in let z : _≡_ {A = ℕ} 0 1 = cc in omega arith))
+    let at-gather2 = c .before .before .before .before in
+    let a = at-gather2 .before .before .before .before .before .before .before .before .before .before .before .before .before .args in
+    let chain = gathered-damaged (chainOf (a .root) (a .pages .now) (a .party .other)) (at-gather2 .gather2 .ensures .0) (c .enum-told2 .given .1) in
+    let bad = sym (partner-damaged (a .root) (a .pages .now) (a .party .chain) (a .party .other) chain) in
+    (ap gatheredBoth bad, ap entriesInBoth bad)
 
 sub-join : tie.Need-sub-join
 sub-join c = search needs
@@ -53,8 +63,10 @@ part-join-start c = search needs
 
 part-join-end : tie.Need-part-join-end
 part-join-end c =
-    let target = c .before .before .before .before .before .before .before .before .before .before .before .gather .ensures .1 (not-false _ (c .before .before .before .before .before .before .before .if1 .left)) in
-    target .fits
+    let at-g = c .before .before .before .before .before .before .before .before .before in
+    let at-gather = at-g .before .before .before .before in
+    let start = at-gather .before .before .before .before .before .before in
+    gathered-whole (start .pre .target) (at-gather .gather .last .1 .1 .1 .1 .0) (at-gather .gather .ensures) (at-g .g .given .1) .fits
 
 sub-join-2 : tie.Need-sub-join-2
 sub-join-2 c = search needs
@@ -64,42 +76,46 @@ part-join-start-2 c = search needs
 
 part-join-end-2 : tie.Need-part-join-end-2
 part-join-end-2 c =
-    let partner = c .before .before .before .before .before .before .before .gather2 .ensures .1 (not-false _ (c .before .before .before .if2 .left)) in
-    partner .fits
+    let at-h = c .before .before .before .before in
+    let at-gather2 = at-h .before .before .before .before in
+    let start = at-gather2 .before .before .before .before .before .before .before .before .before .before .before .before .before in
+    gathered-whole (start .pre .partner) (at-gather2 .gather2 .last .1 .1 .1 .1 .0) (at-gather2 .gather2 .ensures) (at-h .h .given .1) .fits
 
 join-requires : tie.Need-join-requires
 join-requires c κs =
-    let start = c .before .before .before .before .before .before .before .before .before .before .before .before .before .before .before .before .before .before .before .before .before in
+    let at-h = c .before .before .before .before .before .before in
+    let at-gather2 = at-h .before .before .before .before in
+    let at-g = at-gather2 .before .before .before in
+    let at-gather = at-g .before .before .before .before in
+    let start = at-gather .before .before .before .before .before .before in
     let a = start .args in
-    let can = start .pre in
-    let first = c .before .before .before .before .before .before .before .before .before .before .before .before .before .before .before .gather in
-    let second = c .before .before .before .before .before .before .before .before .before .gather2 in
-    let keys = first .last .1 .1 .1 .1 .0 in
-    let others = second .last .1 .1 .1 .1 .0 in
-    let target = first .ensures .1 (not-false _ (c .before .before .before .before .before .before .before .before .before .before .before .if1 .left)) in
-    let partner = second .ensures .1 (not-false _ (c .before .before .before .before .before .if2 .left)) in
-    let long : length keys ≡ length (a .a .now) = first .kept .1 .1 .1 .1 .0 in
-    let other-long : length others ≡ length (a .b .now) = second .kept .1 .1 .1 .1 .0 in
+    let keys = at-gather .gather .last .1 .1 .1 .1 .0 in
+    let others = at-gather2 .gather2 .last .1 .1 .1 .1 .0 in
+    let target = gathered-whole (start .pre .target) keys (at-gather .gather .ensures) (at-g .g .given .1) in
+    let partner = gathered-whole (start .pre .partner) others (at-gather2 .gather2 .ensures) (at-h .h .given .1) in
+    let long : length keys ≡ length (a .a .now) = at-gather .gather .kept .1 .1 .1 .1 .0 in
+    let other-long : length others ≡ length (a .b .now) = at-gather2 .gather2 .kept .1 .1 .1 .1 .0 in
     let r = a .root in
     let ps = a .pages .now in
     let up = ap ascending (front-is _ keys target) ∙ sound-ascends r ps (a .party .chain) (target .chain) (target .is-sound) in
     let others-up = ap ascending (front-is _ others partner) ∙ sound-ascends r ps (a .party .other) (partner .chain) (partner .is-sound) in
-    (up, others-up, omega (arith, front-long _ keys target, front-long _ others partner, target .fits, partner .fits, long, other-long, can .out-room))
+    (up, others-up, omega (arith, front-long _ keys target, front-long _ others partner, target .fits, partner .fits, long, other-long, start .pre .out-room))
 
-add-t21 : tie.Need-add-t21
-add-t21 c =
-    let start = c .before .before .before .before .before .before .before .before .before .before .before .before .before .before .before .before .before .before .before .before .before .before .before .before in
+add-count : tie.Need-add-count
+add-count c =
+    let at-h = c .before .before .before .before .before .before .before .before .before .before in
+    let at-gather2 = at-h .before .before .before .before in
+    let at-g = at-gather2 .before .before .before in
+    let at-gather = at-g .before .before .before .before in
+    let start = at-gather .before .before .before .before .before .before in
     let a = start .args in
-    let can = start .pre in
-    let first = c .before .before .before .before .before .before .before .before .before .before .before .before .before .before .before .before .before .before .gather in
-    let second = c .before .before .before .before .before .before .before .before .before .before .before .before .gather2 in
-    let keys = first .last .1 .1 .1 .1 .0 in
-    let others = second .last .1 .1 .1 .1 .0 in
-    let target = first .ensures .1 (not-false _ (c .before .before .before .before .before .before .before .before .before .before .before .before .before .before .if1 .left)) in
-    let partner = second .ensures .1 (not-false _ (c .before .before .before .before .before .before .before .before .if2 .left)) in
-    let long : length keys ≡ length (a .a .now) = first .kept .1 .1 .1 .1 .0 in
-    let other-long : length others ≡ length (a .b .now) = second .kept .1 .1 .1 .1 .0 in
-    omega (arith, target .fits, partner .fits, long, other-long, can .out-room, can .few)
+    let keys = at-gather .gather .last .1 .1 .1 .1 .0 in
+    let others = at-gather2 .gather2 .last .1 .1 .1 .1 .0 in
+    let target = gathered-whole (start .pre .target) keys (at-gather .gather .ensures) (at-g .g .given .1) in
+    let partner = gathered-whole (start .pre .partner) others (at-gather2 .gather2 .ensures) (at-h .h .given .1) in
+    let long : length keys ≡ length (a .a .now) = at-gather .gather .kept .1 .1 .1 .1 .0 in
+    let other-long : length others ≡ length (a .b .now) = at-gather2 .gather2 .kept .1 .1 .1 .1 .0 in
+    omega (arith, target .fits, partner .fits, long, other-long, start .pre .out-room, start .pre .few)
 
 same-length-4 : tie.Need-same-length-4
 same-length-4 c = search needs
@@ -112,37 +128,66 @@ same-length-6 c = search needs
 
 returns-3 : tie.Need-returns-3
 returns-3 c =
-    let start = c .before .before .before .before .before .before .before .before .before .before .before .before .before .before .before .before .before .before .before .before .before .before .before .before in
+    let at-h = c .before .before .before .before .before .before .before .before .before .before in
+    let at-gather2 = at-h .before .before .before .before in
+    let at-g = at-gather2 .before .before .before in
+    let at-gather = at-g .before .before .before .before in
+    let start = at-gather .before .before .before .before .before .before in
     let a = start .args in
-    let can = start .pre in
-    let first = c .before .before .before .before .before .before .before .before .before .before .before .before .before .before .before .before .before .before .gather in
-    let second = c .before .before .before .before .before .before .before .before .before .before .before .before .gather2 in
-    let keys = first .last .1 .1 .1 .1 .0 in
-    let others = second .last .1 .1 .1 .1 .0 in
-    let target = first .ensures .1 (not-false _ (c .before .before .before .before .before .before .before .before .before .before .before .before .before .before .if1 .left)) in
-    let partner = second .ensures .1 (not-false _ (c .before .before .before .before .before .before .before .before .if2 .left)) in
-    let long : length keys ≡ length (a .a .now) = first .kept .1 .1 .1 .1 .0 in
-    let other-long : length others ≡ length (a .b .now) = second .kept .1 .1 .1 .1 .0 in
-    let joining = c .before .before .join in
+    let keys = at-gather .gather .last .1 .1 .1 .1 .0 in
+    let others = at-gather2 .gather2 .last .1 .1 .1 .1 .0 in
+    let target = gathered-whole (start .pre .target) keys (at-gather .gather .ensures) (at-g .g .given .1) in
+    let partner = gathered-whole (start .pre .partner) others (at-gather2 .gather2 .ensures) (at-h .h .given .1) in
+    let long : length keys ≡ length (a .a .now) = at-gather .gather .kept .1 .1 .1 .1 .0 in
+    let other-long : length others ≡ length (a .b .now) = at-gather2 .gather2 .kept .1 .1 .1 .1 .0 in
+    let joining = c .before .before .before .join in
     let out = joining .last .1 .1 .0 in
-    let out-long : length out ≡ length (a .out .now) = joining .kept .1 .1 .0 in
-    let j : Joined = record { ok = joining .result; level = first .result .level; link = first .result .link; count = first .result .count + second .result .count } in
+    let r = a .root in
+    let ps = a .pages .now in
     let n = a .party .chain in
     let o = a .party .other in
-    let bad = pair-damaged (a .root) (a .pages .now) n o _ _ _ _ keys others target partner j out (joining .ensures .0) in
-    let fits : first .result .count + second .result .count ≤ length out = omega (arith, target .fits, partner .fits, long, other-long, can .out-room, out-long) in
-    (bad, pair-joined (a .root) (a .pages .now) n o _ _ _ _ keys others target partner j out (joining .ensures .0) refl refl refl fits (joining .ensures .1))
+    let out-long : length out ≡ length (a .out .now) = joining .kept .1 .1 .0 in
+    let fits : at-g .g .given .0 .0 .count + at-h .h .given .0 .0 .count ≤ length out = omega (arith, target .fits, partner .fits, long, other-long, start .pre .out-room, out-long) in (
+      pair-gathered r ps n o _ _ keys others target partner (joining .ensures .0) (c .if1 .taken) out (joining .ensures .1) fits,
+      pair-in-front r ps n o _ _ keys others target partner (joining .ensures .0) (c .if1 .taken) out (joining .ensures .1),
+    )
+
+same-length-7 : tie.Need-same-length-7
+same-length-7 c = search needs
+
+same-length-8 : tie.Need-same-length-8
+same-length-8 c = search needs
+
+same-length-9 : tie.Need-same-length-9
+same-length-9 c = search needs
+
+returns-4 : tie.Need-returns-4
+returns-4 c =
+    let at-h = c .before .before .before .before .before .before .before .before .before .before in
+    let at-gather2 = at-h .before .before .before .before in
+    let at-g = at-gather2 .before .before .before in
+    let at-gather = at-g .before .before .before .before in
+    let start = at-gather .before .before .before .before .before .before in
+    let a = start .args in
+    let keys = at-gather .gather .last .1 .1 .1 .1 .0 in
+    let others = at-gather2 .gather2 .last .1 .1 .1 .1 .0 in
+    let target = gathered-whole (start .pre .target) keys (at-gather .gather .ensures) (at-g .g .given .1) in
+    let partner = gathered-whole (start .pre .partner) others (at-gather2 .gather2 .ensures) (at-h .h .given .1) in
+    let bad = sym (pair-damaged (a .root) (a .pages .now) (a .party .chain) (a .party .other) _ _ keys others target partner (c .before .before .before .join .ensures .0) (c .if1 .left)) in
+    (ap gatheredBoth bad, ap entriesInBoth bad)
 
 pub join-chains-spec : {M : Type 1} → statement M
 join-chains-spec =
     tie.close
     (tie.spec
     gather-requires
-    unjoined-requires
+    enum-known-g
+    enum-told
     same-length
     returns
     gather-requires-2
-    unjoined-requires-2
+    enum-known-h
+    enum-told-2
     same-length-2
     same-length-3
     returns-2
@@ -153,8 +198,12 @@ join-chains-spec =
     part-join-start-2
     part-join-end-2
     join-requires
-    add-t21
+    add-count
     same-length-4
     same-length-5
     same-length-6
-    returns-3)
+    returns-3
+    same-length-7
+    same-length-8
+    same-length-9
+    returns-4)

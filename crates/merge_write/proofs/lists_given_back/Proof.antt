@@ -8,30 +8,16 @@ use Rattle.model.specs.declared.Root.{Root}
 use Rattle.model.specs.Pages.{zeroPage, filledPage}
 use Rattle.model.specs.Chains.{listFrom}
 use Rattle.records.specs.Words.{rootIn, partyIn}
-use Rattle.records.proofs.Words.{root-is}
-use Rattle.free_list.specs.Giving.{listed, Returned, afterGiving}
-use Rattle.free_list.proofs.Giving.{listed-length}
-use Rattle.merge_lists.proofs.Recorded.{walked-at-most}
-use Rattle.merge_write.proofs.Clears.{no-room-refused, all-cleared, head-and-count-suffice}
+use Rattle.records.proofs.Words.{free-list-written, root-is}
+use Rattle.free_list.specs.Giving.{listed, afterGiving}
+use Rattle.free_list.proofs.Giving.{listed-length, free-list-kept, walked-at-most}
+use Rattle.merge_write.proofs.Clears.{no-room-refused, all-cleared}
 use borrow.Author.Needs.{needs}
 use Rattle.merge_write.proofs.lists_given_back.Statement.{statement}
 use Rattle.merge_write.proofs.lists_given_back.Tie as tie
 
 root-of-requires : tie.Need-root-of-requires
 root-of-requires c κs = search needs
-
-sub-if1 : tie.Need-sub-if1
-sub-if1 c =
-    let at-root-of = c .before in
-    let start = at-root-of .before .before .before .before .before in
-    let a = start .args in
-    let r = rootIn (a .root .now) in
-    let p = partyIn (a .party .now) in
-    let pre = start .pre in
-    let er = at-root-of .root-of .ensures in
-    let free = ap (λ (x : Root). x .free) er in
-    let overflow = ap (λ (x : Root). x .overflow) er in
-    omega (arith, pre .2 .free-fits)
 
 add-if1 : tie.Need-add-if1
 add-if1 c =
@@ -42,16 +28,31 @@ add-if1 c =
     let p = partyIn (a .party .now) in
     let pre = start .pre in
     let er = at-root-of .root-of .ensures in
+    let free = ap (λ (x : Root). x .free) er in
     let one = walked-at-most r (a .pages .now) (p .old) (a .n) (pre .4) in
     let two = walked-at-most r (a .pages .now) (a .second) (a .m) (pre .5) in
-    omega (arith, pre .2 .overflow-fits)
+    omega (arith, pre .2 .overflow-fits, pre .2 .free-fits)
+
+add-if1-2 : tie.Need-add-if1-2
+add-if1-2 c =
+    let at-root-of = c .before in
+    let start = at-root-of .before .before .before .before .before in
+    let a = start .args in
+    let r = rootIn (a .root .now) in
+    let p = partyIn (a .party .now) in
+    let pre = start .pre in
+    let er = at-root-of .root-of .ensures in
+    let free = ap (λ (x : Root). x .free) er in
+    let one = walked-at-most r (a .pages .now) (p .old) (a .n) (pre .4) in
+    let two = walked-at-most r (a .pages .now) (a .second) (a .m) (pre .5) in
+    omega (arith, pre .2 .overflow-fits, pre .2 .free-fits)
 
 same-length : tie.Need-same-length
 same-length c = search needs
 
 returns : tie.Need-returns
 returns c = λ q ls.
-    let at-root-of = c .before .before in
+    let at-root-of = c .before .before .before in
     let start = at-root-of .before .before .before .before .before in
     let a = start .args in
     let r = rootIn (a .root .now) in
@@ -72,7 +73,7 @@ slice-read-give-back-both c = search needs
 give-back-both-requires : tie.Need-give-back-both-requires
 give-back-both-requires c κs =
     let at-if1 = c .before .before in
-    let at-root-of = at-if1 .before .before in
+    let at-root-of = at-if1 .before .before .before in
     let start = at-root-of .before .before .before .before .before in
     let a = start .args in
     let r = rootIn (a .root .now) in
@@ -104,7 +105,7 @@ slice-write-root c = search needs
 slice-write-root-2 : tie.Need-slice-write-root-2
 slice-write-root-2 c =
     let at-give-back-both = c .before .before .before .before .before .before .before in
-    let start = at-give-back-both .before .before .before .before .before .before .before .before .before .before in
+    let start = at-give-back-both .before .before .before .before .before .before .before .before .before .before .before in
     omega (arith, start .pre .0, length-set (start .args .root .now) 7 (at-give-back-both .give-back-both .result .head))
 
 at-step-requires : tie.Need-at-step-requires
@@ -126,7 +127,7 @@ returns-2 c = λ q ls.
     let at-store = at-at-step .before .before .before .before in
     let at-give-back-both = at-store .before .before .before .before .before in
     let at-if1 = at-give-back-both .before .before .before in
-    let at-root-of = at-if1 .before .before in
+    let at-root-of = at-if1 .before .before .before in
     let start = at-root-of .before .before .before .before .before in
     let a = start .args in
     let r = rootIn (a .root .now) in
@@ -140,7 +141,8 @@ returns-2 c = λ q ls.
     let count : length (listed xs ++ listed ys) ≡ a .n + a .m = length-append (listed xs) (listed ys) ∙ ap₂ _+_ (listed-length xs (a .n) (pre .4)) (listed-length ys (a .m) (pre .5)) in
     let room : r .free + length (listed xs ++ listed ys) ≤ r .overflow = omega (arith, pre .2 .free-fits, at-if1 .if1 .left) in
     let given = at-give-back-both .give-back-both .ensures ∙ ap (λ (x : Root). afterGiving x (a .pages .now) (listed (listFrom x (a .pages .now) (p .old)) ++ listed (listFrom x (a .pages .now) (a .second)))) er in
-    root-is (head-and-count-suffice (a .root .now) (pre .0) (ap (λ (x : Returned). x .root) given))
+    let after = at-give-back-both .give-back-both .result in
+    root-is (free-list-written (a .root .now) (after .head) (after .free) (pre .0) ∙ free-list-kept r after (a .pages .now) _ _ given)
     ∙ all-cleared r p q ls (a .pages .now) (listed xs ++ listed ys) room given (at-store .store .ensures) (at-at-step .at-step .ensures)
 
 pub lists-given-back-spec : {M : Type 1} → statement M
@@ -148,8 +150,8 @@ lists-given-back-spec =
     tie.close
     (tie.spec
     root-of-requires
-    sub-if1
     add-if1
+    add-if1-2
     same-length
     returns
     slice-read-give-back-both

@@ -5,7 +5,7 @@ use native.Mathlib.Omega.{arith}
 use borrow.Author.Tests.{not-false}
 use Rattle.model.specs.declared.Root.{Root}
 use Rattle.model.specs.Pages.{linkSound, pageSound}
-use Rattle.chains.proofs.Tests.{sound-page-links}
+use Rattle.model.proofs.Laws.Tests.{sound-page-links}
 use Rattle.records.specs.Words.{rootIn, partyIn, seen}
 use Rattle.merge_write.specs.Clearing.{CanClear}
 use Rattle.merge_write.proofs.Clears.{unsound-link-refused, unsound-page-refused, sound-cleared}

@@ -1,5 +1,5 @@
 -- A live chain looked through whole, and one chain built beside the file in pages taken from the free list, its primary page in scratch (steps 10 and 26).
--- Main statements: chain-found; taken-one (the free list gives the pages); building-then, kept-by, none-new (what the party then has), built-inv (the invariant after such a step).
+-- Main statements: chain-found; taken-one (the free list gives the pages); building-then, kept-by, none-new (what the party then has), Onward and built-parts (the parts of the invariant after such a step).
 use mathlib.Core.Path.{_≡_, refl, sym, ap, _∙_, subst}
 use mathlib.Core.Logic.{_≢_}
 use mathlib.Core.Bool.{true, false, false≢true}
@@ -12,7 +12,7 @@ use lib.Dec.{eqb}
 use Rattle.model.specs.declared.Root.{Root}
 use Rattle.model.specs.declared.Party.{Party}
 use Rattle.model.specs.Sizes.{pageWords}
-use Rattle.model.specs.Records.{withFreeList}
+use Rattle.model.specs.Records.{withFreeList, atStep}
 use Rattle.model.specs.Entries.{Entry}
 use Rattle.model.specs.Pages.{pageOf, withPage, primaryPage, scratchPage, linkToFirst, zeroPage}
 use Rattle.model.specs.Chains.{chainOf, sound}
@@ -21,19 +21,21 @@ use Rattle.model.specs.FreeList.{isAmong, pagesTaken}
 use Rattle.model.specs.Memory.{Memory, partyAt}
 use Rattle.model.specs.Book.{Book}
 use Rattle.model.proofs.Laws.Lists.{Told, holds, fails, tell, Cmp, same, diff, cmp, All}
-use Rattle.model.proofs.Invariant.Ghost.{Owner, free, inChain, builtBy, newBy, size, localLevel, count, Ghost, Owned}
-use Rattle.model.proofs.Invariant.Owners.{same-from, kinds-apart, no-repeats, overflow-bounds}
 use Rattle.model.proofs.Laws.Distinct.{distinct-count}
 use Rattle.model.proofs.Laws.Pages.{Has, length-withPage, page-same, page-other}
 use Rattle.model.proofs.Laws.Structure.{Overflow, overflow-frame}
 use Rattle.model.proofs.Laws.Filling.{IsOverflow, length-primaryOf, overflow-written, overflowWritten-other, length-overflowWritten}
 use Rattle.model.proofs.Laws.Reading.{held-overflow, held-length, has-overflow, absent-outside, chain-read}
-use Rattle.model.proofs.Invariant.Claims.{claims}
+use Rattle.model.proofs.Invariant.Ghost.{Owner, free, inChain, builtBy, newBy, size, localLevel, count, Ghost, Owned}
+use Rattle.model.proofs.Invariant.Owners.{same-from, kinds-apart, no-repeats, overflow-bounds}
 use Rattle.model.proofs.Invariant.LockMoves.{locks-root, locks-stay}
 use Rattle.model.proofs.Invariant.Extents.{local-most}
-use Rattle.model.proofs.Invariant.Statement.{restructures, liveFor, lowFor, uses, Scene, NoPages, Building, PartyOk, Inv, sceneOf}
-use Rattle.model.proofs.Effects.Kept.{row-other, extents-move, assemble}
-use Rattle.model.proofs.Effects.Taking.{takenGhost, taken-is, built-many, owned-then, built-then, new-then, held-kept, built-overflow, taking-parts}
+use Rattle.model.proofs.Invariant.Statement.{restructures, liveFor, lowFor, uses, Scene, NoPages, Building, PartyOk, Inv}
+use Rattle.model.proofs.Invariant.Turn.{Turn, before, claimsAt, its-claims, me, restructuresAt, row-long, uses-none, usesAt}
+use Rattle.model.proofs.Invariant.Frame.{claims-at}
+use Rattle.model.proofs.Effects.Kept.{row-other, Parts}
+use Rattle.model.proofs.Effects.Taking.{takenGhost, taken-is, built-many, owned-then, built-then, new-then, held-kept, built-overflow, taking-parts, Takes}
+use Rattle.model.proofs.Effects.Moves.{extents-keep}
 
 -- ---- A live chain looked through
 
@@ -50,8 +52,12 @@ chain-found m b i c live =
 
 -- ---- One chain built: the records es, at this local level
 
-module _ (m : Memory) (b : Book) (i : Inv m b) (q : ℕ) (in-row : q < m .root .parties) (no-pages : NoPages (sceneOf m (i .ghost) b) q)
-    (level : ℕ) (es : List Entry) (enough : pagesFor (m .root .capacity) es ≤ m .root .free) where
+-- The party has no pages yet, and there are enough free pages.
+pub record Builds {m : Memory} {b : Book} {q k : ℕ} (t : Turn m b q k) (es : List Entry) : Type 0 where
+  pub no-pages : NoPages (before t) q
+  pub enough : pagesFor (m .root .capacity) es ≤ m .root .free
+
+module _ {m : Memory} {b : Book} {q k : ℕ} (t : Turn m b q k) (level : ℕ) (es : List Entry) (new : Builds t es) where
   abbrev r : Root
   r = m .root
 
@@ -59,17 +65,11 @@ module _ (m : Memory) (b : Book) (i : Inv m b) (q : ℕ) (in-row : q < m .root .
   need = pagesFor (r .capacity) es
 
   abbrev frees : List ℕ
-  frees = i .ghost .held free
+  frees = t .inv .ghost .held free
 
   -- The laws of pages taken speak of a second run of pages, none here.
-  pub enough-both : need + 0 ≤ r .free
-  enough-both = omega arith
-
-  pub no-built : i .ghost .held (builtBy q) ≡ []
-  no-built = no-pages .nothing-built .no-built
-
-  pub no-new : i .ghost .held (newBy q) ≡ []
-  no-new = no-pages .nothing-built .no-new
+  pub want : Takes t (pagesFor (m .root .capacity) es) 0
+  want = record { enough = omega (arith, new .enough); no-pages = new .no-pages }
 
   -- The pages taken, the root then, and who owns what then.
   abbrev xs : List ℕ
@@ -82,31 +82,31 @@ module _ (m : Memory) (b : Book) (i : Inv m b) (q : ℕ) (in-row : q < m .root .
   builtRoot = withFreeList (linkToFirst (drop need frees)) (r .free - need) r
 
   abbrev pub builtGhost : Ghost
-  builtGhost = takenGhost m b i q in-row need 0 enough-both no-built no-new
+  builtGhost = takenGhost t need 0 want
 
-  pub taken-one : pagesTaken r (m .pages) need ≡ sound (record { pages = take need (i .ghost .held free); head = linkToFirst (drop need (i .ghost .held free)) })
+  pub taken-one : pagesTaken r (m .pages) need ≡ sound (record { pages = take need (t .inv .ghost .held free); head = linkToFirst (drop need (t .inv .ghost .held free)) })
   taken-one =
       subst (λ (n : ℕ). pagesTaken r (m .pages) n ≡ sound (record { pages = take n frees; head = linkToFirst (drop n frees) })) (add-zero need)
-      (taken-is m b i q in-row need 0 enough-both no-built no-new)
+      (taken-is t need 0 want)
 
   owned : Owned (r .primaries) (r .overflow) (builtGhost .own) (builtGhost .held)
-  owned = owned-then m b i q in-row need 0 enough-both no-built no-new
+  owned = owned-then t need 0 want
 
-  pub held-built : builtGhost .held (builtBy q) ≡ take need (i .ghost .held free)
-  held-built = built-then m b i q in-row need 0 enough-both no-built no-new
+  pub held-built : builtGhost .held (builtBy q) ≡ take need (t .inv .ghost .held free)
+  held-built = built-then t need 0 want
 
   pub many-built : length (builtGhost .held (builtBy q)) ≡ need
-  many-built = ap (λ (l : List ℕ). length l) held-built ∙ built-many m b i q in-row need 0 enough-both no-built no-new
+  many-built = ap (λ (l : List ℕ). length l) held-built ∙ built-many t need 0 want
 
   pub none-new : builtGhost .held (newBy q) ≡ []
-  none-new = new-then m b i q in-row need 0 enough-both no-built no-new
+  none-new = new-then t need 0 want
 
   -- Every owner but the free list and what the party builds keeps its list.
-  pub kept-by : (o : Owner) → eqb (o .kind) 1 ≡ false → eqb (o .kind) 5 ≡ false → eqb (o .kind) 6 ≡ false → builtGhost .held o ≡ i .ghost .held o
-  kept-by o f u n = held-kept m b i q in-row need 0 enough-both no-built no-new o (kinds-apart o free f) (kinds-apart o (builtBy q) u) (kinds-apart o (newBy q) n)
+  pub kept-by : (o : Owner) → eqb (o .kind) 1 ≡ false → eqb (o .kind) 5 ≡ false → eqb (o .kind) 6 ≡ false → builtGhost .held o ≡ t .inv .ghost .held o
+  kept-by o f u n = held-kept t need 0 want o (kinds-apart o free f) (kinds-apart o (builtBy q) u) (kinds-apart o (newBy q) n)
 
   xs-overflow : All (IsOverflow r) xs
-  xs-overflow = built-overflow m b i q in-row need 0 enough-both no-built no-new
+  xs-overflow = built-overflow t need 0 want
 
   -- ---- The pages written
 
@@ -120,16 +120,16 @@ module _ (m : Memory) (b : Book) (i : Inv m b) (q : ℕ) (in-row : q < m .root .
   builtMemory = withPage filled (scratchPage r q) primary
 
   xs-has : All (Has (m .pages)) xs
-  xs-has = has-overflow r (m .pages) xs (i .pages-many) xs-overflow
+  xs-has = has-overflow r (m .pages) xs (t .inv .pages-many) xs-overflow
 
   filled-long : length filled ≡ length (m .pages)
-  filled-long = length-overflowWritten (r .capacity) (i .limits .keys-fit) (m .pages) xs es xs-has
+  filled-long = length-overflowWritten (r .capacity) (t .inv .limits .keys-fit) (m .pages) xs es xs-has
 
   primary-long : length primary ≡ pageWords
-  primary-long = length-primaryOf (r .capacity) level es xs (i .limits .keys-fit)
+  primary-long = length-primaryOf (r .capacity) level es xs (t .inv .limits .keys-fit)
 
   scratch-has : Has filled (scratchPage r q)
-  scratch-has = record { fits = omega (arith, filled-long, i .pages-many) }
+  scratch-has = record { fits = omega (arith, filled-long, t .inv .pages-many) }
 
   memory-long : length builtMemory ≡ length (m .pages)
   memory-long = length-withPage filled (scratchPage r q) primary scratch-has primary-long ∙ filled-long
@@ -138,7 +138,7 @@ module _ (m : Memory) (b : Book) (i : Inv m b) (q : ℕ) (in-row : q < m .root .
   scratch-off x n = page-other filled (scratchPage r q) primary scratch-has primary-long x n
 
   off : (x : ℕ) → x ≢ scratchPage r q → isAmong x xs ≡ false → pageOf builtMemory x ≡ pageOf (m .pages) x
-  off x n h = scratch-off x n ∙ overflowWritten-other (r .capacity) (i .limits .keys-fit) (m .pages) xs es xs-has x (absent-outside x xs h)
+  off x n h = scratch-off x n ∙ overflowWritten-other (r .capacity) (t .inv .limits .keys-fit) (m .pages) xs es xs-has x (absent-outside x xs h)
 
   -- A page taken is an overflow page.
   bounds : (x : ℕ) → isAmong x xs ≡ true → (r .primaries ≤ x) × (x < r .primaries + r .overflow)
@@ -154,8 +154,8 @@ module _ (m : Memory) (b : Book) (i : Inv m b) (q : ℕ) (in-row : q < m .root .
   overflow-built : Overflow (r .capacity) builtMemory xs (drop (r .capacity) es)
   overflow-built =
       overflow-frame (r .capacity) filled builtMemory xs (drop (r .capacity) es) (same-from filled builtMemory xs (λ x h. scratch-off x (let z = bounds x h in λ e. omega arith)))
-      (overflow-written (r .capacity) (i .limits .keys-fit) (m .pages) xs es (i .limits .some-key) xs-has
-      (distinct-count xs (λ x. subst (λ (l : List ℕ). count x l ≤ 1) held-built (no-repeats owned (builtBy q) x))) (built-many m b i q in-row need 0 enough-both no-built no-new))
+      (overflow-written (r .capacity) (t .inv .limits .keys-fit) (m .pages) xs es (t .inv .limits .some-key) xs-has
+      (distinct-count xs (λ x. subst (λ (l : List ℕ). count x l ≤ 1) held-built (no-repeats owned (builtBy q) x))) (built-many t need 0 want))
 
   -- ---- A step that built this and goes on with the record p and the book c
 
@@ -169,35 +169,53 @@ module _ (m : Memory) (b : Book) (i : Inv m b) (q : ℕ) (in-row : q < m .root .
       built = subst (λ (l : List ℕ). Overflow (r .capacity) builtMemory l (drop (r .capacity) es)) (sym held-built) overflow-built;
     }
 
-    -- Where the record claims the same locks and leaves the extents, and the book notes nothing but for this party.
-    module _ (same-claims : claims r p ≡ claims r (partyAt (m .parties) q))
-        (stays : restructures p ≡ restructures (partyAt (m .parties) q)) (same-live : restructures p ≡ true → liveFor r p ≡ liveFor r (partyAt (m .parties) q))
-        (same-low : restructures p ≡ true → lowFor r p ≡ lowFor r (partyAt (m .parties) q)) (not-used : (d : ℕ) → uses (partyAt (m .parties) q) d ≡ false)
-        (entries= : (j : ℕ) → j ≢ q → c .entries j ≡ b .entries j) (contents= : c .contents ≡ b .contents) where
-      row-long : q < length (m .parties)
-      row-long = omega (arith, i .parties-many)
+    -- What the step leaves besides.
+    pub record Onward : Type 0 where
+      pub uses-no-page : usesAt k ≡ false
+      pub same-claims : claimsAt (p .step) p ≡ claimsAt k (me t)
+      pub same-part : restructures p ≡ restructuresAt k
+      pub same-live : liveFor (m .root) p ≡ liveFor (m .root) (atStep k (me t))
+      pub same-low : lowFor (m .root) p ≡ lowFor (m .root) (atStep k (me t))
+      pub entries= : (j : ℕ) → j ≢ q → c .entries j ≡ b .entries j
+      pub contents= : c .contents ≡ b .contents
 
-      dead-then : (d : ℕ) → size (r .originals) (i .ghost .live) ≤ d → d < r .primaries → ((j : ℕ) → uses (partyAt (set (m .parties) q p) j) d ≡ false) → pageOf builtMemory (primaryPage d) ≡ zeroPage
-      dead-then d far fits u = off d (omega arith) (primary-off d fits) ∙ i .pages-ok .dead d far fits (λ j. unused j (cmp j q))
+    module _ (on : Onward) where
+      dead-then : (d : ℕ) → size (r .originals) (t .inv .ghost .live) ≤ d → d < r .primaries → ((j : ℕ) → uses (partyAt (set (m .parties) q p) j) d ≡ false) → pageOf builtMemory (primaryPage d) ≡ zeroPage
+      dead-then d far fits u = off d (omega arith) (primary-off d fits) ∙ t .inv .pages-ok .dead d far fits (λ j. unused j (cmp j q))
         where
           unused : (j : ℕ) → Cmp j q → uses (partyAt (m .parties) j) d ≡ false
-          unused j (same e) = rw e (not-used d)
+          unused j (same e) = rw e (uses-none t (on .uses-no-page) d)
           unused j (diff n) = rw (row-other (m .parties) q j p n) at (u j)
 
-      -- The invariant afterwards, first with the root as the laws of pages taken write it.
-      inv-taking : PartyOk (record { root = rootTaking (need + 0); parties = set (m .parties) q p; pages = builtMemory; ghost = builtGhost; entries = c .entries }) q p
-          → Inv (record { root = rootTaking (need + 0); parties = set (m .parties) q p; locks = m .locks; pages = builtMemory }) c
+      -- The parts of the invariant, first with the root as the laws of pages taken write it.
+      parts-taking : PartyOk (record { root = rootTaking (need + 0); parties = set (m .parties) q p; pages = builtMemory; ghost = builtGhost; entries = c .entries }) q p
+          → Parts m b (t .inv) q (rootTaking (need + 0)) (m .locks) builtMemory p c builtGhost
       unfolding rootTaking isAmong
-      inv-taking self =
-          assemble m b i q in-row (rootTaking (need + 0)) (m .locks) builtMemory p c builtGhost
-          (taking-parts m b i q in-row need 0 enough-both no-built no-new builtMemory p c [] memory-long (no-pages .nothing-old .no-old) (λ x n _ h _. off x n h)
-          (λ x h. absurd (false≢true h)) (λ x h. absurd (false≢true h)) entries= contents= dead-then (m .locks)
-          (extents-move r (rootTaking (need + 0)) (record { limits = record { originals= = refl; capacity= = refl; primaries= = refl; overflow= = refl; parties= = refl }; level= = refl; next= = refl })
-          (m .parties) (i .ghost) builtGhost refl refl q p row-long stays same-live same-low (i .extents-ok))
-          (locks-root r (rootTaking (need + 0)) (set (m .parties) q p) (locks-stay r (m .parties) q p row-long same-claims (i .locks-ok))) self)
+      parts-taking self =
+          taking-parts t need 0 want builtMemory p c []
+          (record {
+            long = memory-long;
+            off = λ x n _ h _. off x n h;
+            touch-extra = λ x h. absurd (false≢true h);
+            extra-primary = λ x h. absurd (false≢true h);
+            entries= = on .entries=;
+            contents= = on .contents=;
+            dead = dead-then;
+          })
+          (m .locks)
+          (extents-keep t
+          (record {
+            sizes = record { limits = record { originals= = refl; capacity= = refl; primaries= = refl; overflow= = refl; parties= = refl }; level= = refl; next= = refl };
+            live= = refl;
+            low= = refl;
+          })
+          p (on .same-part) (on .same-live) (on .same-low))
+          (locks-root r (rootTaking (need + 0)) (set (m .parties) q p)
+          (locks-stay r (m .parties) q p (row-long t) (claims-at r p (p .step) refl ∙ on .same-claims ∙ sym (its-claims t)) (t .inv .locks-ok)))
+          self
 
-      pub built-inv : PartyOk builtScene q p → Inv (record { root = builtRoot; parties = set (m .parties) q p; locks = m .locks; pages = builtMemory }) c
+      pub built-parts : PartyOk builtScene q p → Parts m b (t .inv) q builtRoot (m .locks) builtMemory p c builtGhost
       unfolding rootTaking
-      built-inv =
+      built-parts =
           subst (λ (n : ℕ). PartyOk (record { root = rootTaking n; parties = set (m .parties) q p; pages = builtMemory; ghost = builtGhost; entries = c .entries }) q p
-          → Inv (record { root = rootTaking n; parties = set (m .parties) q p; locks = m .locks; pages = builtMemory }) c) (add-zero need) inv-taking
+          → Parts m b (t .inv) q (rootTaking n) (m .locks) builtMemory p c builtGhost) (add-zero need) parts-taking

@@ -70,14 +70,13 @@ given-up-locks {h = h} (c ∷ cs) v ok l d f a =
 
 -- A party that gives up all it holds, and whose new record claims nothing.
 pub release-all : {n : ℕ} (r : Root) (ps : List Party) (v : View) → LocksOk n (v .locks) (claimed r ps) → v .number < length ps → v .number < 16 → (p : Party)
-    → claims r p ≡ [] → Apart (claims r (partyAt ps (v .number))) → All (λ c. c .word < n) (claims r (partyAt ps (v .number)))
-    → All (λ c. claimed r ps (c .word) (v .number) (c .mode) ≡ true) (claims r (partyAt ps (v .number)))
-    → LocksOk n (givenUp (claims r (partyAt ps (v .number))) v .locks) (claimed r (set ps (v .number) p))
+    → claims r p ≡ [] → (cs : List Claim) → claims r (partyAt ps (v .number)) ≡ cs → Apart cs → All (λ c. c .word < n) cs
+    → All (λ c. claimed r ps (c .word) (v .number) (c .mode) ≡ true) cs → LocksOk n (givenUp cs v .locks) (claimed r (set ps (v .number) p))
 unfolding without isClaimed
-release-all r ps v ok in-row small p none d f a =
-    locks-move r ps (v .number) p in-row (given-up-locks (claims r (partyAt ps (v .number))) v ok small d f a) (λ i k o. go i k o (cmp k (v .number)))
+release-all r ps v ok in-row small p none cs has d f a =
+    locks-move r ps (v .number) p in-row (given-up-locks cs v ok small d f a) (λ i k o. go i k o (cmp k (v .number)))
   where
-    go : (i k : ℕ) (o : Mode) → Cmp k (v .number) → (claimed r ps i k o && not (eqb k (v .number) && isClaimed (claims r (partyAt ps (v .number))) i o))
+    go : (i k : ℕ) (o : Mode) → Cmp k (v .number) → (claimed r ps i k o && not (eqb k (v .number) && isClaimed cs i o))
         ≡ cond (eqb k (v .number)) (isClaimed (claims r p) i o) (claimed r ps i k o)
-    go i k o (same e) = rw (e, eqb-same (v .number) (v .number) refl, none) (and-not-self (isClaimed (claims r (partyAt ps (v .number))) i o))
+    go i k o (same e) = rw (e, eqb-same (v .number) (v .number) refl, none, has) (and-not-self (isClaimed cs i o))
     go i k o (diff n) = rw (eqb-diff k (v .number) n) (and-true (claimed r ps i k o))

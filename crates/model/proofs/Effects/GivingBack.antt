@@ -21,17 +21,18 @@ use Rattle.model.specs.Memory.{Memory, partyAt}
 use Rattle.model.specs.Book.{Book}
 use Rattle.model.specs.LockRequests.{modeOf}
 use Rattle.model.proofs.Laws.Lists.{Told, holds, fails, tell, Cmp, same, diff, cmp, not-both, or-neither, first-or-rest, eqb-diff, eqb-false, le-leb, count-nil, count-append, count-reverse, among-count, count-among, absent-count, count-absent, All, all-from, all-append}
-use Rattle.model.proofs.Invariant.Ghost.{Owner, owner, Named, nobody, free, inChain, oldOf, partnerOf, builtBy, newBy, sameOwner, count, size, Ghost, Owned, ownAfter, heldAfter}
-use Rattle.model.proofs.Invariant.Owners.{kinds-apart, indices-apart, own-of-member, member-of-own, overflow-bounds, held-after-same, held-after-other, own-after-moved, own-after-other, handed, handed-all-onto, same-from}
 use Rattle.model.proofs.Laws.Pages.{Has}
 use Rattle.model.proofs.Laws.Structure.{FreePages, free-frame}
 use Rattle.model.proofs.Laws.Filling.{IsOverflow}
 use Rattle.model.proofs.Laws.Reading.{has-overflow, held-overflow, held-apart, length-overflow}
 use Rattle.model.proofs.Laws.FreeList.{given-head, given-free, given-other, length-given}
+use Rattle.model.proofs.Invariant.Ghost.{Owner, owner, Named, nobody, free, inChain, oldOf, partnerOf, builtBy, newBy, sameOwner, count, size, Ghost, Owned, ownAfter, heldAfter}
+use Rattle.model.proofs.Invariant.Owners.{kinds-apart, indices-apart, own-of-member, member-of-own, overflow-bounds, held-after-same, held-after-other, own-after-moved, own-after-other, handed, handed-all-onto, same-from}
 use Rattle.model.proofs.Invariant.Claims.{claims, isClaimed, claimed, LocksOk}
 use Rattle.model.proofs.Invariant.LockMoves.{exclusive-alone}
-use Rattle.model.proofs.Invariant.Statement.{ExtentsOk, uses, Scene, NothingBuilt, NoPages, PartyOk, Inv, sceneOf}
+use Rattle.model.proofs.Invariant.Statement.{ExtentsOk, uses, Scene, NothingBuilt, NoPages, PartyOk, Inv}
 use Rattle.model.proofs.Invariant.Frame.{SameSizes, claims-at, named}
+use Rattle.model.proofs.Invariant.Turn.{Turn, before}
 use Rattle.model.proofs.Effects.Kept.{Parts}
 use Rattle.model.proofs.Effects.Touch.{Touch, own-page, Touches, FreeAfter, keeps-touched, pages-touched, book-touched, dead-kept}
 
@@ -48,30 +49,27 @@ no-reader m b i q fits alone j n e same-chain =
         (rw (claims-at (m .root) (partyAt (m .parties) j) 9 e) (named [] (chainWord (partyAt (m .parties) j .chain)) (modeOf (partyAt (m .parties) j))))
 
 -- The pages zs are given back: all that the party has to give back.
-module _ (m : Memory) (b : Book) (i : Inv m b) (q : ℕ) (in-row : q < m .root .parties) (zs : List ℕ)
-    (mine : (x : ℕ) → count x zs ≡ count x (i .ghost .held (oldOf q)) + count x (i .ghost .held (partnerOf q))) where
-  abbrev me : Party
-  me = partyAt (m .parties) q
-
+module _ {m : Memory} {b : Book} {q k : ℕ} (t : Turn m b q k) (zs : List ℕ)
+    (mine : (x : ℕ) → count x zs ≡ count x (t .inv .ghost .held (oldOf q)) + count x (t .inv .ghost .held (partnerOf q))) where
   abbrev olds : List ℕ
-  olds = i .ghost .held (oldOf q)
+  olds = t .inv .ghost .held (oldOf q)
 
   abbrev partners : List ℕ
-  partners = i .ghost .held (partnerOf q)
+  partners = t .inv .ghost .held (partnerOf q)
 
   abbrev frees : List ℕ
-  frees = i .ghost .held free
+  frees = t .inv .ghost .held free
 
   abbrev held₁ : Owner → List ℕ
-  held₁ = heldAfter (heldAfter (i .ghost .held) (oldOf q) []) free (reverse olds ++ frees)
+  held₁ = heldAfter (heldAfter (t .inv .ghost .held) (oldOf q) []) free (reverse olds ++ frees)
 
   abbrev pub givenGhost : Ghost
   givenGhost = record {
-    own = ownAfter (ownAfter (i .ghost .own) olds free) partners free;
+    own = ownAfter (ownAfter (t .inv .ghost .own) olds free) partners free;
     held = heldAfter (heldAfter held₁ (partnerOf q) []) free (reverse zs ++ frees);
-    records = i .ghost .records;
-    live = i .ghost .live;
-    low = i .ghost .low;
+    records = t .inv .ghost .records;
+    live = t .inv .ghost .live;
+    low = t .inv .ghost .low;
   }
 
   abbrev pub givenRoot : Root
@@ -99,21 +97,21 @@ module _ (m : Memory) (b : Book) (i : Inv m b) (q : ℕ) (in-row : q < m .root .
   bounds x h = go (either x h)
     where
       go : (isAmong x olds ≡ true) ⊎ (isAmong x partners ≡ true) → (m .root .primaries ≤ x) × (x < m .root .primaries + m .root .overflow)
-      go (inl k) = overflow-bounds (i .pages-ok .owned) (oldOf q) x k
-      go (inr k) = overflow-bounds (i .pages-ok .owned) (partnerOf q) x k
+      go (inl k) = overflow-bounds (t .inv .pages-ok .owned) (oldOf q) x k
+      go (inr k) = overflow-bounds (t .inv .pages-ok .owned) (partnerOf q) x k
 
   zs-overflow : All (IsOverflow (m .root)) zs
   zs-overflow = all-from (IsOverflow (m .root)) zs (λ x h. let z = bounds x h in record { above = z .0; below = z .1 })
 
   zs-has : All (Has (m .pages)) zs
-  zs-has = has-overflow (m .root) (m .pages) zs (i .pages-many) zs-overflow
+  zs-has = has-overflow (m .root) (m .pages) zs (t .inv .pages-many) zs-overflow
 
   pub given-long : length givenPages ≡ length (m .pages)
   given-long = length-given (m .pages) (m .root .head) zs zs-has
 
   apart-free : (y : ℕ) → count y zs + count y frees ≤ 1
   apart-free y =
-      let w = i .pages-ok .owned in
+      let w = t .inv .pages-ok .owned in
       omega (
         arith,
         mine y,
@@ -127,23 +125,23 @@ module _ (m : Memory) (b : Book) (i : Inv m b) (q : ℕ) (in-row : q < m .root .
       le-leb (m .root .free + length zs) (m .root .overflow)
       (omega (
         arith,
-        i .pages-ok .free-count,
+        t .inv .pages-ok .free-count,
         length-append zs frees,
-        length-overflow (m .root) (zs ++ frees) (all-append (IsOverflow (m .root)) zs frees zs-overflow (held-overflow (m .root) (i .pages-ok .owned) free))
+        length-overflow (m .root) (zs ++ frees) (all-append (IsOverflow (m .root)) zs frees zs-overflow (held-overflow (m .root) (t .inv .pages-ok .owned) free))
             (λ y. omega (arith, count-append y zs frees, apart-free y)),
       ))
 
   -- ---- Who has what then
 
   free₁ : held₁ free ≡ reverse olds ++ frees
-  free₁ = held-after-same (heldAfter (i .ghost .held) (oldOf q) []) free (reverse olds ++ frees)
+  free₁ = held-after-same (heldAfter (t .inv .ghost .held) (oldOf q) []) free (reverse olds ++ frees)
 
-  kept₁ : (o : Owner) → sameOwner o free ≡ false → sameOwner o (oldOf q) ≡ false → held₁ o ≡ i .ghost .held o
-  kept₁ o f n = held-after-other (heldAfter (i .ghost .held) (oldOf q) []) free (reverse olds ++ frees) o f ∙ held-after-other (i .ghost .held) (oldOf q) [] o n
+  kept₁ : (o : Owner) → sameOwner o free ≡ false → sameOwner o (oldOf q) ≡ false → held₁ o ≡ t .inv .ghost .held o
+  kept₁ o f n = held-after-other (heldAfter (t .inv .ghost .held) (oldOf q) []) free (reverse olds ++ frees) o f ∙ held-after-other (t .inv .ghost .held) (oldOf q) [] o n
 
   owned-then : Owned (m .root .primaries) (m .root .overflow) (givenGhost .own) (givenGhost .held)
   owned-then =
-      handed (handed-all-onto (i .pages-ok .owned) (oldOf q) free (kinds-apart (oldOf q) free refl) (kinds-apart (oldOf q) nobody refl) (kinds-apart free nobody refl))
+      handed (handed-all-onto (t .inv .pages-ok .owned) (oldOf q) free (kinds-apart (oldOf q) free refl) (kinds-apart (oldOf q) nobody refl) (kinds-apart free nobody refl))
       (partnerOf q) free (kinds-apart (partnerOf q) free refl) (kinds-apart (partnerOf q) nobody refl) (kinds-apart free nobody refl) partners [] (reverse zs ++ frees)
       (λ x. omega (arith, ap (count x) (kept₁ (partnerOf q) (kinds-apart (partnerOf q) free refl) (kinds-apart (partnerOf q) (oldOf q) refl)), count-nil x))
       (λ x. omega (
@@ -168,20 +166,20 @@ module _ (m : Memory) (b : Book) (i : Inv m b) (q : ℕ) (in-row : q < m .root .
   old-given =
       held-after-other (heldAfter held₁ (partnerOf q) []) free (reverse zs ++ frees) (oldOf q) (kinds-apart (oldOf q) free refl)
       ∙ held-after-other held₁ (partnerOf q) [] (oldOf q) (kinds-apart (oldOf q) (partnerOf q) refl)
-      ∙ held-after-other (heldAfter (i .ghost .held) (oldOf q) []) free (reverse olds ++ frees) (oldOf q) (kinds-apart (oldOf q) free refl)
-      ∙ held-after-same (i .ghost .held) (oldOf q) []
+      ∙ held-after-other (heldAfter (t .inv .ghost .held) (oldOf q) []) free (reverse olds ++ frees) (oldOf q) (kinds-apart (oldOf q) free refl)
+      ∙ held-after-same (t .inv .ghost .held) (oldOf q) []
 
-  pub given-kept : (o : Owner) → sameOwner o free ≡ false → sameOwner o (oldOf q) ≡ false → sameOwner o (partnerOf q) ≡ false → givenGhost .held o ≡ i .ghost .held o
+  pub given-kept : (o : Owner) → sameOwner o free ≡ false → sameOwner o (oldOf q) ≡ false → sameOwner o (partnerOf q) ≡ false → givenGhost .held o ≡ t .inv .ghost .held o
   given-kept o f n p =
       held-after-other (heldAfter held₁ (partnerOf q) []) free (reverse zs ++ frees) o f ∙ held-after-other held₁ (partnerOf q) [] o p ∙ kept₁ o f n
 
-  pub no-pages-given : NothingBuilt (sceneOf m (i .ghost) b) q → (s : Scene) → s .ghost ≡ givenGhost → NoPages s q
+  pub no-pages-given : NothingBuilt (before t) q → (s : Scene) → s .ghost ≡ givenGhost → NoPages s q
   no-pages-given h s e = record {
     nothing-built = record { no-built = stays (builtBy q) refl refl refl (h .no-built); no-new = stays (newBy q) refl refl refl (h .no-new) };
     nothing-old = record { no-old = rw e old-given; no-partner = rw e partner-given };
   }
     where
-      stays : (o : Owner) → eqb (o .kind) 1 ≡ false → eqb (o .kind) 3 ≡ false → eqb (o .kind) 4 ≡ false → i .ghost .held o ≡ [] → s .ghost .held o ≡ []
+      stays : (o : Owner) → eqb (o .kind) 1 ≡ false → eqb (o .kind) 3 ≡ false → eqb (o .kind) 4 ≡ false → t .inv .ghost .held o ≡ [] → s .ghost .held o ≡ []
       stays o f n p none = rw e (given-kept o (kinds-apart o free f) (kinds-apart o (oldOf q) n) (kinds-apart o (partnerOf q) p) ∙ none)
 
   -- ---- A step that gives them back and goes on with the record p and the book c
@@ -192,7 +190,7 @@ module _ (m : Memory) (b : Book) (i : Inv m b) (q : ℕ) (in-row : q < m .root .
     pub long : length ps ≡ length givenPages
     pub off : (x : ℕ) → x ≢ extra → pageOf ps x ≡ pageOf givenPages x
     pub no-overflow : m .root .primaries ≤ extra → m .root .primaries + m .root .overflow ≤ extra
-    pub may-touch : Touch (sceneOf m (i .ghost) b) q extra
+    pub may-touch : Touch (before t) q extra
     pub zeroed : extra < m .root .primaries → pageOf ps (primaryPage extra) ≡ zeroPage
     pub only-used : (d : ℕ) → d ≢ extra → uses (partyAt (m .parties) q) d ≡ false
     pub holds-chain : isClaimed (claims (m .root) (partyAt (m .parties) q)) (chainWord (partyAt (m .parties) q .chain)) Exclusive ≡ true
@@ -211,18 +209,18 @@ module _ (m : Memory) (b : Book) (i : Inv m b) (q : ℕ) (in-row : q < m .root .
     unfolding isAmong
     unwritten x h = let n = or-neither (eqb extra x) (isAmong x zs) h in ((λ e. eqb-false extra x (n .0) (sym e)), n .1)
 
-    touch : (x : ℕ) → isAmong x written ≡ true → Touch (sceneOf m (i .ghost) b) q x
+    touch : (x : ℕ) → isAmong x written ≡ true → Touch (before t) q x
     touch x h = go (first-or-rest x extra zs h)
       where
-        own : (isAmong x olds ≡ true) ⊎ (isAmong x partners ≡ true) → Touch (sceneOf m (i .ghost) b) q x
-        own (inl k) = own-page 3 (omega arith) (omega arith) (own-of-member (i .pages-ok .owned) (oldOf q) x k)
-        own (inr k) = own-page 4 (omega arith) (omega arith) (own-of-member (i .pages-ok .owned) (partnerOf q) x k)
+        own : (isAmong x olds ≡ true) ⊎ (isAmong x partners ≡ true) → Touch (before t) q x
+        own (inl k) = own-page 3 (omega arith) (omega arith) (own-of-member (t .inv .pages-ok .owned) (oldOf q) x k)
+        own (inr k) = own-page 4 (omega arith) (omega arith) (own-of-member (t .inv .pages-ok .owned) (partnerOf q) x k)
 
-        go : (extra ≡ x) ⊎ (isAmong x zs ≡ true) → Touch (sceneOf m (i .ghost) b) q x
-        go (inl e) = subst (λ (y : ℕ). Touch (sceneOf m (i .ghost) b) q y) e (g .may-touch)
+        go : (extra ≡ x) ⊎ (isAmong x zs ≡ true) → Touch (before t) q x
+        go (inl e) = subst (λ (y : ℕ). Touch (before t) q y) e (g .may-touch)
         go (inr k) = own (either x k)
 
-    touches : Touches (sceneOf m (i .ghost) b) givenScene q p written
+    touches : Touches (before t) givenScene q p written
     touches = record {
       sizes = given-sizes;
       row= = refl;
@@ -236,23 +234,23 @@ module _ (m : Memory) (b : Book) (i : Inv m b) (q : ℕ) (in-row : q < m .root .
       off = λ x h. let u = unwritten x h in g .off x (u .0) ∙ given-other (m .pages) (m .root .head) zs zs-has x (u .1);
       own-off = λ x h.
           let u = neither x (unwritten x h .1) in
-          own-after-other (ownAfter (i .ghost .own) olds free) partners free x (u .1) ∙ own-after-other (i .ghost .own) olds free x (u .0);
+          own-after-other (ownAfter (t .inv .ghost .own) olds free) partners free x (u .1) ∙ own-after-other (t .inv .ghost .own) olds free x (u .0);
       touch = touch;
       stays = λ x e h.
-          absurd (not-both (isAmong x olds) (member-of-own (i .pages-ok .owned) (oldOf q) x (kinds-apart (oldOf q) nobody refl) e) (neither x (unwritten x h .1) .0));
-      unread = λ x e h j n k. no-reader m b i q (g .chain-fits) (g .holds-chain) j n k;
+          absurd (not-both (isAmong x olds) (member-of-own (t .inv .pages-ok .owned) (oldOf q) x (kinds-apart (oldOf q) nobody refl) e) (neither x (unwritten x h .1) .0));
+      unread = λ x e h j n k. no-reader m b (t .inv) q (g .chain-fits) (g .holds-chain) j n k;
     }
 
     kinds-then : (x : ℕ) → Named (givenGhost .own x)
     kinds-then x = go (tell (isAmong x partners)) (tell (isAmong x olds))
       where
         own₁ : ℕ → Owner
-        own₁ = ownAfter (i .ghost .own) olds free
+        own₁ = ownAfter (t .inv .ghost .own) olds free
 
         go : Told (isAmong x partners) → Told (isAmong x olds) → Named (givenGhost .own x)
         go (holds h) t = rw (own-after-moved own₁ partners free x h) (omega arith)
-        go (fails h) (holds k) = rw (own-after-other own₁ partners free x h, own-after-moved (i .ghost .own) olds free x k) (omega arith)
-        go (fails h) (fails k) = rw (own-after-other own₁ partners free x h, own-after-other (i .ghost .own) olds free x k) (i .pages-ok .kinds x)
+        go (fails h) (holds k) = rw (own-after-other own₁ partners free x h, own-after-moved (t .inv .ghost .own) olds free x k) (omega arith)
+        go (fails h) (fails k) = rw (own-after-other own₁ partners free x h, own-after-other (t .inv .ghost .own) olds free x k) (t .inv .pages-ok .kinds x)
 
     -- The primary pages outside the live file.
     untouched-primary : (d : ℕ) → d < m .root .primaries → d ≢ extra → isAmong d written ≡ false
@@ -266,19 +264,19 @@ module _ (m : Memory) (b : Book) (i : Inv m b) (q : ℕ) (in-row : q < m .root .
             no (inl e) = n (sym e)
             no (inr k) = let z = bounds d k in omega arith
 
-    free-after : FreeAfter m b i q in-row givenScene p written touches
+    free-after : FreeAfter t touches
     free-after = record {
       owned = owned-then;
       kinds = kinds-then;
-      head-is = ap (λ (l : ℕ). givenBack (m .pages) l zs .head) (i .pages-ok .head-is) ∙ given-head (m .pages) frees zs ∙ ap linkToFirst (sym free-then);
-      free-count = omega (arith, ap (λ (l : List ℕ). length l) free-then, length-append (reverse zs) frees, length-reverse zs, i .pages-ok .free-count);
+      head-is = ap (λ (l : ℕ). givenBack (m .pages) l zs .head) (t .inv .pages-ok .head-is) ∙ given-head (m .pages) frees zs ∙ ap linkToFirst (sym free-then);
+      free-count = omega (arith, ap (λ (l : List ℕ). length l) free-then, length-append (reverse zs) frees, length-reverse zs, t .inv .pages-ok .free-count);
       free-pages = rw free-then (free-frame givenPages ps (reverse zs ++ frees) (same-from givenPages ps (reverse zs ++ frees) (λ x h. g .off x (no-extra x h))) given-pages);
       dead = λ d far fits u. go d far fits u (cmp d extra);
     }
       where
         given-pages : FreePages givenPages (reverse zs ++ frees)
-        given-pages = subst (λ (l : ℕ). FreePages (givenBack (m .pages) l zs .pages) (reverse zs ++ frees)) (sym (i .pages-ok .head-is))
-            (given-free (m .pages) frees zs zs-has apart-free (i .pages-ok .free-pages))
+        given-pages = subst (λ (l : ℕ). FreePages (givenBack (m .pages) l zs .pages) (reverse zs ++ frees)) (sym (t .inv .pages-ok .head-is))
+            (given-free (m .pages) frees zs zs-has apart-free (t .inv .pages-ok .free-pages))
 
         no-extra : (x : ℕ) → isAmong x (reverse zs ++ frees) ≡ true → x ≢ extra
         no-extra x h e =
@@ -286,20 +284,20 @@ module _ (m : Memory) (b : Book) (i : Inv m b) (q : ℕ) (in-row : q < m .root .
             let f = g .no-overflow (omega arith) in
             omega arith
 
-        go : (d : ℕ) → size (m .root .originals) (i .ghost .live) ≤ d → d < m .root .primaries → ((j : ℕ) → uses (partyAt (set (m .parties) q p) j) d ≡ false) → Cmp d extra
+        go : (d : ℕ) → size (m .root .originals) (t .inv .ghost .live) ≤ d → d < m .root .primaries → ((j : ℕ) → uses (partyAt (set (m .parties) q p) j) d ≡ false) → Cmp d extra
             → pageOf ps (primaryPage d) ≡ zeroPage
         go d far fits u (same e) = rw e (g .zeroed (omega arith))
-        go d far fits u (diff n) = dead-kept m b i q in-row givenScene p written touches d (untouched-primary d fits n) far fits u (λ _. g .only-used d n)
+        go d far fits u (diff n) = dead-kept t touches d (untouched-primary d fits n) far fits u (λ _. g .only-used d n)
 
     pub giving-parts : (ls : List ℕ) → ExtentsOk givenRoot (set (m .parties) q p) givenGhost → LocksOk (lockWords givenRoot) ls (claimed givenRoot (set (m .parties) q p))
-        → PartyOk givenScene q p → Parts m b i q givenRoot ls ps p c givenGhost
+        → PartyOk givenScene q p → Parts m b (t .inv) q givenRoot ls ps p c givenGhost
     giving-parts ls x l s = record {
       sizes = given-sizes .limits;
       pages-many = g .long ∙ given-long;
       extents = x;
       locks = l;
-      pages = pages-touched m b i q in-row givenScene p written touches free-after;
-      book = book-touched m b i q in-row givenScene p written touches c (g .contents=);
+      pages = pages-touched t touches free-after;
+      book = book-touched t touches c (g .contents=);
       self = s;
-      others = keeps-touched m b i q in-row givenScene p written touches;
+      others = keeps-touched t touches;
     }

@@ -1,5 +1,5 @@
 -- What is owed of a step: it is not refused, it agrees with the set book, and the invariant holds after it; and how the parts of the invariant are put together again.
--- Main statements: Kept; row-same, row-other, row-chain (the row after one record changed); extents-move, extents-by-one; assemble; waits-kept (a waiting call).
+-- Main statements: Kept; row-same, row-other, row-chain (the row after one record changed); ExtentsStay and extents-move, ExtentsByOne and extents-by-one, extents-leave; assemble; waits-kept (a waiting call), moved-kept (a step that moves).
 use mathlib.Core.Path.{_≡_, refl, sym, ap, _∙_}
 use mathlib.Core.Logic.{_≢_}
 use mathlib.Core.Bool.{true, false, false≢true}
@@ -15,14 +15,16 @@ use Rattle.model.specs.Sizes.{lockWords}
 use Rattle.model.specs.Records.{idle}
 use Rattle.model.specs.Answers.{refusalNumber}
 use Rattle.model.specs.Addresses.{span}
-use Rattle.model.specs.Outcome.{Outcome, waits}
+use Rattle.model.specs.Outcome.{Outcome, waits, moved}
 use Rattle.model.specs.Memory.{Memory, partyAt, viewOf, afterStep}
-use Rattle.model.specs.Book.{Book, agreesWith, afterReply}
+use Rattle.model.specs.Book.{Book, agreesWith, noteFor, afterReply}
 use Rattle.model.proofs.Laws.Lists.{Cmp, same, diff, cmp}
 use Rattle.model.proofs.Invariant.Ghost.{Extent, rootExtent, size, Ghost}
 use Rattle.model.proofs.Invariant.Claims.{LocksOk, claimed}
 use Rattle.model.proofs.Invariant.Statement.{Limits, restructures, liveFor, lowFor, ExtentsOk, PagesOk, BookOk, NoPages, PartyOk, sceneOf, Inv}
 use Rattle.model.proofs.Invariant.Frame.{SameLimits, SameSizes, Keeps, party-frame, none-kept}
+use Rattle.model.proofs.Invariant.Turn.{Turn, restructures-now, restructuresAt, row-long}
+use Rattle.model.proofs.Invariant.Restructurer.{others-rest}
 
 -- What is owed of a step of party q that has the outcome o.
 pub record Kept (m : Memory) (b : Book) (q : ℕ) (o : Outcome) : Type 0 where
@@ -59,51 +61,84 @@ low-sizes r t z p = rw (z .limits .originals=, z .level=, z .next=) refl
 pub root-extent-sizes : (r t : Root) → SameSizes r t → rootExtent t ≡ rootExtent r
 root-extent-sizes r t z = rw (z .level=, z .next=) refl
 
-module _ (r t : Root) (z : SameSizes r t) (ps : List Party) (g h : Ghost) (live= : h .live ≡ g .live) (low= : h .low ≡ g .low) (q : ℕ) (p : Party) (in-row : q < length ps)
-    (stays : restructures p ≡ restructures (partyAt ps q)) (same-live : restructures p ≡ true → liveFor r p ≡ liveFor r (partyAt ps q))
-    (same-low : restructures p ≡ true → lowFor r p ≡ lowFor r (partyAt ps q)) where
-  by-party : (f : Root → Party → Extent) (e : Extent) → (restructures p ≡ true → f r p ≡ f r (partyAt ps q)) → ((x : Party) → f t x ≡ f r x)
+-- From root r to t, from ghost g to h, where the record of party q becomes p: what the extents go by stays.
+pub record ExtentsStay (r t : Root) (ps : List Party) (g h : Ghost) (q : ℕ) (p : Party) : Type 0 where
+  pub sizes : SameSizes r t
+  pub live= : h .live ≡ g .live
+  pub low= : h .low ≡ g .low
+  pub in-row : q < length ps
+  pub same-part : restructures p ≡ restructures (partyAt ps q)
+  pub same-live : restructures p ≡ true → liveFor r p ≡ liveFor r (partyAt ps q)
+  pub same-low : restructures p ≡ true → lowFor r p ≡ lowFor r (partyAt ps q)
+
+module _ {r t : Root} {ps : List Party} {g h : Ghost} {q : ℕ} {p : Party} (x : ExtentsStay r t ps g h q p) where
+  by-party : (f : Root → Party → Extent) (e : Extent) → (restructures p ≡ true → f r p ≡ f r (partyAt ps q)) → ((y : Party) → f t y ≡ f r y)
       → ((j : ℕ) → restructures (partyAt ps j) ≡ true → e ≡ f r (partyAt ps j)) → (j : ℕ) → Cmp j q → restructures (partyAt (set ps q p) j) ≡ true → e ≡ f t (partyAt (set ps q p) j)
   by-party f e s y ok j (same i) k =
-      let k′ : restructures p ≡ true = rw (i, row-same ps q p in-row) at k in
-      rw (i, row-same ps q p in-row) (ok q (sym stays ∙ k′) ∙ sym (s k′) ∙ sym (y p))
+      let k′ : restructures p ≡ true = rw (i, row-same ps q p (x .in-row)) at k in
+      rw (i, row-same ps q p (x .in-row)) (ok q (sym (x .same-part) ∙ k′) ∙ sym (s k′) ∙ sym (y p))
   by-party f e s y ok j (diff n) k = rw (row-other ps q j p n) (ok j (rw (row-other ps q j p n) at k) ∙ sym (y (partyAt ps j)))
 
   was-at-rest : ((j : ℕ) → restructures (partyAt (set ps q p) j) ≡ false) → (j : ℕ) → Cmp j q → restructures (partyAt ps j) ≡ false
-  was-at-rest f j (same i) = rw i (sym stays ∙ (rw (row-same ps q p in-row) at (f q)))
+  was-at-rest f j (same i) = rw i (sym (x .same-part) ∙ (rw (row-same ps q p (x .in-row)) at (f q)))
   was-at-rest f j (diff n) = rw (row-other ps q j p n) at (f j)
 
   pub extents-move : ExtentsOk r ps g → ExtentsOk t (set ps q p) h
-  extents-move ok = record {
-    live-by = λ j k. live= ∙ by-party liveFor (g .live) same-live (live-sizes r t z) (ok .live-by) j (cmp j q) k;
-    low-by = λ j k. low= ∙ by-party lowFor (g .low) same-low (low-sizes r t z) (ok .low-by) j (cmp j q) k;
-    at-rest = λ f.
-        let a = ok .at-rest (λ j. was-at-rest f j (cmp j q)) in
-        let e = sym (root-extent-sizes r t z) in
-        (live= ∙ a .0 ∙ e, low= ∙ a .1 ∙ e);
-    live-next = rw (live=, z .limits .originals=) (ok .live-next);
-    live-fits = rw (live=, z .limits .originals=, z .limits .primaries=) (ok .live-fits);
-    root-next = rw (z .limits .originals=, z .level=, z .next=) (ok .root-next);
-    root-fits = rw (z .limits .originals=, z .level=, z .next=, z .limits .primaries=) (ok .root-fits);
-  }
+  extents-move ok =
+      let z = x .sizes in
+      record {
+        live-by = λ j k. x .live= ∙ by-party liveFor (g .live) (x .same-live) (live-sizes r t z) (ok .live-by) j (cmp j q) k;
+        low-by = λ j k. x .low= ∙ by-party lowFor (g .low) (x .same-low) (low-sizes r t z) (ok .low-by) j (cmp j q) k;
+        at-rest = λ f.
+            let a = ok .at-rest (λ j. was-at-rest f j (cmp j q)) in
+            let e = sym (root-extent-sizes r t z) in
+            (x .live= ∙ a .0 ∙ e, x .low= ∙ a .1 ∙ e);
+        live-next = rw (x .live=, z .limits .originals=) (ok .live-next);
+        live-fits = rw (x .live=, z .limits .originals=, z .limits .primaries=) (ok .live-fits);
+        root-next = rw (z .limits .originals=, z .level=, z .next=) (ok .root-next);
+        root-fits = rw (z .limits .originals=, z .level=, z .next=, z .limits .primaries=) (ok .root-fits);
+      }
 
--- Where nobody but party q restructures, how far the file extends goes by its record.
-pub extents-by-one : (t : Root) (ps : List Party) (h : Ghost) (q : ℕ) (p : Party) → q < length ps → ((j : ℕ) → j ≢ q → restructures (partyAt ps j) ≡ false) → restructures p ≡ true
-    → h .live ≡ liveFor t p → h .low ≡ lowFor t p → h .live .next < span (t .originals) (h .live .level) → size (t .originals) (h .live) ≤ t .primaries
-    → t .next < span (t .originals) (t .level) → size (t .originals) (rootExtent t) ≤ t .primaries → ExtentsOk t (set ps q p) h
-extents-by-one t ps h q p in-row others mine live low live-next live-fits root-next root-fits = record {
-  live-by = λ j r. rw (only j r (cmp j q), row-same ps q p in-row) live;
-  low-by = λ j r. rw (only j r (cmp j q), row-same ps q p in-row) low;
-  at-rest = λ f. absurd (false≢true (sym (rw (row-same ps q p in-row) at (f q)) ∙ mine));
-  live-next = live-next;
-  live-fits = live-fits;
-  root-next = root-next;
-  root-fits = root-fits;
+-- The party restructures on, with root r, ghost h and record p: how far the file extends goes by its record.
+pub record ExtentsByOne (r : Root) (h : Ghost) (p : Party) : Type 0 where
+  pub still : restructures p ≡ true
+  pub live : h .live ≡ liveFor r p
+  pub low : h .low ≡ lowFor r p
+  pub live-next : h .live .next < span (r .originals) (h .live .level)
+  pub live-fits : size (r .originals) (h .live) ≤ r .primaries
+  pub root-next : r .next < span (r .originals) (r .level)
+  pub root-fits : size (r .originals) (rootExtent r) ≤ r .primaries
+
+pub extents-by-one : {m : Memory} {b : Book} {q k : ℕ} (t : Turn m b q k) → restructuresAt k ≡ true → {r : Root} {h : Ghost} {p : Party} → ExtentsByOne r h p → ExtentsOk r (set (m .parties) q p) h
+extents-by-one {m} {b} {q} t mine {r} {h} {p} x = record {
+  live-by = λ j on. rw (only j on (cmp j q), row-same (m .parties) q p (row-long t)) (x .live);
+  low-by = λ j on. rw (only j on (cmp j q), row-same (m .parties) q p (row-long t)) (x .low);
+  at-rest = λ f. absurd (false≢true (sym (rw (row-same (m .parties) q p (row-long t)) at (f q)) ∙ x .still));
+  live-next = x .live-next;
+  live-fits = x .live-fits;
+  root-next = x .root-next;
+  root-fits = x .root-fits;
 }
   where
-    only : (j : ℕ) → restructures (partyAt (set ps q p) j) ≡ true → Cmp j q → j ≡ q
-    only j r (same e) = e
-    only j r (diff n) = absurd (false≢true (sym (others j n) ∙ (rw (row-other ps q j p n) at r)))
+    only : (j : ℕ) → restructures (partyAt (set (m .parties) q p) j) ≡ true → Cmp j q → j ≡ q
+    only j on (same e) = e
+    only j on (diff n) = absurd (false≢true (sym (others-rest m b (t .inv) q (restructures-now t ∙ mine) j n) ∙ (rw (row-other (m .parties) q j p n) at on)))
+
+-- A restructurer that ends while the live file extends as the root says.
+pub extents-leave : (r : Root) (ps : List Party) (g : Ghost) (q : ℕ) (p : Party) → q < length ps → restructures p ≡ false
+    → (g .live ≡ rootExtent r) × (g .low ≡ rootExtent r) → ExtentsOk r ps g → ExtentsOk r (set ps q p) g
+extents-leave r ps g q p in-row rests e ok = record {
+  live-by = λ j h. rw (row-other ps q j p (other j h)) (ok .live-by j (rw (row-other ps q j p (other j h)) at h));
+  low-by = λ j h. rw (row-other ps q j p (other j h)) (ok .low-by j (rw (row-other ps q j p (other j h)) at h));
+  at-rest = λ _. e;
+  live-next = ok .live-next;
+  live-fits = ok .live-fits;
+  root-next = ok .root-next;
+  root-fits = ok .root-fits;
+}
+  where
+    other : (j : ℕ) → restructures (partyAt (set ps q p) j) ≡ true → j ≢ q
+    other j h s = false≢true (sym rests ∙ (rw (s, row-same ps q p in-row) at h))
 
 -- ---- Putting the invariant together
 
@@ -132,12 +167,12 @@ pub record Parts (m : Memory) (b : Book) (i : Inv m b) (q : ℕ) (t : Root) (ls 
 
 module _ (m : Memory) (b : Book) (i : Inv m b) (q : ℕ) (in-row : q < m .root .parties) (t : Root) (ls ps : List ℕ) (p : Party) (c : Book) (h : Ghost)
     (x : Parts m b i q t ls ps p c h) where
-  row-long : q < length (m .parties)
-  row-long = omega (arith, i .parties-many)
+  in-list : q < length (m .parties)
+  in-list = omega (arith, i .parties-many)
 
   each-party : (j : ℕ) → j < t .parties → Cmp j q
       → PartyOk (record { root = t; parties = set (m .parties) q p; pages = ps; ghost = h; entries = c .entries }) j (partyAt (set (m .parties) q p) j)
-  each-party j l (same e) = rw (e, row-same (m .parties) q p row-long) (x .self)
+  each-party j l (same e) = rw (e, row-same (m .parties) q p in-list) (x .self)
   each-party j l (diff n) = rw (row-other (m .parties) q j p n) (party-frame _ _ j (partyAt (m .parties) j) (x .others j n) (i .parties-ok j (rw (x .sizes .parties=) at l)))
 
   each-stranger : (j : ℕ) → t .parties ≤ j
@@ -171,4 +206,17 @@ waits-kept m b q i = record {
   allowed = refl;
   right = refl;
   inv = rw (set-getD (m .parties) q idle) i;
+}
+
+-- ---- A step that moves
+
+-- It leaves the parts of the invariant that it proves; the book is then c.
+pub moved-kept : {m : Memory} {b c : Book} {q k : ℕ} {r : Root} {ls ps : List ℕ} {p : Party} {h : Ghost} (t : Turn m b q k)
+    → noteFor b q (b .entries q) (partyAt (m .parties) q .step) ≡ c → Parts m b (t .inv) q r ls ps p c h
+    → Kept m b q (moved (record { root = r; party = p; number = q; locks = ls; pages = ps }))
+unfolding refusalNumber agreesWith afterReply
+moved-kept {m} {b} {c} {q} {k} {r} {ls} {ps} {p} {h} t noted x = record {
+  allowed = refl;
+  right = refl;
+  inv = rw noted (assemble m b (t .inv) q (t .in-row) r ls ps p c h x);
 }

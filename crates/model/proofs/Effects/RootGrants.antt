@@ -3,10 +3,9 @@
 use mathlib.Core.Path.{_≡_, refl, sym, ap, _∙_}
 use mathlib.Core.Logic.{_⊎_, inl, inr}
 use mathlib.Core.Bool.{true, false, true≢false, false≢true}
-use mathlib.Core.List.{List}
-use Prim.Native.Nat.{ℕ, _<_}
+use Prim.Native.Nat.{ℕ}
 use native.Mathlib.Omega.{arith}
-use lib.ListN.{length, getD, set}
+use lib.ListN.{getD, set}
 use Rattle.model.specs.declared.Root.{Root}
 use Rattle.model.specs.declared.Party.{Party}
 use Rattle.model.specs.declared.Mode.{Mode}
@@ -16,12 +15,13 @@ use Rattle.model.specs.Memory.{Memory, partyAt}
 use Rattle.model.specs.Book.{Book}
 use Rattle.model.specs.Holds.{tableOne, sameMode}
 use Rattle.model.proofs.Laws.Lists.{Told, holds, fails, tell, Cmp, same, diff, cmp}
-use Rattle.model.proofs.Invariant.Ghost.{Extent, rootExtent, Ghost}
+use Rattle.model.proofs.Invariant.Ghost.{Extent, rootExtent}
 use Rattle.model.proofs.Invariant.Claims.{claimed}
 use Rattle.model.proofs.Invariant.LockMoves.{table-true}
 use Rattle.model.proofs.Invariant.Statement.{restructures, liveFor, lowFor, ExtentsOk, Inv}
-use Rattle.model.proofs.Effects.Kept.{row-same, row-other}
 use Rattle.model.proofs.Invariant.Restructurer.{restructures-root}
+use Rattle.model.proofs.Invariant.Turn.{Turn, row-long}
+use Rattle.model.proofs.Effects.Kept.{row-same, row-other}
 
 -- Table I permits nothing but a read beside a selective or an exclusive lock.
 beside-none : (o : Mode) → sameMode o Read ≡ false → (tableOne o Selective ≡ false) × (tableOne o Exclusive ≡ false)
@@ -45,21 +45,26 @@ granted-rests m b i o not-read permitted j = go (tell (restructures (partyAt (m 
     go (holds e) = absurd (none-holds (restructures-root (m .root) (partyAt (m .parties) j) e))
     go (fails e) = e
 
-module _ (r : Root) (ps : List Party) (g : Ghost) (q : ℕ) (p : Party) (in-row : q < length ps) (rest : (j : ℕ) → restructures (partyAt ps j) ≡ false) where
-  -- The only party that may restructure is q.
-  entered-by : (f : Root → Party → Extent) (e : Extent) → e ≡ f r p → (j : ℕ) → Cmp j q → restructures (partyAt (set ps q p) j) ≡ true → e ≡ f r (partyAt (set ps q p) j)
-  entered-by f e h j (same s) k = h ∙ ap (f r) (sym (ap (partyAt (set ps q p)) s ∙ row-same ps q p in-row))
-  entered-by f e h j (diff n) k = absurd (false≢true (sym (rest j) ∙ (rw (row-other ps q j p n) at k)))
+-- The party whose record becomes p is then the only one that may.
+pub extents-enter : {m : Memory} {b : Book} {q k : ℕ} (t : Turn m b q k) (p : Party) (o : Mode) → sameMode o Read ≡ false → permits (getD (m .locks) rootWord 0) o ≡ true
+    → liveFor (m .root) p ≡ rootExtent (m .root) → lowFor (m .root) p ≡ rootExtent (m .root) → ExtentsOk (m .root) (set (m .parties) q p) (t .inv .ghost)
+extents-enter {m} {b} {q} t p o not-read permitted live= low= = record {
+  live-by = λ j r. by-me liveFor (ok .at-rest rest .0 ∙ sym live=) j (cmp j q) r;
+  low-by = λ j r. by-me lowFor (ok .at-rest rest .1 ∙ sym low=) j (cmp j q) r;
+  at-rest = λ _. ok .at-rest rest;
+  live-next = ok .live-next;
+  live-fits = ok .live-fits;
+  root-next = ok .root-next;
+  root-fits = ok .root-fits;
+}
+  where
+    ok : ExtentsOk (m .root) (m .parties) (t .inv .ghost)
+    ok = t .inv .extents-ok
 
-  pub extents-enter : liveFor r p ≡ rootExtent r → lowFor r p ≡ rootExtent r → ExtentsOk r ps g → ExtentsOk r (set ps q p) g
-  extents-enter live= low= ok =
-      let e = ok .at-rest rest in
-      record {
-        live-by = λ j k. entered-by liveFor (g .live) (e .0 ∙ sym live=) j (cmp j q) k;
-        low-by = λ j k. entered-by lowFor (g .low) (e .1 ∙ sym low=) j (cmp j q) k;
-        at-rest = λ _. e;
-        live-next = ok .live-next;
-        live-fits = ok .live-fits;
-        root-next = ok .root-next;
-        root-fits = ok .root-fits;
-      }
+    rest : (j : ℕ) → restructures (partyAt (m .parties) j) ≡ false
+    rest = granted-rests m b (t .inv) o not-read permitted
+
+    by-me : {e : Extent} (f : Root → Party → Extent) → e ≡ f (m .root) p → (j : ℕ) → Cmp j q → restructures (partyAt (set (m .parties) q p) j) ≡ true
+        → e ≡ f (m .root) (partyAt (set (m .parties) q p) j)
+    by-me f h j (same s) r = h ∙ ap (f (m .root)) (sym (ap (partyAt (set (m .parties) q p)) s ∙ row-same (m .parties) q p (row-long t)))
+    by-me f h j (diff n) r = absurd (false≢true (sym (rest j) ∙ (rw (row-other (m .parties) q j p n) at r)))

@@ -10,27 +10,26 @@ use native.Mathlib.Omega.{arith}
 use lib.ListN.{length, set}
 use lib.Dec.{eqb}
 use Rattle.model.specs.declared.Party.{Party}
-use Rattle.model.specs.declared.OperationAnswer.{OperationAnswer}
 use Rattle.model.specs.declared.OperationAnswer.the-variants as OperationAnswer
-use Rattle.model.specs.Sizes.{pageWords, lockWords}
+use Rattle.model.specs.Sizes.{pageWords}
 use Rattle.model.specs.Entries.{hasKey}
 use Rattle.model.specs.Pages.{pageOf, withPage, linkOf, entriesOf, pageSound, linkToFirst, scratchPage}
 use Rattle.model.specs.Chains.{entriesOn}
 use Rattle.model.specs.FreeList.{isAmong}
-use Rattle.model.specs.Memory.{Memory, partyAt}
+use Rattle.model.specs.Memory.{Memory}
 use Rattle.model.specs.Book.{Book, Entered}
 use Rattle.model.proofs.Laws.Lists.{eqb-diff, eqb-false, or-neither, first-or-rest}
 use Rattle.model.proofs.Laws.Pages.{Has, length-withPage, page-same, page-other}
 use Rattle.model.proofs.Laws.Structure.{Linked, SameOn, linked-frame, free-frame}
 use Rattle.model.proofs.Invariant.Ghost.{Owner, nobody, free, inChain, oldOf, count}
 use Rattle.model.proofs.Invariant.Owners.{overflow-bounds, member-of-own, kinds-apart, same-from}
-use Rattle.model.proofs.Invariant.Claims.{LocksOk, claimed}
-use Rattle.model.proofs.Invariant.Statement.{ExtentsOk, uses, Scene, NoPages, Protected, in-chain, in-old, Walking, PartyOk, Inv, sceneOf}
+use Rattle.model.proofs.Invariant.Statement.{Scene, NoPages, Protected, in-chain, in-old, Walking, Inv, sceneOf}
 use Rattle.model.proofs.Invariant.Frame.{entries-frame}
-use Rattle.model.proofs.Effects.Kept.{Parts}
-use Rattle.model.proofs.Effects.OwnRecord.{same-sizes, protected-row}
-use Rattle.model.proofs.Effects.Touch.{own-scratch, Touches, FreeAfter, keeps-touched, pages-touched, book-touched, dead-kept}
 use Rattle.model.proofs.Invariant.Facts.{no-pages-held}
+use Rattle.model.proofs.Invariant.Turn.{Turn, before, owns-no-old, row-long}
+use Rattle.model.proofs.Effects.Kept.{Parts}
+use Rattle.model.proofs.Effects.OwnRecord.{same-sizes, protected-row, OwnChange}
+use Rattle.model.proofs.Effects.Touch.{own-scratch, Touches, FreeAfter, keeps-touched, pages-touched, book-touched, dead-kept}
 
 module _ (m : Memory) (b : Book) (i : Inv m b) (q : ℕ) (in-row : q < m .root .parties) where
   pub has-scratch : Has (m .pages) (scratchPage (m .root) q)
@@ -56,94 +55,101 @@ module _ (m : Memory) (b : Book) (i : Inv m b) (q : ℕ) (in-row : q < m .root .
     pub scratch-off : (x : ℕ) → x ≢ scratchPage (m .root) q → pageOf scratchWritten x ≡ pageOf (m .pages) x
     scratch-off x n = page-other (m .pages) (scratchPage (m .root) q) w has-scratch whole x n
 
-    -- The party's record becomes p, and the book c.
-    module _ (p : Party) (c : Book) (others= : (j : ℕ) → j ≢ q → c .entries j ≡ b .entries j) (contents= : c .contents ≡ b .contents)
-        (stays : (x : ℕ) → i .ghost .own x ≡ oldOf q → p .chain ≡ partyAt (m .parties) q .chain)
-        (frees : (d : ℕ) → uses p d ≡ false → uses (partyAt (m .parties) q) d ≡ false) where
-      abbrev pub scratchScene : Scene
-      scratchScene = record { root = m .root; parties = set (m .parties) q p; pages = scratchWritten; ghost = i .ghost; entries = c .entries }
+-- The parts of the invariant where the record becomes p, the book c and the lock words ls.
+module _ {m : Memory} {b : Book} {q k : ℕ} (t : Turn m b q k) (w : List ℕ) (whole : length w ≡ pageWords) (p : Party) (c : Book) (ls : List ℕ)
+    (o : OwnChange m b (t .inv) q (withPage (m .pages) (scratchPage (m .root) q) w) p c ls) where
+  abbrev scratchScene : Scene
+  scratchScene = record { root = m .root; parties = set (m .parties) q p; pages = withPage (m .pages) (scratchPage (m .root) q) w; ghost = t .inv .ghost; entries = c .entries }
 
-      abbrev written : List ℕ
-      written = scratchPage (m .root) q ∷ []
+  abbrev written : List ℕ
+  written = scratchPage (m .root) q ∷ []
 
-      only-scratch : (x : ℕ) → isAmong x written ≡ false → x ≢ scratchPage (m .root) q
-      unfolding isAmong
-      only-scratch x h s = eqb-false (scratchPage (m .root) q) x (or-neither (eqb (scratchPage (m .root) q) x) false h .0) (sym s)
+  only-scratch : (x : ℕ) → isAmong x written ≡ false → x ≢ scratchPage (m .root) q
+  unfolding isAmong
+  only-scratch x h s = eqb-false (scratchPage (m .root) q) x (or-neither (eqb (scratchPage (m .root) q) x) false h .0) (sym s)
 
-      is-scratch : (x : ℕ) → isAmong x written ≡ true → x ≡ scratchPage (m .root) q
-      unfolding isAmong
-      is-scratch x h = go (first-or-rest x (scratchPage (m .root) q) [] h)
-        where
-          go : (scratchPage (m .root) q ≡ x) ⊎ (isAmong x [] ≡ true) → x ≡ scratchPage (m .root) q
-          go (inl s) = sym s
-          go (inr s) = absurd (false≢true s)
+  is-scratch : (x : ℕ) → isAmong x written ≡ true → x ≡ scratchPage (m .root) q
+  unfolding isAmong
+  is-scratch x h = go (first-or-rest x (scratchPage (m .root) q) [] h)
+    where
+      go : (scratchPage (m .root) q ≡ x) ⊎ (isAmong x [] ≡ true) → x ≡ scratchPage (m .root) q
+      go (inl s) = sym s
+      go (inr s) = absurd (false≢true s)
 
-      touches : Touches (sceneOf m (i .ghost) b) scratchScene q p written
-      touches = record {
-        sizes = same-sizes (m .root);
-        row= = refl;
-        live= = refl;
-        low= = refl;
-        records= = refl;
-        entries= = others=;
-        private= = λ k j x y n. refl;
-        chains= = λ d. refl;
-        off = λ x h. scratch-off x (only-scratch x h);
-        own-off = λ x h. refl;
-        touch = λ x h. own-scratch (is-scratch x h);
-        stays = λ x o h. stays x o;
-        unread = λ x o h j n k.
-            absurd (owned-apart (oldOf q) x (member-of-own (i .pages-ok .owned) (oldOf q) x (kinds-apart (oldOf q) nobody refl) o) (is-scratch x h));
+  touches : Touches (before t) scratchScene q p written
+  touches = record {
+    sizes = same-sizes (m .root);
+    row= = refl;
+    live= = refl;
+    low= = refl;
+    records= = refl;
+    entries= = o .entries=;
+    private= = λ k j x y n. refl;
+    chains= = λ d. refl;
+    off = λ x h. scratch-off m b (t .inv) q (t .in-row) w whole x (only-scratch x h);
+    own-off = λ x h. refl;
+    touch = λ x h. own-scratch (is-scratch x h);
+    stays = λ x e h. o .stays x e;
+    unread = λ x e h j n k.
+        absurd (owned-apart m b (t .inv) q (t .in-row) (oldOf q) x (member-of-own (t .inv .pages-ok .owned) (oldOf q) x (kinds-apart (oldOf q) nobody refl) e) (is-scratch x h));
+  }
+
+  free-after : FreeAfter t touches
+  unfolding isAmong
+  free-after =
+      let ok = t .inv .pages-ok in
+      record {
+        owned = ok .owned;
+        kinds = ok .kinds;
+        head-is = ok .head-is;
+        free-count = ok .free-count;
+        free-pages = free-frame (m .pages) (withPage (m .pages) (scratchPage (m .root) q) w) (t .inv .ghost .held free) (same-from (m .pages) (withPage (m .pages) (scratchPage (m .root) q) w) (t .inv .ghost .held free) (λ x h. scratch-off m b (t .inv) q (t .in-row) w whole x (owned-apart m b (t .inv) q (t .in-row) free x h))) (ok .free-pages);
+        dead = λ d far fits u.
+            dead-kept t touches d (rw (eqb-diff (scratchPage (m .root) q) d (omega arith)) refl) far fits u (o .frees d);
       }
 
-      free-after : FreeAfter m b i q in-row scratchScene p written touches
-      unfolding isAmong
-      free-after =
-          let ok = i .pages-ok in
-          record {
-            owned = ok .owned;
-            kinds = ok .kinds;
-            head-is = ok .head-is;
-            free-count = ok .free-count;
-            free-pages = free-frame (m .pages) scratchWritten (i .ghost .held free) (same-from (m .pages) scratchWritten (i .ghost .held free) (λ x h. scratch-off x (owned-apart free x h))) (ok .free-pages);
-            dead = λ d far fits u.
-                dead-kept m b i q in-row scratchScene p written touches d (rw (eqb-diff (scratchPage (m .root) q) d (omega arith)) refl) far fits u (frees d);
-          }
+  pub scratch-parts : Parts m b (t .inv) q (m .root) ls (withPage (m .pages) (scratchPage (m .root) q) w) p c (t .inv .ghost)
+  scratch-parts = record {
+    sizes = same-sizes (m .root) .limits;
+    pages-many = length-withPage (m .pages) (scratchPage (m .root) q) w (has-scratch m b (t .inv) q (t .in-row)) whole;
+    extents = o .extents;
+    locks = o .locks;
+    pages = pages-touched t touches free-after;
+    book = book-touched t touches c (o .contents=);
+    self = o .self;
+    others = keeps-touched t touches;
+  }
 
-      -- The parts of the invariant: only extents, locks and the party's own facts are left to show.
-      pub scratch-parts : (ls : List ℕ) → ExtentsOk (m .root) (set (m .parties) q p) (i .ghost) → LocksOk (lockWords (m .root)) ls (claimed (m .root) (set (m .parties) q p))
-          → PartyOk scratchScene q p → Parts m b i q (m .root) ls scratchWritten p c (i .ghost)
-      scratch-parts ls x l s = record {
-        sizes = same-sizes (m .root) .limits;
-        pages-many = length-withPage (m .pages) (scratchPage (m .root) q) w has-scratch whole;
-        extents = x;
-        locks = l;
-        pages = pages-touched m b i q in-row scratchScene p written touches free-after;
-        book = book-touched m b i q in-row scratchScene p written touches c contents=;
-        self = s;
-        others = keeps-touched m b i q in-row scratchScene p written touches;
-      }
+-- ---- A page copied to scratch
 
-      -- ---- A page copied to scratch
+-- The page w, for a find whose record is p and whose entry is e: it leads to the pages of rest, and the note says whether the key is on one of them.
+pub record Leads (s : Scene) (q : ℕ) (p : Party) (e : Entered) (w rest : List ℕ) : Type 0 where
+  pub sound : pageSound (s .root) w ≡ true
+  pub link : linkOf w ≡ linkToFirst rest
+  pub linked : Linked (s .root) (s .pages) rest
+  pub once : (x : ℕ) → count x rest ≤ 1
+  pub protected : (x : ℕ) → isAmong x rest ≡ true → Protected s (p .chain) x
+  pub note-is : e .note ≡ some (cond (hasKey (p .key) (entriesOf w ++ entriesOn (s .pages) rest)) OperationAnswer.Found OperationAnswer.Absent)
+  pub no-pages : NoPages s q
 
-      -- The party then walks: the page copied leads to the pages of rest, and the note says whether the key is on one of them.
-      pub copied-walks : (e : Entered) (rest : List ℕ) → pageSound (m .root) w ≡ true → linkOf w ≡ linkToFirst rest → Linked (m .root) (m .pages) rest
-          → ((x : ℕ) → count x rest ≤ 1) → ((x : ℕ) → isAmong x rest ≡ true → Protected (sceneOf m (i .ghost) b) (p .chain) x)
-          → e .note ≡ some (cond (hasKey (p .key) (entriesOf w ++ entriesOn (m .pages) rest)) OperationAnswer.Found OperationAnswer.Absent)
-          → NoPages (sceneOf m (i .ghost) b) q → Walking scratchScene q p e
-      copied-walks e rest sound link linked once protected note none-had = record {
-        rest = rest;
-        sound = ap (pageSound (m .root)) scratch-same ∙ sound;
-        link = ap linkOf scratch-same ∙ link;
-        linked = linked-frame (m .root) (m .pages) scratchWritten rest rest-off linked;
-        once = once;
-        protected = λ x h. protected-row (sceneOf m (i .ghost) b) scratchScene q p refl refl row-long stays (p .chain) x (protected x h);
-        note-is = rw (scratch-same, entries-frame (m .pages) scratchWritten rest rest-off) note;
-        no-pages = no-pages-held _ _ q refl none-had;
-      }
-        where
-          row-long : q < length (m .parties)
-          row-long = omega (arith, i .parties-many)
+-- The party then walks.
+pub copied-walks : {m : Memory} {b : Book} {q k : ℕ} (t : Turn m b q k) (w : List ℕ) (whole : length w ≡ pageWords) (p : Party) (c : Book) (e : Entered) (rest : List ℕ) → Leads (before t) q p e w rest
+    → Walking (record { root = m .root; parties = set (m .parties) q p; pages = withPage (m .pages) (scratchPage (m .root) q) w; ghost = t .inv .ghost; entries = c .entries }) q p e
+copied-walks {m} {b} {q} t w whole p c e rest x = record {
+  rest = rest;
+  sound = ap (pageSound (m .root)) there ∙ x .sound;
+  link = ap linkOf there ∙ x .link;
+  linked = linked-frame (m .root) (m .pages) _ rest rest-off (x .linked);
+  once = x .once;
+  protected = λ y h. protected-row (before t) _ q p refl refl (row-long t) (λ z o. absurd (owns-no-old t (x .no-pages) z o)) (p .chain) y (x .protected y h);
+  note-is = rw (there, entries-frame (m .pages) _ rest rest-off) (x .note-is);
+  no-pages = no-pages-held _ _ q refl (x .no-pages);
+}
+  where
+    there : pageOf (withPage (m .pages) (scratchPage (m .root) q) w) (scratchPage (m .root) q) ≡ w
+    there = scratch-same m b (t .inv) q (t .in-row) w whole
 
-          rest-off : SameOn (m .pages) scratchWritten rest
-          rest-off = same-from (m .pages) scratchWritten rest (λ x h. scratch-off x (λ s. let z = protected-bounds (p .chain) x (protected x h) in omega arith))
+    rest-off : SameOn (m .pages) (withPage (m .pages) (scratchPage (m .root) q) w) rest
+    rest-off =
+        same-from (m .pages) _ rest
+        (λ y h. scratch-off m b (t .inv) q (t .in-row) w whole y (λ s. let z = protected-bounds m b (t .inv) q (t .in-row) (p .chain) y (x .protected y h) in omega arith))

@@ -1,8 +1,9 @@
 -- Pages taken from the front of the free list for what a party builds beside the file (steps 10, 17 and 26): the first go to the chain that scratch leads to, the next to a split's new chain.
--- Main statements: taken-is (the free list gives them), owned-then, built-then, new-then, free-then, held-kept; touches and taking-parts (the parts of the invariant after such a step).
-use mathlib.Core.Path.{_≡_, refl, sym, ap, _∙_, subst}
+-- Main statements: Takes (what is taken), taken-is (the free list gives them), owned-then, built-then, new-then, free-then, held-kept; TakesOut (what such a step leaves), touches and
+-- taking-parts (the parts of the invariant after it).
+use mathlib.Core.Path.{_≡_, refl, sym, ap, _∙_}
 use mathlib.Core.Logic.{_≢_, _⊎_, inl, inr}
-use mathlib.Core.Bool.{true, false, false≢true}
+use mathlib.Core.Bool.{true, false}
 use mathlib.Core.List.{List, [], _∷_, _++_}
 use Prim.Native.Nat.{ℕ, _+_, _-_, _≤_, _<_}
 use native.Mathlib.Omega.{arith}
@@ -19,21 +20,26 @@ use Rattle.model.specs.FreeList.{isAmong, pagesTaken}
 use Rattle.model.specs.Memory.{Memory, partyAt}
 use Rattle.model.specs.Book.{Book}
 use Rattle.model.proofs.Laws.Lists.{Told, holds, fails, tell, eqb-diff, eqb-false, or-neither, or-either, first-or-rest, among-append, among-take, among-drop, count-nil, count-cut, All, all-from}
-use Rattle.model.proofs.Invariant.Ghost.{Owner, owner, Named, nobody, free, inChain, oldOf, builtBy, newBy, sameOwner, count, size, Ghost, Owned, ownAfter, heldAfter}
-use Rattle.model.proofs.Invariant.Owners.{kinds-apart, indices-apart, own-of-member, member-of-own, absent-elsewhere, no-repeats, overflow-bounds, held-after-same, held-after-other, own-after-moved, own-after-other, handed, handed-front, same-from}
 use Rattle.model.proofs.Laws.Structure.{free-frame}
 use Rattle.model.proofs.Laws.Filling.{IsOverflow}
 use Rattle.model.proofs.Laws.Reading.{held-overflow}
 use Rattle.model.proofs.Laws.FreeList.{taken-front, free-drop}
+use Rattle.model.proofs.Invariant.Ghost.{Owner, owner, Named, nobody, free, inChain, builtBy, newBy, sameOwner, count, size, Ghost, Owned, ownAfter, heldAfter}
+use Rattle.model.proofs.Invariant.Owners.{kinds-apart, indices-apart, own-of-member, absent-elsewhere, no-repeats, overflow-bounds, held-after-same, held-after-other, own-after-moved, own-after-other, handed, handed-front, same-from}
 use Rattle.model.proofs.Invariant.Claims.{claimed, LocksOk}
-use Rattle.model.proofs.Invariant.Statement.{ExtentsOk, uses, Scene, PartyOk, Inv, sceneOf}
+use Rattle.model.proofs.Invariant.Statement.{ExtentsOk, uses, Scene, PartyOk, NoPages}
+use Rattle.model.proofs.Invariant.Turn.{Turn, before, owns-no-old}
 use Rattle.model.proofs.Effects.Kept.{Parts}
 use Rattle.model.proofs.Effects.Touch.{Touch, free-page, own-scratch, Touches, FreeAfter, keeps-touched, pages-touched, book-touched}
 
-module _ (m : Memory) (b : Book) (i : Inv m b) (q : ℕ) (in-row : q < m .root .parties) (first second : ℕ) (enough : first + second ≤ m .root .free)
-    (no-built : i .ghost .held (builtBy q) ≡ []) (no-new : i .ghost .held (newBy q) ≡ []) where
+-- What a step takes: this many pages for the chain built and this many for a split's new chain; the party has none yet.
+pub record Takes {m : Memory} {b : Book} {q k : ℕ} (t : Turn m b q k) (first second : ℕ) : Type 0 where
+  pub enough : first + second ≤ m .root .free
+  pub no-pages : NoPages (before t) q
+
+module _ {m : Memory} {b : Book} {q k : ℕ} (t : Turn m b q k) (first second : ℕ) (want : Takes t first second) where
   abbrev frees : List ℕ
-  frees = i .ghost .held free
+  frees = t .inv .ghost .held free
 
   -- The pages of the chain built, and of a split's new chain.
   abbrev pub builtPages : List ℕ
@@ -46,26 +52,26 @@ module _ (m : Memory) (b : Book) (i : Inv m b) (q : ℕ) (in-row : q < m .root .
   left = drop (first + second) frees
 
   abbrev held₁ : Owner → List ℕ
-  held₁ = heldAfter (heldAfter (i .ghost .held) free (drop first frees)) (builtBy q) builtPages
+  held₁ = heldAfter (heldAfter (t .inv .ghost .held) free (drop first frees)) (builtBy q) builtPages
 
   abbrev pub takenGhost : Ghost
   takenGhost = record {
-    own = ownAfter (ownAfter (i .ghost .own) builtPages (builtBy q)) newPages (newBy q);
+    own = ownAfter (ownAfter (t .inv .ghost .own) builtPages (builtBy q)) newPages (newBy q);
     held = heldAfter (heldAfter held₁ free left) (newBy q) newPages;
-    records = i .ghost .records;
-    live = i .ghost .live;
-    low = i .ghost .low;
+    records = t .inv .ghost .records;
+    live = t .inv .ghost .live;
+    low = t .inv .ghost .low;
   }
 
   -- ---- The free list gives them
 
   enough-listed : first + second ≤ length frees
-  enough-listed = omega (arith, i .pages-ok .free-count)
+  enough-listed = omega (arith, t .inv .pages-ok .free-count)
 
   pub taken-is : pagesTaken (m .root) (m .pages) (first + second) ≡ sound (record { pages = take (first + second) frees; head = linkToFirst left })
   taken-is =
-      taken-front (m .root) (m .pages) frees (first + second) (i .pages-ok .head-is) (i .pages-ok .free-pages) (held-overflow (m .root) (i .pages-ok .owned) free)
-      (no-repeats (i .pages-ok .owned) free) enough-listed
+      taken-front (m .root) (m .pages) frees (first + second) (t .inv .pages-ok .head-is) (t .inv .pages-ok .free-pages) (held-overflow (m .root) (t .inv .pages-ok .owned) free)
+      (no-repeats (t .inv .pages-ok .owned) free) enough-listed
 
   pub built-cut : take first (take (first + second) frees) ≡ builtPages
   built-cut = take-take first (first + second) frees (omega arith)
@@ -85,16 +91,16 @@ module _ (m : Memory) (b : Book) (i : Inv m b) (q : ℕ) (in-row : q < m .root .
   left-is = drop-drop second first frees
 
   free₁ : held₁ free ≡ drop first frees
-  free₁ = held-after-other (heldAfter (i .ghost .held) free (drop first frees)) (builtBy q) builtPages free (kinds-apart free (builtBy q) refl) ∙ held-after-same (i .ghost .held) free (drop first frees)
+  free₁ = held-after-other (heldAfter (t .inv .ghost .held) free (drop first frees)) (builtBy q) builtPages free (kinds-apart free (builtBy q) refl) ∙ held-after-same (t .inv .ghost .held) free (drop first frees)
 
   new₁ : held₁ (newBy q) ≡ []
   new₁ =
-      held-after-other (heldAfter (i .ghost .held) free (drop first frees)) (builtBy q) builtPages (newBy q) (kinds-apart (newBy q) (builtBy q) refl)
-      ∙ held-after-other (i .ghost .held) free (drop first frees) (newBy q) (kinds-apart (newBy q) free refl) ∙ no-new
+      held-after-other (heldAfter (t .inv .ghost .held) free (drop first frees)) (builtBy q) builtPages (newBy q) (kinds-apart (newBy q) (builtBy q) refl)
+      ∙ held-after-other (t .inv .ghost .held) free (drop first frees) (newBy q) (kinds-apart (newBy q) free refl) ∙ (want .no-pages .nothing-built .no-new)
 
   pub owned-then : Owned (m .root .primaries) (m .root .overflow) (takenGhost .own) (takenGhost .held)
   owned-then =
-      handed (handed-front (i .pages-ok .owned) free (builtBy q) (kinds-apart free (builtBy q) refl) (kinds-apart free nobody refl) (kinds-apart (builtBy q) nobody refl) first no-built)
+      handed (handed-front (t .inv .pages-ok .owned) free (builtBy q) (kinds-apart free (builtBy q) refl) (kinds-apart free nobody refl) (kinds-apart (builtBy q) nobody refl) first (want .no-pages .nothing-built .no-built))
       free (newBy q) (kinds-apart free (newBy q) refl) (kinds-apart free nobody refl) (kinds-apart (newBy q) nobody refl) newPages left newPages
       (λ x. ap (count x) free₁ ∙ sym (count-cut x second (drop first frees)) ∙ ap (λ (l : List ℕ). count x newPages + count x l) left-is)
       (λ x. omega (arith, ap (count x) new₁ ∙ count-nil x))
@@ -109,12 +115,12 @@ module _ (m : Memory) (b : Book) (i : Inv m b) (q : ℕ) (in-row : q < m .root .
   built-then =
       held-after-other (heldAfter held₁ free left) (newBy q) newPages (builtBy q) (kinds-apart (builtBy q) (newBy q) refl)
       ∙ held-after-other held₁ free left (builtBy q) (kinds-apart (builtBy q) free refl)
-      ∙ held-after-same (heldAfter (i .ghost .held) free (drop first frees)) (builtBy q) builtPages
+      ∙ held-after-same (heldAfter (t .inv .ghost .held) free (drop first frees)) (builtBy q) builtPages
 
-  pub held-kept : (o : Owner) → sameOwner o free ≡ false → sameOwner o (builtBy q) ≡ false → sameOwner o (newBy q) ≡ false → takenGhost .held o ≡ i .ghost .held o
+  pub held-kept : (o : Owner) → sameOwner o free ≡ false → sameOwner o (builtBy q) ≡ false → sameOwner o (newBy q) ≡ false → takenGhost .held o ≡ t .inv .ghost .held o
   held-kept o f u n =
       held-after-other (heldAfter held₁ free left) (newBy q) newPages o n ∙ held-after-other held₁ free left o f
-      ∙ held-after-other (heldAfter (i .ghost .held) free (drop first frees)) (builtBy q) builtPages o u ∙ held-after-other (i .ghost .held) free (drop first frees) o f
+      ∙ held-after-other (heldAfter (t .inv .ghost .held) free (drop first frees)) (builtBy q) builtPages o u ∙ held-after-other (t .inv .ghost .held) free (drop first frees) o f
 
   -- A page taken was free, and is an overflow page.
   built-free : (x : ℕ) → isAmong x builtPages ≡ true → isAmong x frees ≡ true
@@ -124,20 +130,28 @@ module _ (m : Memory) (b : Book) (i : Inv m b) (q : ℕ) (in-row : q < m .root .
   new-free x h = among-drop x first frees (among-take x second (drop first frees) h)
 
   pub built-overflow : All (IsOverflow (m .root)) builtPages
-  built-overflow = all-from (IsOverflow (m .root)) builtPages (λ x h. let z = overflow-bounds (i .pages-ok .owned) free x (built-free x h) in record { above = z .0; below = z .1 })
+  built-overflow = all-from (IsOverflow (m .root)) builtPages (λ x h. let z = overflow-bounds (t .inv .pages-ok .owned) free x (built-free x h) in record { above = z .0; below = z .1 })
 
   pub new-overflow : All (IsOverflow (m .root)) newPages
-  new-overflow = all-from (IsOverflow (m .root)) newPages (λ x h. let z = overflow-bounds (i .pages-ok .owned) free x (new-free x h) in record { above = z .0; below = z .1 })
+  new-overflow = all-from (IsOverflow (m .root)) newPages (λ x h. let z = overflow-bounds (t .inv .pages-ok .owned) free x (new-free x h) in record { above = z .0; below = z .1 })
 
   -- ---- The parts of the invariant, where the step wrote these pages, its scratch page and the primary pages `extra`
 
   abbrev pub takenRoot : Root
   takenRoot = withFreeList (linkToFirst left) (m .root .free - (first + second)) (m .root)
 
-  module _ (ps : List ℕ) (p : Party) (c : Book) (extra : List ℕ) (ps-long : length ps ≡ length (m .pages)) (no-old : i .ghost .held (oldOf q) ≡ [])
-      (off : (x : ℕ) → x ≢ scratchPage (m .root) q → isAmong x extra ≡ false → isAmong x builtPages ≡ false → isAmong x newPages ≡ false → pageOf ps x ≡ pageOf (m .pages) x)
-      (touch-extra : (x : ℕ) → isAmong x extra ≡ true → Touch (sceneOf m (i .ghost) b) q x) (extra-primary : (x : ℕ) → isAmong x extra ≡ true → x < m .root .primaries)
-      (entries= : (j : ℕ) → j ≢ q → c .entries j ≡ b .entries j) (contents= : c .contents ≡ b .contents) where
+  -- What such a step leaves: the pages ps, the record p and the book c.
+  pub record TakesOut (ps : List ℕ) (p : Party) (c : Book) (extra : List ℕ) : Type 0 where
+    pub long : length ps ≡ length (m .pages)
+    pub off : (x : ℕ) → x ≢ scratchPage (m .root) q → isAmong x extra ≡ false → isAmong x builtPages ≡ false → isAmong x newPages ≡ false → pageOf ps x ≡ pageOf (m .pages) x
+    pub touch-extra : (x : ℕ) → isAmong x extra ≡ true → Touch (before t) q x
+    pub extra-primary : (x : ℕ) → isAmong x extra ≡ true → x < m .root .primaries
+    pub entries= : (j : ℕ) → j ≢ q → c .entries j ≡ b .entries j
+    pub contents= : c .contents ≡ b .contents
+    pub dead : (d : ℕ) → size (m .root .originals) (t .inv .ghost .live) ≤ d → d < m .root .primaries → ((j : ℕ) → uses (partyAt (set (m .parties) q p) j) d ≡ false)
+        → pageOf ps (primaryPage d) ≡ zeroPage
+
+  module _ (ps : List ℕ) (p : Party) (c : Book) (extra : List ℕ) (g : TakesOut ps p c extra) where
     abbrev pub takenScene : Scene
     takenScene = record { root = takenRoot; parties = set (m .parties) q p; pages = ps; ghost = takenGhost; entries = c .entries }
 
@@ -164,58 +178,53 @@ module _ (m : Memory) (b : Book) (i : Inv m b) (q : ℕ) (in-row : q < m .root .
     written-not x u =
         rw (eqb-diff (scratchPage (m .root) q) x (λ s. u .no-scratch (sym s)), among-append x extra (builtPages ++ newPages), u .no-extra, among-append x builtPages newPages, u .not-built, u .not-new) refl
 
-    touch : (x : ℕ) → isAmong x written ≡ true → Touch (sceneOf m (i .ghost) b) q x
+    touch : (x : ℕ) → isAmong x written ≡ true → Touch (before t) q x
     touch x h = go (first-or-rest x (scratchPage (m .root) q) (extra ++ (builtPages ++ newPages)) h)
       where
-        was-free : isAmong x frees ≡ true → Touch (sceneOf m (i .ghost) b) q x
-        was-free f = free-page (own-of-member (i .pages-ok .owned) free x f)
+        was-free : isAmong x frees ≡ true → Touch (before t) q x
+        was-free f = free-page (own-of-member (t .inv .pages-ok .owned) free x f)
 
-        taken : (isAmong x builtPages ≡ true) ⊎ (isAmong x newPages ≡ true) → Touch (sceneOf m (i .ghost) b) q x
+        taken : (isAmong x builtPages ≡ true) ⊎ (isAmong x newPages ≡ true) → Touch (before t) q x
         taken (inl s) = was-free (built-free x s)
         taken (inr s) = was-free (new-free x s)
 
-        rest : (isAmong x extra ≡ true) ⊎ (isAmong x (builtPages ++ newPages) ≡ true) → Touch (sceneOf m (i .ghost) b) q x
-        rest (inl s) = touch-extra x s
+        rest : (isAmong x extra ≡ true) ⊎ (isAmong x (builtPages ++ newPages) ≡ true) → Touch (before t) q x
+        rest (inl s) = g .touch-extra x s
         rest (inr s) = taken (or-either (isAmong x builtPages) (isAmong x newPages) (sym (among-append x builtPages newPages) ∙ s))
 
-        go : (scratchPage (m .root) q ≡ x) ⊎ (isAmong x (extra ++ (builtPages ++ newPages)) ≡ true) → Touch (sceneOf m (i .ghost) b) q x
+        go : (scratchPage (m .root) q ≡ x) ⊎ (isAmong x (extra ++ (builtPages ++ newPages)) ≡ true) → Touch (before t) q x
         go (inl s) = own-scratch (sym s)
         go (inr s) = rest (or-either (isAmong x extra) (isAmong x (builtPages ++ newPages)) (sym (among-append x extra (builtPages ++ newPages)) ∙ s))
 
-    -- No page is to be given back.
-    none-old : (x : ℕ) → i .ghost .own x ≡ oldOf q → ⊥
-    unfolding isAmong
-    none-old x h = false≢true (subst (λ (xs : List ℕ). isAmong x xs ≡ true) no-old (member-of-own (i .pages-ok .owned) (oldOf q) x (kinds-apart (oldOf q) nobody refl) h))
-
-    pub touches : Touches (sceneOf m (i .ghost) b) takenScene q p written
+    pub touches : Touches (before t) takenScene q p written
     touches = record {
       sizes = record { limits = record { originals= = refl; capacity= = refl; primaries= = refl; overflow= = refl; parties= = refl }; level= = refl; next= = refl };
       row= = refl;
       live= = refl;
       low= = refl;
       records= = refl;
-      entries= = entries=;
+      entries= = g .entries=;
       private= = λ k j a d n.
           held-kept (owner k j) (kinds-apart (owner k j) free (eqb-diff k 1 (omega arith))) (indices-apart (owner k j) (builtBy q) n) (indices-apart (owner k j) (newBy q) n);
       chains= = λ d. held-kept (inChain d) (kinds-apart (inChain d) free refl) (kinds-apart (inChain d) (builtBy q) refl) (kinds-apart (inChain d) (newBy q) refl);
-      off = λ x h. let u = unwritten x h in off x (u .no-scratch) (u .no-extra) (u .not-built) (u .not-new);
+      off = λ x h. let u = unwritten x h in g .off x (u .no-scratch) (u .no-extra) (u .not-built) (u .not-new);
       own-off = λ x h.
           let u = unwritten x h in
-          own-after-other (ownAfter (i .ghost .own) builtPages (builtBy q)) newPages (newBy q) x (u .not-new) ∙ own-after-other (i .ghost .own) builtPages (builtBy q) x (u .not-built);
+          own-after-other (ownAfter (t .inv .ghost .own) builtPages (builtBy q)) newPages (newBy q) x (u .not-new) ∙ own-after-other (t .inv .ghost .own) builtPages (builtBy q) x (u .not-built);
       touch = touch;
-      stays = λ x e h. absurd (none-old x e);
-      unread = λ x e h j n k. absurd (none-old x e);
+      stays = λ x e h. absurd (owns-no-old t (want .no-pages) x e);
+      unread = λ x e h j n k. absurd (owns-no-old t (want .no-pages) x e);
     }
 
     kinds-then : (x : ℕ) → Named (takenGhost .own x)
     kinds-then x = go (tell (isAmong x newPages)) (tell (isAmong x builtPages))
       where
         go : Told (isAmong x newPages) → Told (isAmong x builtPages) → Named (takenGhost .own x)
-        go (holds h) k = rw (own-after-moved (ownAfter (i .ghost .own) builtPages (builtBy q)) newPages (newBy q) x h) (omega arith)
+        go (holds h) k = rw (own-after-moved (ownAfter (t .inv .ghost .own) builtPages (builtBy q)) newPages (newBy q) x h) (omega arith)
         go (fails h) (holds k) =
-            rw (own-after-other (ownAfter (i .ghost .own) builtPages (builtBy q)) newPages (newBy q) x h, own-after-moved (i .ghost .own) builtPages (builtBy q) x k) (omega arith)
+            rw (own-after-other (ownAfter (t .inv .ghost .own) builtPages (builtBy q)) newPages (newBy q) x h, own-after-moved (t .inv .ghost .own) builtPages (builtBy q) x k) (omega arith)
         go (fails h) (fails k) =
-            rw (own-after-other (ownAfter (i .ghost .own) builtPages (builtBy q)) newPages (newBy q) x h, own-after-other (i .ghost .own) builtPages (builtBy q) x k) (i .pages-ok .kinds x)
+            rw (own-after-other (ownAfter (t .inv .ghost .own) builtPages (builtBy q)) newPages (newBy q) x h, own-after-other (t .inv .ghost .own) builtPages (builtBy q) x k) (t .inv .pages-ok .kinds x)
 
     -- A page still free was not taken: it is once in the free list.
     left-unwritten : (x : ℕ) → isAmong x left ≡ true → Unwritten x
@@ -230,34 +239,32 @@ module _ (m : Memory) (b : Book) (i : Inv m b) (q : ℕ) (in-row : q < m .root .
       where
         off-extra : Told (isAmong x extra) → (m .root .primaries ≤ x) × (x < m .root .primaries + m .root .overflow) → isAmong x extra ≡ false
         off-extra (fails k) z = k
-        off-extra (holds k) z = absurd (omega (arith, extra-primary x k))
+        off-extra (holds k) z = absurd (omega (arith, g .extra-primary x k))
 
         absent : (xs : List ℕ) (o : Owner) → takenGhost .held o ≡ xs → sameOwner free o ≡ false → isAmong x xs ≡ false
         absent xs o e n = ap (isAmong x) (sym e) ∙ absent-elsewhere owned-then free o x (rw free-then h) n
 
-    pub free-after : ((d : ℕ) → size (m .root .originals) (i .ghost .live) ≤ d → d < m .root .primaries → ((j : ℕ) → uses (partyAt (set (m .parties) q p) j) d ≡ false)
-        → pageOf ps (primaryPage d) ≡ zeroPage) → FreeAfter m b i q in-row takenScene p written touches
-    free-after dead = record {
+    pub free-after : FreeAfter t touches
+    free-after = record {
       owned = owned-then;
       kinds = kinds-then;
       head-is = ap linkToFirst (sym free-then);
-      free-count = omega (arith, ap (λ (l : List ℕ). length l) free-then, length-drop (first + second) frees, i .pages-ok .free-count);
+      free-count = omega (arith, ap (λ (l : List ℕ). length l) free-then, length-drop (first + second) frees, t .inv .pages-ok .free-count);
       free-pages = rw free-then (free-frame (m .pages) ps left
-          (same-from (m .pages) ps left (λ x h. let u = left-unwritten x h in off x (u .no-scratch) (u .no-extra) (u .not-built) (u .not-new)))
-          (free-drop (m .pages) frees (first + second) (i .pages-ok .free-pages)));
-      dead = dead;
+          (same-from (m .pages) ps left (λ x h. let u = left-unwritten x h in g .off x (u .no-scratch) (u .no-extra) (u .not-built) (u .not-new)))
+          (free-drop (m .pages) frees (first + second) (t .inv .pages-ok .free-pages)));
+      dead = g .dead;
     }
 
-    pub taking-parts : ((d : ℕ) → size (m .root .originals) (i .ghost .live) ≤ d → d < m .root .primaries → ((j : ℕ) → uses (partyAt (set (m .parties) q p) j) d ≡ false)
-        → pageOf ps (primaryPage d) ≡ zeroPage) → (ls : List ℕ) → ExtentsOk takenRoot (set (m .parties) q p) takenGhost
-        → LocksOk (lockWords takenRoot) ls (claimed takenRoot (set (m .parties) q p)) → PartyOk takenScene q p → Parts m b i q takenRoot ls ps p c takenGhost
-    taking-parts dead ls x l s = record {
+    pub taking-parts : (ls : List ℕ) → ExtentsOk takenRoot (set (m .parties) q p) takenGhost → LocksOk (lockWords takenRoot) ls (claimed takenRoot (set (m .parties) q p))
+        → PartyOk takenScene q p → Parts m b (t .inv) q takenRoot ls ps p c takenGhost
+    taking-parts ls x l s = record {
       sizes = touches .sizes .limits;
-      pages-many = ps-long;
+      pages-many = g .long;
       extents = x;
       locks = l;
-      pages = pages-touched m b i q in-row takenScene p written touches (free-after dead);
-      book = book-touched m b i q in-row takenScene p written touches c contents=;
+      pages = pages-touched t touches free-after;
+      book = book-touched t touches c (g .contents=);
       self = s;
-      others = keeps-touched m b i q in-row takenScene p written touches;
+      others = keeps-touched t touches;
     }

@@ -60,7 +60,7 @@ claimTable =
     ∷ onRoot rootSelective ∷ onRoot rootSelective ∷ onRoot rootSelective ∷ noLock ∷ onRoot rootExclusive ∷ mergingTarget
     ∷ merging rootExclusive ∷ merging rootExclusive ∷ merging rootSelective ∷ merging rootSelective ∷ merging rootSelective ∷ []
 
--- The locks that the party holds. The root is not read yet.
+-- The locks that the party holds, by its step number; the root record does not matter.
 unfoldable pub claims : Root → Party → List Claim
 claims r p = getD claimTable (p .step) noLock p
 

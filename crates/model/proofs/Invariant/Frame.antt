@@ -1,14 +1,13 @@
 -- What a party knows stays true while what it relies on stays: its own pages, the chains it holds, the pages it may walk, level and next.
 -- Main statements: Grows, Keeps (what a party relies on), still-grows; party-frame (the frame of every party at every step number).
 use mathlib.Core.Path.{_≡_, refl, sym, ap, _∙_, subst, subst₃}
-use native.Mathlib.Nat.{add-zero, add-suc, suc-add, zero-add}
 use mathlib.Core.Bool.{Bool, true, false, cond, _&&_, _||_, or-true, false≢true}
 use mathlib.Core.List.{List, [], _∷_}
 use Prim.Native.Nat.{ℕ, zero, suc, _+_, _≤_, _<_}
 use native.Mathlib.Omega.{arith}
+use native.Mathlib.Nat.{add-suc, add-zero, suc-add, zero-add}
 use lib.ListN.{getD, drop}
 use lib.Dec.{eqb}
-use borrow.Author.Tests.{eq-eqb, eqb-true}
 use Rattle.model.specs.declared.Root.{Root}
 use Rattle.model.specs.declared.Party.{Party}
 use Rattle.model.specs.declared.Mode.{Mode}
@@ -25,10 +24,12 @@ use Rattle.model.specs.Book.{Entered}
 use Rattle.model.specs.Holds.{sameMode}
 use Rattle.model.specs.Sizes.{within}
 use Rattle.model.specs.Steps.Dispatch.{hasStep}
-use Rattle.model.proofs.Invariant.Ghost.{owner, inChain, oldOf, partnerOf, builtBy, newBy, Extent, size, localLevel}
 use Rattle.model.proofs.Laws.Structure.{Linked, SameOn, linked-frame, overflow-frame, chain-frame}
+use Rattle.model.proofs.Laws.Lists.{_▸_}
+use Rattle.model.proofs.Invariant.Ghost.{owner, inChain, oldOf, partnerOf, builtBy, newBy, Extent, size, localLevel}
 use Rattle.model.proofs.Invariant.Claims.{claims, claimTable, noLock, isClaimed}
 use Rattle.model.proofs.Invariant.Statement.{restructures, Scene, scratchIn, heldIn, NothingBuilt, NothingOld, NoPages, Early, Heads, Chasing, Protected, Walking, AtHome, Building, Rebuilt, Trash, Leaving, Written, unchanged, made-change, Returning, Settled, SplitChains, Dividing, Divided, MergeChains, Joining, Joined, MovedBack, Emptying, uses, Facts, factsNone, factsEarly, factsLevelRead, factsLocated, factsLocked, factsChasing, factsCoupled, factsHome, factsRebuilt, factsJoined, factsMovedBack, factsEmptying, factsMerged, factTable, Busy, PartyOk, resting, working}
+use borrow.Author.Tests.{eq-eqb, eqb-true}
 
 -- Two root records of the same sizes.
 pub record SameLimits (r t : Root) : Type 0 where
@@ -55,23 +56,36 @@ LiveOrOurs s p c = restructures p ≡ false → c < size (s .root .originals) (s
 
 -- What party j, whose record is p, relies on of how far the file extends.
 pub record Grows (s t : Scene) (p : Party) : Type 0 where
+  -- The one that restructures sees no extent change.
   pub same-for-restructurer : restructures p ≡ true → SameExtents s t
+  -- At 3, the level read at 2 is at most the root's.
   pub level-rises : p .step ≡ 3 → s .root .level ≤ t .root .level
+  -- At 4 and 5, a chain counted on stays.
   pub low-grows : within 4 5 (p .step) ≡ true → (c : ℕ) → StaysLive (s .root .originals) (s .ghost .low) (t .ghost .low) c
+  -- A chain that the party has locked stays live, and its local level does not fall.
   pub live-grows : (c : ℕ) (m : Mode) → isClaimed (claims (s .root) p) (chainWord c) m ≡ true → StaysLive (s .root .originals) (s .ghost .live) (t .ghost .live) c
+  -- Locked selectively or exclusively, its local level stays.
   pub firm : (c : ℕ) (m : Mode) → isClaimed (claims (s .root) p) (chainWord c) m ≡ true → sameMode m Read ≡ false → LiveOrOurs s p c
       → localLevel (s .root .originals) (t .ghost .live) c ≡ localLevel (s .root .originals) (s .ghost .live) c
 
 -- What party j, whose record is p, relies on from scene s to scene t.
 pub record Keeps (s t : Scene) (j : ℕ) (p : Party) : Type 0 where
+  -- The sizes stay.
   pub sizes : SameLimits (s .root) (t .root)
+  -- The file extends as the party relies on.
   pub grows : Grows s t p
+  -- Its entry in the book stays.
   pub entry= : t .entries j ≡ s .entries j
+  -- Its old, partner's, built and new pages stay its own, and their words stay.
   pub ours : (k : ℕ) → 3 ≤ k → k ≤ 6 → (heldIn t (owner k j) ≡ heldIn s (owner k j)) × SameOn (s .pages) (t .pages) (heldIn s (owner k j))
+  -- Its scratch page stays.
   pub scratch= : scratchIn t j ≡ scratchIn s j
+  -- A chain that it has locked selectively or exclusively keeps its records and its overflow pages.
   pub chain= : (c : ℕ) (m : Mode) → isClaimed (claims (s .root) p) (chainWord c) m ≡ true → sameMode m Read ≡ false → LiveOrOurs s p c
       → (t .ghost .records c ≡ s .ghost .records c) × (heldIn t (inChain c) ≡ heldIn s (inChain c))
+  -- At 9, every page that it may yet walk stays protected and keeps its words.
   pub reading : (x : ℕ) → p .step ≡ 9 → Protected s (p .chain) x → Protected t (p .chain) x × (pageOf (t .pages) x ≡ pageOf (s .pages) x)
+  -- At 18 and 29, the primary page of its other chain stays.
   pub spare : uses p (p .other) ≡ true → pageOf (t .pages) (primaryPage (p .other)) ≡ pageOf (s .pages) (primaryPage (p .other))
 
 -- ---- Where the file extends as before
@@ -337,6 +351,9 @@ all-framed-at n [] a i s t j p e h b k x = absurd x
 all-framed-at n (f ∷ fs) a zero s t j p e h b k x = a .0 s t j p e (h ∙ add-zero n) b k x
 all-framed-at n (f ∷ fs) a (suc i) s t j p e h b k x = all-framed-at (suc n) fs (a .1) i s t j p e (h ∙ add-suc n i ∙ sym (suc-add n i)) b k x
 
+framed-none : Framed 0 factsNone
+framed-none s t j p e h b k x = x
+
 -- The claims of a party whose step number is known.
 pub claims-at : (r : Root) (p : Party) (n : ℕ) → p .step ≡ n → claims r p ≡ getD claimTable n noLock p
 unfolding claims
@@ -469,86 +486,15 @@ framed-emptying s t j p e h b k x =
 framed-merged : Framed 30 factsMerged
 framed-merged s t j p e h b k x = (settled-kept s t j p k e (x .0), moved-back-kept s t j p k (same-extents s t j p 30 h refl k) (x .1))
 
+framed-written : Framed 12 Written
+framed-written s t j p e h b k x = written-kept s t j p k e x
+
 all-framed : AllFramed 0 factTable
-all-framed = (
-  (λ s t j p e h b k x. x),
-  (
-    framed-early 1,
-    (
-      framed-early 2,
-      (
-        framed-level,
-        (
-          framed-located 4 refl,
-          (
-            framed-located 5 refl,
-            (
-              framed-locked,
-              (
-                framed-chasing,
-                (
-                  framed-coupled,
-                  (
-                    framed-walking,
-                    (
-                      framed-home,
-                      (
-                        framed-rebuilt,
-                        (
-                          (λ s t j p e h b k x. written-kept s t j p k e x),
-                          (
-                            framed-returning 13,
-                            (
-                              framed-returning 14,
-                              (
-                                framed-settled 15,
-                                (
-                                  framed-settled 16,
-                                  (
-                                    framed-dividing,
-                                    (
-                                      framed-divided,
-                                      (
-                                        framed-leaving 19,
-                                        (
-                                          framed-leaving 20,
-                                          (
-                                            framed-leaving 21,
-                                            (
-                                              framed-leaving 22,
-                                              (
-                                                framed-settled 23,
-                                                (
-                                                  framed-settled 24,
-                                                  (
-                                                    framed-joining 25 refl,
-                                                    (framed-joining 26 refl, (framed-joined, (framed-moved-back, (framed-emptying, (framed-merged, tt))))),
-                                                  ),
-                                                ),
-                                              ),
-                                            ),
-                                          ),
-                                        ),
-                                      ),
-                                    ),
-                                  ),
-                                ),
-                              ),
-                            ),
-                          ),
-                        ),
-                      ),
-                    ),
-                  ),
-                ),
-              ),
-            ),
-          ),
-        ),
-      ),
-    ),
-  ),
-)
+all-framed =
+    framed-none ▸ framed-early 1 ▸ framed-early 2 ▸ framed-level ▸ framed-located 4 refl ▸ framed-located 5 refl ▸ framed-locked ▸ framed-chasing ▸ framed-coupled ▸ framed-walking
+    ▸ framed-home ▸ framed-rebuilt ▸ framed-written ▸ framed-returning 13 ▸ framed-returning 14 ▸ framed-settled 15 ▸ framed-settled 16 ▸ framed-dividing ▸ framed-divided
+    ▸ framed-leaving 19 ▸ framed-leaving 20 ▸ framed-leaving 21 ▸ framed-leaving 22 ▸ framed-settled 23 ▸ framed-settled 24 ▸ framed-joining 25 refl ▸ framed-joining 26 refl
+    ▸ framed-joined ▸ framed-moved-back ▸ framed-emptying ▸ framed-merged ▸ tt
 
 -- THE FRAME: a party that keeps what it relies on keeps all its facts.
 pub party-frame : (s t : Scene) (j : ℕ) (p : Party) → Keeps s t j p → PartyOk s j p → PartyOk t j p

@@ -1,5 +1,5 @@
 -- What only the proof knows: who owns each overflow page, the list of pages that each owner has, the records of each live chain, and how far the live file extends.
--- Main statements: Owner, Ghost; Owned (each overflow page is once in its owner's list and in no other); handed (pages that go from one owner to another).
+-- Main statements: Owner, Extent, Ghost; Owned (each overflow page is once in its owner's list and in no other); ownAfter, heldAfter (owners and lists after pages changed hands).
 use mathlib.Core.Path.{_≡_}
 use mathlib.Core.Bool.{Bool, false, cond, _&&_}
 use mathlib.Core.List.{List, []}
@@ -87,11 +87,17 @@ localLevel n e c = cond (ltb c (e .next)) (e .level + 1) (cond (leb (span n (e .
 
 -- ---- The ghost
 
+-- What only the proof knows of a memory.
 pub record Ghost : Type 0 where
+  -- The owner of each page.
   pub own : ℕ → Owner
+  -- Each owner's pages, in the order in which links lead through them.
   pub held : Owner → List ℕ
+  -- The records of each live chain, in order.
   pub records : ℕ → List Entry
+  -- How far the live file extends.
   pub live : Extent
+  -- How far a party at 4 or 5 may count on it to extend.
   pub low : Extent
 
 -- Each overflow page, from p to p + v − 1, is in exactly one list, that of its owner, and once. Every other page is nobody's, and nobody has no list.

@@ -22,6 +22,7 @@ use Rattle.model.specs.LockWords.{fieldOf, withField, readersOf, selecti
 use Rattle.model.specs.Holds.{tableOne, sameMode}
 use Rattle.model.specs.Records.{idle}
 use Rattle.model.proofs.Invariant.Claims.{claims, isClaimed, claimed, bit, HolderIs, WordOk, LocksOk}
+use Rattle.model.proofs.Laws.Booleans.{and-left, and-right}
 use Rattle.model.proofs.Laws.Fields.{field-same, field-below, field-above, bit-other, withField-26, readers-zero, reader-zero}
 
 -- ---- Tests
@@ -29,14 +30,6 @@ use Rattle.model.proofs.Laws.Fields.{field-same, field-below, field-abo
 not-true : (b : Bool) → b ≢ true → b ≡ false
 not-true true n = absurd (n refl)
 not-true false n = refl
-
-first : (a b : Bool) → (a && b) ≡ true → a ≡ true
-first true b e = refl
-first false b e = e
-
-second : (a b : Bool) → (a && b) ≡ true → b ≡ true
-second true b e = e
-second false b e = absurd (false≢true e)
 
 -- ---- Holder fields
 
@@ -124,12 +117,12 @@ beside-true w m m′ p = go m′
     all = sym (permits-is w m) ∙ p
 
     two : (beside w m Read && beside w m Selective) ≡ true
-    two = first (beside w m Read && beside w m Selective) (beside w m Exclusive) all
+    two = and-left (beside w m Read && beside w m Selective) (beside w m Exclusive) all
 
     go : (x : Mode) → beside w m x ≡ true
-    go Read = first (beside w m Read) (beside w m Selective) two
-    go Selective = second (beside w m Read) (beside w m Selective) two
-    go Exclusive = second (beside w m Read && beside w m Selective) (beside w m Exclusive) all
+    go Read = and-left (beside w m Read) (beside w m Selective) two
+    go Selective = and-right (beside w m Read) (beside w m Selective) two
+    go Exclusive = and-right (beside w m Read && beside w m Selective) (beside w m Exclusive) all
 
 permits-zero : (w : ℕ) (m m′ : Mode) → permits w m ≡ true → tableOne m m′ ≡ false → fieldFor w m′ ≡ 0
 permits-zero w m m′ p t = eqb-true (fieldFor w m′) 0 (rw t at (beside-true w m m′ p))
@@ -338,8 +331,8 @@ word-turned {w} {h} ok q e l = word-granted after q Selective (permits-true afte
 
     nothing : (q′ : ℕ) (m′ : Mode) → (h q′ m′ && not (eqb q′ q && sameMode m′ Exclusive)) ≢ true
     nothing q′ m′ x =
-        let only = exclusive-alone ok q q′ m′ e (first (h q′ m′) (not (eqb q′ q && sameMode m′ Exclusive)) x) in
-        let off = second (h q′ m′) (not (eqb q′ q && sameMode m′ Exclusive)) x in
+        let only = exclusive-alone ok q q′ m′ e (and-left (h q′ m′) (not (eqb q′ q && sameMode m′ Exclusive)) x) in
+        let off = and-right (h q′ m′) (not (eqb q′ q && sameMode m′ Exclusive)) x in
         false≢true (rw (eq-eqb q′ q (only .0), only .1) at off)
 
 -- ---- All lock words

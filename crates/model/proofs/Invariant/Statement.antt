@@ -60,12 +60,17 @@ liveFor r p =
 unfoldable pub lowFor : Root → Party → Extent
 lowFor r p = cond (eqb (p .step) 28) (rootExtent r) (liveFor r p)
 
+-- How far the live file extends goes by the root and by the one party that restructures.
 pub record ExtentsOk (r : Root) (ps : List Party) (g : Ghost) : Type 0 where
+  -- Where party q restructures, both extents go by its step number.
   pub live-by : (q : ℕ) → restructures (partyAt ps q) ≡ true → g .live ≡ liveFor r (partyAt ps q)
   pub low-by : (q : ℕ) → restructures (partyAt ps q) ≡ true → g .low ≡ lowFor r (partyAt ps q)
+  -- Where nobody restructures, both are the root's.
   pub at-rest : ((q : ℕ) → restructures (partyAt ps q) ≡ false) → (g .live ≡ rootExtent r) × (g .low ≡ rootExtent r)
+  -- The live extent is one that a root record can have.
   pub live-next : g .live .next < span (r .originals) (g .live .level)
   pub live-fits : size (r .originals) (g .live) ≤ r .primaries
+  -- So is the root's.
   pub root-next : r .next < span (r .originals) (r .level)
   pub root-fits : size (r .originals) (rootExtent r) ≤ r .primaries
 
@@ -75,21 +80,31 @@ pub record ExtentsOk (r : Root) (ps : List Party) (g : Ghost) : Type 0 where
 unfoldable pub uses : Party → ℕ → Bool
 uses p c = (eqb (p .step) 18 || eqb (p .step) 29) && eqb (p .other) c
 
+-- Who owns each page, and what each page holds, word for word.
 pub record PagesOk (r : Root) (ps : List Party) (m : List ℕ) (g : Ghost) : Type 0 where
+  -- Each overflow page is once in its owner's list.
   pub owned : Owned (r .primaries) (r .overflow) (g .own) (g .held)
+  -- Every owner is one of the seven kinds.
   pub kinds : (x : ℕ) → Named (g .own x)
+  -- A chain outside the live file has no overflow pages.
   pub beyond : (c : ℕ) → size (r .originals) (g .live) ≤ c → g .held (inChain c) ≡ []
+  -- The root record's head and count, and the free pages themselves, are those of the free list.
   pub head-is : r .head ≡ linkToFirst (g .held free)
   pub free-count : r .free ≡ length (g .held free)
   pub free-pages : FreePages m (g .held free)
+  -- Each live chain's pages hold its records at its local level.
   pub chain : (c : ℕ) → c < size (r .originals) (g .live) → ChainIs (r .capacity) m c (localLevel (r .originals) (g .live) c) (g .records c) (g .held (inChain c))
+  -- Its keys ascend.
   pub ascends : (c : ℕ) → c < size (r .originals) (g .live) → ascending (g .records c) ≡ true
+  -- Each of its keys is hashed to it by its local level.
   pub homed : (c : ℕ) → c < size (r .originals) (g .live) → (k : ℕ) → hasKey k (g .records c) ≡ true → hash (r .originals) (localLevel (r .originals) (g .live) c) k ≡ c
+  -- A primary page outside the live file that nobody uses is zero.
   pub dead : (c : ℕ) → size (r .originals) (g .live) ≤ c → c < r .primaries → ((q : ℕ) → uses (partyAt ps q) c ≡ false) → pageOf m (primaryPage c) ≡ zeroPage
 
 -- ---- The book's set
 
 pub record BookOk (r : Root) (g : Ghost) (b : Book) : Type 0 where
+  -- A key is in the book's set exactly where its live home chain has it.
   pub same : (k : ℕ) → isIn (b .contents k) ≡ hasKey k (g .records (addressOf (r .originals) (g .live .level) (g .live .next) k))
 
 -- ---- The facts of a party
@@ -108,15 +123,17 @@ scratchIn s q = pageOf (s .pages) (scratchPage (s .root) q)
 abbrev pub heldIn : Scene → Owner → List ℕ
 heldIn s o = s .ghost .held o
 
--- No pages built, none to give back.
+-- No pages built, and none of a split's new chain.
 pub record NothingBuilt (s : Scene) (q : ℕ) : Type 0 where
   pub no-built : heldIn s (builtBy q) ≡ []
   pub no-new : heldIn s (newBy q) ≡ []
 
+-- No pages to give back: none behind the old link, none of a partner.
 pub record NothingOld (s : Scene) (q : ℕ) : Type 0 where
   pub no-old : heldIn s (oldOf q) ≡ []
   pub no-partner : heldIn s (partnerOf q) ≡ []
 
+-- The party has no overflow page in hand.
 pub record NoPages (s : Scene) (q : ℕ) : Type 0 where
   pub nothing-built : NothingBuilt s q
   pub nothing-old : NothingOld s q
@@ -231,6 +248,7 @@ pub record SplitChains (s : Scene) (p : Party) : Type 0 where
   pub new-chain : p .other ≡ countOfChains (s .root)
   pub room : countOfChains (s .root) < s .root .primaries
 
+-- 17: both locks are held, nothing is built.
 pub record Dividing (s : Scene) (q : ℕ) (p : Party) (e : Entered) : Type 0 where
   pub settled : Settled s q p e
   pub chains : SplitChains s p
@@ -252,6 +270,7 @@ pub record MergeChains (s : Scene) (p : Party) : Type 0 where
   pub partner : p .other ≡ mergePartner (s .root .originals) (s .root .level) (s .root .next)
   pub goes-on : mergeStops (s .root) ≡ false
 
+-- 25 and 26: the chains are fixed, nothing is built.
 pub record Joining (s : Scene) (q : ℕ) (p : Party) (e : Entered) : Type 0 where
   pub settled : Settled s q p e
   pub chains : MergeChains s p
@@ -350,6 +369,7 @@ pub record Busy (s : Scene) (q : ℕ) (p : Party) (e : Entered) : Type 0 where
   pub chain-fits : p .chain < s .root .primaries
   pub other-fits : p .other < s .root .primaries
 
+-- A party rests, with nothing in hand and no entry in the book, or works, with the facts of its step number.
 pub data PartyOk (s : Scene) (q : ℕ) (p : Party) : Type 0 where
   resting : p ≡ idle → s .entries q ≡ none → NoPages s q → scratchIn s q ≡ zeroPage → PartyOk s q p
   working : (e : Entered) → Busy s q p e → factsAt (p .step) s q p e → PartyOk s q p
@@ -359,14 +379,24 @@ pub data PartyOk (s : Scene) (q : ℕ) (p : Party) : Type 0 where
 abbrev pub sceneOf : Memory → Ghost → Book → Scene
 sceneOf m g b = record { root = m .root; parties = m .parties; pages = m .pages; ghost = g; entries = b .entries }
 
+-- The invariant of a memory with the set book beside it.
 pub record Inv (m : Memory) (b : Book) : Type 0 where
+  -- What only the proof knows.
   pub ghost : Ghost
+  -- The sizes are within their limits.
   pub limits : Limits (m .root)
+  -- The lent rows have the lengths that the sizes ask for (the lock words': locks-ok).
   pub parties-many : length (m .parties) ≡ m .root .parties
   pub pages-many : length (m .pages) ≡ allPageWords (m .root)
+  -- The live file extends as root and restructurer say.
   pub extents-ok : ExtentsOk (m .root) (m .parties) ghost
+  -- Each lock word says exactly which parties hold it, by their records.
   pub locks-ok : LocksOk (lockWords (m .root)) (m .locks) (claimed (m .root) (m .parties))
+  -- Every page is owned and filled as the ghost says.
   pub pages-ok : PagesOk (m .root) (m .parties) (m .pages) ghost
+  -- The book's set is the keys of the live chains.
   pub book-ok : BookOk (m .root) ghost b
+  -- Each party of the row rests or works as its step number says.
   pub parties-ok : (q : ℕ) → q < m .root .parties → PartyOk (sceneOf m ghost b) q (partyAt (m .parties) q)
+  -- A number past the row has no entry and no pages.
   pub strangers : (q : ℕ) → m .root .parties ≤ q → (b .entries q ≡ none) × NoPages (sceneOf m ghost b) q

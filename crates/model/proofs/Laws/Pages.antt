@@ -1,19 +1,17 @@
 -- Laws of pages: what page memory and a page's fields are after a page was written.
 -- A page of the memory: Has.
--- Main statements: page-same, page-other, length-withPage; length-pageOf; withPage-pageOf, withPage-withPage;
+-- Main statements: page-same, page-other, length-withPage; length-pageOf, word-at; withPage-pageOf, withPage-withPage, withPage-comm;
 -- level-, count-, link-, entries- and length- of filledPage, freePage, zeroPage and withLocalLevel.
 use mathlib.Core.Path.{_≡_, refl, sym, ap, _∙_}
 use mathlib.Core.Logic.{_≢_}
-use mathlib.Core.Bool.{Bool, true, false}
 use mathlib.Core.List.{List, [], _∷_, _++_, append-assoc}
-use Prim.Native.Nat.{ℕ, _+_, _-_, _*_, _≤_, _<_}
+use Prim.Native.Nat.{ℕ, suc, _+_, _-_, _*_, _≤_, _<_}
 use native.Mathlib.Omega.{arith}
-use lib.ListN.{length, take, drop, replicate, length-append, length-drop, length-replicate, take-append-drop}
-use lib.Seq.{length-take-le, take-at, drop-at, drop-append-le, take-append-le, drop-append-add, drop-drop, take-append-seam}
-use lib.Dec.{ltb}
-use borrow.Author.Tests.{ltb-true, ltb-false}
+use lib.ListN.{length, getD, set, take, drop, replicate, length-append, length-drop, length-replicate, take-append-drop}
+use lib.Seq.{length-take-le, take-at, drop-at, drop-append-le, take-append-le, drop-append-add, drop-drop, take-append-seam, getD-take, getD-drop, set-comm, sets, sets-eq, length-sets}
 use Rattle.model.specs.Sizes.{pageWords, mostRecords}
 use Rattle.model.specs.Entries.{Entry}
+use Rattle.model.proofs.Laws.Lists.{Ord, lt, ge, ord}
 use Rattle.model.specs.Pages.{pageOf, withPage, levelOf, countOf, linkOf, entriesOf, filledPage, freePage, zeroPage, withLocalLevel}
 
 -- Page p is a page of the memory ps.
@@ -25,6 +23,11 @@ pub record Has (ps : List ℕ) (p : ℕ) : Type 0 where
 pub length-pageOf : {ps : List ℕ} {p : ℕ} → Has ps p → length (pageOf ps p) ≡ pageWords
 unfolding pageOf
 length-pageOf {ps} {p} h = length-take-le pageWords (drop (p * pageWords) ps) (rw length-drop (omega (arith, h .fits)))
+
+-- Word i of page p, where it stands in the memory.
+pub word-at : (ps : List ℕ) (p i : ℕ) → i < pageWords → getD ps (p * pageWords + i) 0 ≡ getD (pageOf ps p) i 0
+unfolding pageOf
+word-at ps p i h = rw (getD-take, getD-drop)
 
 -- ---- Writing a page: memory ps, page p, the words w
 
@@ -70,11 +73,11 @@ module _ (ps : List ℕ) (p : ℕ) (w : List ℕ) (has : Has ps p) (whole : leng
       ∙ ap (λ (m : ℕ). take pageWords (drop m ps)) e′
 
   pub page-other : (r : ℕ) → r ≢ p → pageOf (withPage ps p w) r ≡ pageOf ps r
-  page-other r n = go (ltb r p) refl
+  page-other r n = go (ord r p)
     where
-      go : (t : Bool) → ltb r p ≡ t → pageOf (withPage ps p w) r ≡ pageOf ps r
-      go true e = page-below r (ltb-true r p e)
-      go false e = let h = ltb-false r p e in page-above r (omega arith)
+      go : Ord r p → pageOf (withPage ps p w) r ≡ pageOf ps r
+      go (lt h e) = page-below r h
+      go (ge h e) = page-above r (omega (arith, n))
 
   pub has-withPage : {r : ℕ} → Has ps r → Has (withPage ps p w) r
   has-withPage h = record { fits = rw length-withPage (h .fits) }
@@ -98,6 +101,42 @@ withPage-pageOf ps p =
     ap (λ (z : List ℕ). take (p * pageWords) ps ++ (take pageWords rest ++ z)) (sym (drop-drop pageWords (p * pageWords) ps))
     ∙ ap (λ (z : List ℕ). take (p * pageWords) ps ++ z) (take-append-drop pageWords rest)
     ∙ take-append-drop (p * pageWords) ps
+
+-- ---- Two pages written
+
+set-before : (l : List ℕ) (i : ℕ) (a : ℕ) (j : ℕ) (vs : List ℕ) → i < j → sets (set l i a) j vs ≡ set (sets l j vs) i a
+set-before l i a j [] h = refl
+set-before l i a j (v ∷ vs) h =
+    ap (λ (k : List ℕ). sets k (suc j) vs) (set-comm l i j a v (λ e. omega arith)) ∙ set-before (set l j v) i a (suc j) vs (omega arith)
+
+sets-before : (l : List ℕ) (i : ℕ) (us : List ℕ) (j : ℕ) (vs : List ℕ) → i + length us ≤ j → sets (sets l i us) j vs ≡ sets (sets l j vs) i us
+sets-before l i [] j vs h = refl
+sets-before l i (u ∷ us) j vs h =
+    sets-before (set l i u) (suc i) us j vs (omega arith) ∙ ap (λ (k : List ℕ). sets k (suc i) us) (set-before l i u j vs (omega arith))
+
+-- A page written is its words stored one after the other.
+page-stored : (ps : List ℕ) (p : ℕ) (w : List ℕ) → Has ps p → length w ≡ pageWords → withPage ps p w ≡ sets ps (p * pageWords) w
+unfolding withPage
+page-stored ps p w h e = sym (sets-eq w ps (p * pageWords) (rw e (h .fits)) ∙ rw e (append-assoc (take (p * pageWords) ps) w (drop (p * pageWords + pageWords) ps)))
+
+-- Two pages may be written in either order.
+pub withPage-comm :
+    (ps u v : List ℕ) (p q : ℕ) → p ≢ q → Has ps p → Has ps q → length u ≡ pageWords → length v ≡ pageWords
+    → withPage (withPage ps p u) q v ≡ withPage (withPage ps q v) p u
+withPage-comm ps u v p q n hp hq lu lv = go (ord p q)
+  where
+    both : (x y : List ℕ) (i j : ℕ) → Has ps i → Has ps j → length x ≡ pageWords → length y ≡ pageWords
+        → withPage (withPage ps i x) j y ≡ sets (sets ps (i * pageWords) x) (j * pageWords) y
+    both x y i j hi hj lx ly =
+        ap (λ (k : List ℕ). withPage k j y) (page-stored ps i x hi lx) ∙ page-stored (sets ps (i * pageWords) x) j y record { fits = rw length-sets (hj .fits) } ly
+
+    swapped : sets (sets ps (p * pageWords) u) (q * pageWords) v ≡ sets (sets ps (q * pageWords) v) (p * pageWords) u
+        → withPage (withPage ps p u) q v ≡ withPage (withPage ps q v) p u
+    swapped s = both u v p q hp hq lu lv ∙ s ∙ sym (both v u q p hq hp lv lu)
+
+    go : Ord p q → withPage (withPage ps p u) q v ≡ withPage (withPage ps q v) p u
+    go (lt h e) = swapped (sets-before ps (p * pageWords) u (q * pageWords) v (omega arith))
+    go (ge h e) = swapped (sym (sets-before ps (q * pageWords) v (p * pageWords) u (omega (arith, h, n))))
 
 -- ---- A filled page
 

@@ -13,7 +13,6 @@ use Rattle.model.specs.declared.Party.{Party}
 use Rattle.model.specs.declared.Restructuring.the-variants as Restructuring
 use Rattle.model.specs.Sizes.{lockWords, pageWords}
 use Rattle.model.specs.Records.{idle, atStep, withOld}
-use Rattle.model.specs.Answers.{answerOf, refusalNumber}
 use Rattle.model.specs.Addresses.{chainCount, splitBarred, countOfChains}
 use Rattle.model.specs.Entries.{Entry, staying, going}
 use Rattle.model.specs.Pages.{pageOf, withPage, primaryPage, scratchPage, linkToFirst, zeroPage}
@@ -21,120 +20,91 @@ use Rattle.model.specs.Chains.{Chain}
 use Rattle.model.specs.Filling.{pagesFor, primaryOf, overflowWritten}
 use Rattle.model.specs.FreeList.{isAmong, tooFew, rootAfterTaking}
 use Rattle.model.specs.Memory.{Memory, partyAt, viewOf}
-use Rattle.model.specs.Book.{Book, agreesWith, afterReply}
+use Rattle.model.specs.Book.{Book}
 use Rattle.model.specs.LockRequests.{chainSelective, rootSelective}
 use Rattle.model.specs.Endings.{endedWith}
 use Rattle.model.specs.Steps.SplitBuild.{halvesOf, halvesNeed, halvesWritten, divided, divideWith, step17}
 use Rattle.model.specs.Steps.Dispatch.{hasStep}
 use Rattle.model.proofs.Laws.Lists.{cond-ind, Told, holds, fails, tell, Cmp, same, diff, cmp, eqb-diff, eqb-false, or-neither, first-or-rest, ltb-false, All}
-use Rattle.model.proofs.Invariant.Ghost.{Owner, free, inChain, oldOf, partnerOf, builtBy, newBy, rootExtent, size, localLevel, count, Ghost, Owned}
-use Rattle.model.proofs.Invariant.Owners.{same-from, kinds-apart, no-repeats, overflow-bounds, absent-elsewhere}
 use Rattle.model.proofs.Laws.Distinct.{distinct-count}
 use Rattle.model.proofs.Laws.Pages.{Has, length-withPage, page-same, page-other}
 use Rattle.model.proofs.Laws.Structure.{Overflow, ChainIs, overflow-frame}
 use Rattle.model.proofs.Laws.Filling.{IsOverflow, length-primaryOf, overflow-written, overflowWritten-other, length-overflowWritten}
 use Rattle.model.proofs.Laws.Reading.{has-overflow, absent-outside}
+use Rattle.model.proofs.Invariant.Ghost.{Owner, free, inChain, oldOf, partnerOf, builtBy, newBy, rootExtent, size, localLevel, count, Ghost, Owned}
+use Rattle.model.proofs.Invariant.Owners.{same-from, kinds-apart, no-repeats, overflow-bounds, absent-elsewhere}
 use Rattle.model.proofs.Invariant.Claims.{claims, claimed, LocksOk}
 use Rattle.model.proofs.Invariant.LockMoves.{locks-root, locks-stay}
 use Rattle.model.proofs.Invariant.Restructurer.{others-use-none}
-use Rattle.model.proofs.Invariant.Statement.{restructures, liveFor, lowFor, ExtentsOk, uses, Scene, NoPages, Divided, working, Inv, sceneOf}
-use Rattle.model.proofs.Invariant.Frame.{claims-at}
-use Rattle.model.proofs.Effects.Kept.{Kept, row-same, row-other, extents-move, assemble}
-use Rattle.model.proofs.Invariant.Facts.{At, facts-at, still-noted}
+use Rattle.model.proofs.Invariant.Statement.{restructures, liveFor, lowFor, ExtentsOk, uses, Scene, NoPages, Divided, working}
+use Rattle.model.proofs.Invariant.Turn.{Turn, before, has-step, its-claims, live-now, me, note-still, row-long, uses-none, restructures-now}
+use Rattle.model.proofs.Effects.Kept.{Kept, row-same, row-other, Parts, moved-kept}
 use Rattle.model.proofs.Effects.Touch.{Touch, outside}
-use Rattle.model.proofs.Effects.Done.{held-claims, done-kept, extents-leave}
+use Rattle.model.proofs.Effects.Done.{ended-kept}
 use Rattle.model.proofs.Effects.BuiltChain.{chain-found}
-use Rattle.model.proofs.Effects.Taking.{builtPages, newPages, takenGhost, takenRoot, taken-is, built-cut, new-cut, built-many, new-many, owned-then, built-then, new-then, held-kept, built-overflow, new-overflow, taking-parts}
+use Rattle.model.proofs.Effects.Taking.{builtPages, newPages, takenGhost, takenRoot, taken-is, built-cut, new-cut, built-many, new-many, owned-then, built-then, new-then, held-kept, built-overflow, new-overflow, taking-parts, Takes}
+use Rattle.model.proofs.Effects.Moves.{busy-onto, extents-keep, extents-stop}
 
-module _ (m : Memory) (b : Book) (i : Inv m b) (q : ℕ) (in-row : q < m .root .parties) (is-seventeen : partyAt (m .parties) q .step ≡ 17) where
-  abbrev me : Party
-  me = partyAt (m .parties) q
-
-  abbrev before : Scene
-  before = sceneOf m (i .ghost) b
-
+module _ {m : Memory} {b : Book} {q : ℕ} (t : Turn m b q 17) where
   abbrev r : Root
   r = m .root
 
-  row-long : q < length (m .parties)
-  row-long = omega (arith, i .parties-many)
-
-  at-seventeen : At 17 before q me
-  at-seventeen = facts-at 16 before q me is-seventeen (i .parties-ok q in-row)
-
-  no-pages : NoPages before q
-  no-pages = at-seventeen .facts .settled .no-pages
-
-  restructuring : restructures me ≡ true
-  unfolding restructures
-  restructuring = rw is-seventeen refl
-
-  live-root : liveFor r me ≡ rootExtent r
-  unfolding liveFor
-  live-root = rw is-seventeen refl
-
-  low-root : lowFor r me ≡ rootExtent r
-  unfolding lowFor liveFor
-  low-root = rw is-seventeen refl
+  no-pages : NoPages (before t) q
+  no-pages = t .facts .settled .no-pages
 
   -- The live file extends as the root says.
-  live-is : i .ghost .live ≡ rootExtent r
-  live-is = i .extents-ok .live-by q restructuring ∙ live-root
+  live-is : t .inv .ghost .live ≡ rootExtent r
+  unfolding liveFor
+  live-is = live-now t refl
 
-  low-is : i .ghost .low ≡ rootExtent r
-  low-is = i .extents-ok .low-by q restructuring ∙ low-root
+  chain-next : me t .chain ≡ r .next
+  chain-next = t .facts .chains .old-chain
 
-  chain-next : me .chain ≡ r .next
-  chain-next = at-seventeen .facts .chains .old-chain
-
-  size-is : size (r .originals) (i .ghost .live) ≡ countOfChains r
+  size-is : size (r .originals) (t .inv .ghost .live) ≡ countOfChains r
   unfolding size
   size-is = rw live-is refl
 
-  chain-live : me .chain < size (r .originals) (i .ghost .live)
+  chain-live : me t .chain < size (r .originals) (t .inv .ghost .live)
   unfolding chainCount
-  chain-live = rw size-is (omega (arith, chain-next, i .extents-ok .root-next))
+  chain-live = rw size-is (omega (arith, chain-next, t .inv .extents-ok .root-next))
 
   abbrev olds : List ℕ
-  olds = i .ghost .held (inChain (me .chain))
+  olds = t .inv .ghost .held (inChain (me t .chain))
 
   abbrev records : List Entry
-  records = i .ghost .records (me .chain)
+  records = t .inv .ghost .records (me t .chain)
 
   abbrev whole : Chain
-  whole = record { level = localLevel (r .originals) (i .ghost .live) (me .chain); link = linkToFirst olds; pages = olds; entries = records }
+  whole = record { level = localLevel (r .originals) (t .inv .ghost .live) (me t .chain); link = linkToFirst olds; pages = olds; entries = records }
 
   room : splitBarred (countOfChains r) (r .primaries) ≡ false
   unfolding splitBarred
-  room = eqb-diff (countOfChains r) (r .primaries) (omega (arith, at-seventeen .facts .chains .room))
+  room = eqb-diff (countOfChains r) (r .primaries) (omega (arith, t .facts .chains .room))
 
   -- ---- Too few pages: the split is skipped
 
-  claims-seventeen : claims r me ≡ rootSelective ∷ (chainSelective me ∷ [])
-  claims-seventeen = claims-at r me 17 is-seventeen
-
-  not-used : (d : ℕ) → uses me d ≡ false
-  unfolding uses
-  not-used d = rw is-seventeen refl
-
-  words-fit : All (λ c. c .word < lockWords r) (claims r me)
-  words-fit = rw claims-seventeen (omega arith, (omega (arith, at-seventeen .busy .chain-fits), tt))
-
-  skipped : Kept m b q (endedWith (viewOf m q) (rootSelective ∷ (chainSelective me ∷ [])) Restructuring.SplitSkipped)
-  unfolding endedWith restructures
+  skipped : Kept m b q (endedWith (viewOf m q) (rootSelective ∷ (chainSelective (me t) ∷ [])) Restructuring.SplitSkipped)
+  unfolding restructures liveFor lowFor
   skipped =
-      let f = at-seventeen in
-      rw (← claims-seventeen, held-claims m b i q in-row words-fit)
-      (done-kept m b i q in-row (f .entered) (f .busy .entry) (answerOf (me .answer)) (f .facts .settled .noted) (omega arith) (omega arith) (omega arith) no-pages not-used
-      (rw claims-seventeen (((λ e. omega arith), tt), (tt, tt))) words-fit (extents-leave r (m .parties) (i .ghost) q idle row-long refl (live-is, low-is) (i .extents-ok)) Restructuring.SplitSkipped)
+      ended-kept t
+      (record {
+        plain = refl;
+        noted = t .facts .settled .noted;
+        no-pages = no-pages;
+        extents = extents-stop t idle refl refl refl refl;
+        holds = refl;
+        apart = ((omega arith, tt), (tt, tt));
+        fit = (omega arith, (omega (arith, t .busy .chain-fits), tt));
+      })
+      Restructuring.SplitSkipped
 
   -- ---- Both halves
 
   abbrev stay : List Entry
-  stay = staying (r .originals) (r .level + 1) (me .chain) records
+  stay = staying (r .originals) (r .level + 1) (me t .chain) records
 
   abbrev go : List Entry
-  go = going (r .originals) (r .level + 1) (me .chain) records
+  go = going (r .originals) (r .level + 1) (me t .chain) records
 
   abbrev needStay : ℕ
   needStay = pagesFor (r .capacity) stay
@@ -143,39 +113,36 @@ module _ (m : Memory) (b : Book) (i : Inv m b) (q : ℕ) (in-row : q < m .root .
   needGo = pagesFor (r .capacity) go
 
   module _ (enough : needStay + needGo ≤ r .free) where
-    no-built : i .ghost .held (builtBy q) ≡ []
-    no-built = no-pages .nothing-built .no-built
-
-    no-new : i .ghost .held (newBy q) ≡ []
-    no-new = no-pages .nothing-built .no-new
+    abbrev want : Takes t needStay needGo
+    want = record { enough = enough; no-pages = no-pages }
 
     -- The pages of the staying half and of the new chain, and who owns what then.
     abbrev xs : List ℕ
-    xs = builtPages m b i q in-row needStay needGo enough no-built no-new
+    xs = builtPages t needStay needGo want
 
     abbrev ys : List ℕ
-    ys = newPages m b i q in-row needStay needGo enough no-built no-new
+    ys = newPages t needStay needGo want
 
     abbrev ghost-then : Ghost
-    ghost-then = takenGhost m b i q in-row needStay needGo enough no-built no-new
+    ghost-then = takenGhost t needStay needGo want
 
     abbrev root-then : Root
-    root-then = takenRoot m b i q in-row needStay needGo enough no-built no-new
+    root-then = takenRoot t needStay needGo want
 
     owned : Owned (r .primaries) (r .overflow) (ghost-then .own) (ghost-then .held)
-    owned = owned-then m b i q in-row needStay needGo enough no-built no-new
+    owned = owned-then t needStay needGo want
 
     held-stay : ghost-then .held (builtBy q) ≡ xs
-    held-stay = built-then m b i q in-row needStay needGo enough no-built no-new
+    held-stay = built-then t needStay needGo want
 
     held-go : ghost-then .held (newBy q) ≡ ys
-    held-go = new-then m b i q in-row needStay needGo enough no-built no-new
+    held-go = new-then t needStay needGo want
 
     xs-overflow : All (IsOverflow r) xs
-    xs-overflow = built-overflow m b i q in-row needStay needGo enough no-built no-new
+    xs-overflow = built-overflow t needStay needGo want
 
     ys-overflow : All (IsOverflow r) ys
-    ys-overflow = new-overflow m b i q in-row needStay needGo enough no-built no-new
+    ys-overflow = new-overflow t needStay needGo want
 
     -- ---- The pages written
 
@@ -189,120 +156,120 @@ module _ (m : Memory) (b : Book) (i : Inv m b) (q : ℕ) (in-row : q < m .root .
     pages₂ = overflowWritten (r .capacity) pages₁ ys go
 
     abbrev pages₃ : List ℕ
-    pages₃ = withPage pages₂ (me .other) (primaryOf (r .capacity) level go ys)
+    pages₃ = withPage pages₂ (me t .other) (primaryOf (r .capacity) level go ys)
 
     abbrev pages-then : List ℕ
     pages-then = withPage pages₃ (scratchPage r q) (primaryOf (r .capacity) level stay xs)
 
     xs-has : All (Has (m .pages)) xs
-    xs-has = has-overflow r (m .pages) xs (i .pages-many) xs-overflow
+    xs-has = has-overflow r (m .pages) xs (t .inv .pages-many) xs-overflow
 
     long₁ : length pages₁ ≡ length (m .pages)
-    long₁ = length-overflowWritten (r .capacity) (i .limits .keys-fit) (m .pages) xs stay xs-has
+    long₁ = length-overflowWritten (r .capacity) (t .inv .limits .keys-fit) (m .pages) xs stay xs-has
 
     ys-has : All (Has pages₁) ys
-    ys-has = has-overflow r pages₁ ys (long₁ ∙ i .pages-many) ys-overflow
+    ys-has = has-overflow r pages₁ ys (long₁ ∙ t .inv .pages-many) ys-overflow
 
     long₂ : length pages₂ ≡ length (m .pages)
-    long₂ = length-overflowWritten (r .capacity) (i .limits .keys-fit) pages₁ ys go ys-has ∙ long₁
+    long₂ = length-overflowWritten (r .capacity) (t .inv .limits .keys-fit) pages₁ ys go ys-has ∙ long₁
 
     page-go : length (primaryOf (r .capacity) level go ys) ≡ pageWords
-    page-go = length-primaryOf (r .capacity) level go ys (i .limits .keys-fit)
+    page-go = length-primaryOf (r .capacity) level go ys (t .inv .limits .keys-fit)
 
     page-stay : length (primaryOf (r .capacity) level stay xs) ≡ pageWords
-    page-stay = length-primaryOf (r .capacity) level stay xs (i .limits .keys-fit)
+    page-stay = length-primaryOf (r .capacity) level stay xs (t .inv .limits .keys-fit)
 
-    other-has : Has pages₂ (me .other)
-    other-has = record { fits = omega (arith, long₂, i .pages-many, at-seventeen .busy .other-fits) }
+    other-has : Has pages₂ (me t .other)
+    other-has = record { fits = omega (arith, long₂, t .inv .pages-many, t .busy .other-fits) }
 
     long₃ : length pages₃ ≡ length (m .pages)
-    long₃ = length-withPage pages₂ (me .other) (primaryOf (r .capacity) level go ys) other-has page-go ∙ long₂
+    long₃ = length-withPage pages₂ (me t .other) (primaryOf (r .capacity) level go ys) other-has page-go ∙ long₂
 
     scratch-has : Has pages₃ (scratchPage r q)
-    scratch-has = record { fits = omega (arith, long₃, i .pages-many) }
+    scratch-has = record { fits = omega (arith, long₃, t .inv .pages-many) }
 
     long-then : length pages-then ≡ length (m .pages)
     long-then = length-withPage pages₃ (scratchPage r q) (primaryOf (r .capacity) level stay xs) scratch-has page-stay ∙ long₃
 
     -- A page of neither half, but for the two primary pages.
-    late-off : (x : ℕ) → x ≢ scratchPage r q → x ≢ me .other → pageOf pages-then x ≡ pageOf pages₂ x
+    late-off : (x : ℕ) → x ≢ scratchPage r q → x ≢ me t .other → pageOf pages-then x ≡ pageOf pages₂ x
     late-off x n o =
         page-other pages₃ (scratchPage r q) (primaryOf (r .capacity) level stay xs) scratch-has page-stay x n
-        ∙ page-other pages₂ (me .other) (primaryOf (r .capacity) level go ys) other-has page-go x o
+        ∙ page-other pages₂ (me t .other) (primaryOf (r .capacity) level go ys) other-has page-go x o
 
     go-off : (x : ℕ) → isAmong x ys ≡ false → pageOf pages₂ x ≡ pageOf pages₁ x
-    go-off x h = overflowWritten-other (r .capacity) (i .limits .keys-fit) pages₁ ys go ys-has x (absent-outside x ys h)
+    go-off x h = overflowWritten-other (r .capacity) (t .inv .limits .keys-fit) pages₁ ys go ys-has x (absent-outside x ys h)
 
     stay-off : (x : ℕ) → isAmong x xs ≡ false → pageOf pages₁ x ≡ pageOf (m .pages) x
-    stay-off x h = overflowWritten-other (r .capacity) (i .limits .keys-fit) (m .pages) xs stay xs-has x (absent-outside x xs h)
+    stay-off x h = overflowWritten-other (r .capacity) (t .inv .limits .keys-fit) (m .pages) xs stay xs-has x (absent-outside x xs h)
 
     -- A page of a half is an overflow page.
-    stay-page : (x : ℕ) → isAmong x xs ≡ true → (x ≢ scratchPage r q) × (x ≢ me .other) × (isAmong x ys ≡ false)
+    stay-page : (x : ℕ) → isAmong x xs ≡ true → (x ≢ scratchPage r q) × (x ≢ me t .other) × (isAmong x ys ≡ false)
     stay-page x h =
         let mine : isAmong x (ghost-then .held (builtBy q)) ≡ true = rw held-stay h in
         let z = overflow-bounds owned (builtBy q) x mine in
-        ((λ e. omega arith), (λ e. omega (arith, at-seventeen .busy .other-fits)), ap (isAmong x) (sym held-go) ∙ absent-elsewhere owned (builtBy q) (newBy q) x mine (kinds-apart (builtBy q) (newBy q) refl))
+        ((λ e. omega arith), (λ e. omega (arith, t .busy .other-fits)), ap (isAmong x) (sym held-go) ∙ absent-elsewhere owned (builtBy q) (newBy q) x mine (kinds-apart (builtBy q) (newBy q) refl))
 
-    go-page : (x : ℕ) → isAmong x ys ≡ true → (x ≢ scratchPage r q) × (x ≢ me .other)
+    go-page : (x : ℕ) → isAmong x ys ≡ true → (x ≢ scratchPage r q) × (x ≢ me t .other)
     go-page x h =
         let mine : isAmong x (ghost-then .held (newBy q)) ≡ true = rw held-go h in
         let z = overflow-bounds owned (newBy q) x mine in
-        ((λ e. omega arith), (λ e. omega (arith, at-seventeen .busy .other-fits)))
+        ((λ e. omega arith), (λ e. omega (arith, t .busy .other-fits)))
 
     stay-built : Overflow (r .capacity) pages-then xs (drop (r .capacity) stay)
     stay-built =
         overflow-frame (r .capacity) pages₁ pages-then xs (drop (r .capacity) stay)
         (same-from pages₁ pages-then xs (λ x h. let z = stay-page x h in late-off x (z .0) (z .1) ∙ go-off x (z .2)))
-        (overflow-written (r .capacity) (i .limits .keys-fit) (m .pages) xs stay (i .limits .some-key) xs-has
-        (distinct-count xs (λ x. subst (λ (l : List ℕ). count x l ≤ 1) held-stay (no-repeats owned (builtBy q) x))) (built-many m b i q in-row needStay needGo enough no-built no-new))
+        (overflow-written (r .capacity) (t .inv .limits .keys-fit) (m .pages) xs stay (t .inv .limits .some-key) xs-has
+        (distinct-count xs (λ x. subst (λ (l : List ℕ). count x l ≤ 1) held-stay (no-repeats owned (builtBy q) x))) (built-many t needStay needGo want))
 
-    go-built : ChainIs (r .capacity) pages-then (me .other) level go ys
+    go-built : ChainIs (r .capacity) pages-then (me t .other) level go ys
     go-built = record {
-      primary = page-other pages₃ (scratchPage r q) (primaryOf (r .capacity) level stay xs) scratch-has page-stay (me .other) (omega (arith, at-seventeen .busy .other-fits))
-          ∙ page-same pages₂ (me .other) (primaryOf (r .capacity) level go ys) other-has page-go;
+      primary = page-other pages₃ (scratchPage r q) (primaryOf (r .capacity) level stay xs) scratch-has page-stay (me t .other) (omega (arith, t .busy .other-fits))
+          ∙ page-same pages₂ (me t .other) (primaryOf (r .capacity) level go ys) other-has page-go;
       overflow = overflow-frame (r .capacity) pages₂ pages-then ys (drop (r .capacity) go)
           (same-from pages₂ pages-then ys (λ x h. let z = go-page x h in late-off x (z .0) (z .1)))
-          (overflow-written (r .capacity) (i .limits .keys-fit) pages₁ ys go (i .limits .some-key) ys-has
-          (distinct-count ys (λ x. subst (λ (l : List ℕ). count x l ≤ 1) held-go (no-repeats owned (newBy q) x))) (new-many m b i q in-row needStay needGo enough no-built no-new));
+          (overflow-written (r .capacity) (t .inv .limits .keys-fit) pages₁ ys go (t .inv .limits .some-key) ys-has
+          (distinct-count ys (λ x. subst (λ (l : List ℕ). count x l ≤ 1) held-go (no-repeats owned (newBy q) x))) (new-many t needStay needGo want));
     }
 
     -- ---- What the party then knows
 
     abbrev p-then : Party
-    p-then = atStep 18 (withOld (linkToFirst olds) me)
+    p-then = atStep 18 (withOld (linkToFirst olds) (me t))
 
-    uses-then : (d : ℕ) → uses p-then d ≡ false → d ≢ me .other
+    uses-then : (d : ℕ) → uses p-then d ≡ false → d ≢ me t .other
     unfolding uses
-    uses-then d h e = eqb-false (me .other) d h (sym e)
+    uses-then d h e = eqb-false (me t .other) d h (sym e)
 
     -- The new chain's primary page is outside the live file, and nobody else uses it.
-    touch-other : (x : ℕ) → isAmong x (me .other ∷ []) ≡ true → Touch before q x
+    touch-other : (x : ℕ) → isAmong x (me t .other ∷ []) ≡ true → Touch (before t) q x
     unfolding isAmong
-    touch-other x h = go (first-or-rest x (me .other) [] h)
+    touch-other x h = go (first-or-rest x (me t .other) [] h)
       where
-        go : (me .other ≡ x) ⊎ (isAmong x [] ≡ true) → Touch before q x
-        go (inl e) = subst (λ (y : ℕ). Touch before q y) e
-            (outside (at-seventeen .busy .other-fits) (omega (arith, size-is, at-seventeen .facts .chains .new-chain)) (others-use-none m b i q restructuring (me .other)))
+        go : (me t .other ≡ x) ⊎ (isAmong x [] ≡ true) → Touch (before t) q x
+        go (inl e) = subst (λ (y : ℕ). Touch (before t) q y) e
+            (outside (t .busy .other-fits) (omega (arith, size-is, t .facts .chains .new-chain)) (others-use-none m b (t .inv) q (restructures-now t) (me t .other)))
         go (inr e) = absurd (false≢true e)
 
-    other-primary : (x : ℕ) → isAmong x (me .other ∷ []) ≡ true → x < r .primaries
+    other-primary : (x : ℕ) → isAmong x (me t .other ∷ []) ≡ true → x < r .primaries
     unfolding isAmong
-    other-primary x h = go (first-or-rest x (me .other) [] h)
+    other-primary x h = go (first-or-rest x (me t .other) [] h)
       where
-        go : (me .other ≡ x) ⊎ (isAmong x [] ≡ true) → x < r .primaries
-        go (inl e) = omega (arith, e, at-seventeen .busy .other-fits)
+        go : (me t .other ≡ x) ⊎ (isAmong x [] ≡ true) → x < r .primaries
+        go (inl e) = omega (arith, e, t .busy .other-fits)
         go (inr e) = absurd (false≢true e)
 
-    off : (x : ℕ) → x ≢ scratchPage r q → isAmong x (me .other ∷ []) ≡ false → isAmong x xs ≡ false → isAmong x ys ≡ false → pageOf pages-then x ≡ pageOf (m .pages) x
+    off : (x : ℕ) → x ≢ scratchPage r q → isAmong x (me t .other ∷ []) ≡ false → isAmong x xs ≡ false → isAmong x ys ≡ false → pageOf pages-then x ≡ pageOf (m .pages) x
     unfolding isAmong
-    off x n o s g = late-off x n (λ e. eqb-false (me .other) x (or-neither (eqb (me .other) x) false o .0) (sym e)) ∙ go-off x g ∙ stay-off x s
+    off x n o s g = late-off x n (λ e. eqb-false (me t .other) x (or-neither (eqb (me t .other) x) false o .0) (sym e)) ∙ go-off x g ∙ stay-off x s
 
     -- The primary pages outside the live file, but for the new chain's.
-    dead-then : (d : ℕ) → size (r .originals) (i .ghost .live) ≤ d → d < r .primaries → ((j : ℕ) → uses (partyAt (set (m .parties) q p-then) j) d ≡ false) → pageOf pages-then (primaryPage d) ≡ zeroPage
+    dead-then : (d : ℕ) → size (r .originals) (t .inv .ghost .live) ≤ d → d < r .primaries → ((j : ℕ) → uses (partyAt (set (m .parties) q p-then) j) d ≡ false) → pageOf pages-then (primaryPage d) ≡ zeroPage
     dead-then d far fits u =
-        late-off d (omega arith) (uses-then d (rw (row-same (m .parties) q p-then row-long) at (u q)))
+        late-off d (omega arith) (uses-then d (rw (row-same (m .parties) q p-then (row-long t)) at (u q)))
         ∙ go-off d (no-overflow d fits (newBy q) ys held-go) ∙ stay-off d (no-overflow d fits (builtBy q) xs held-stay)
-        ∙ i .pages-ok .dead d far fits (λ j. unused j (cmp j q))
+        ∙ t .inv .pages-ok .dead d far fits (λ j. unused j (cmp j q))
       where
         no-overflow : (x : ℕ) → x < r .primaries → (o : Owner) (zs : List ℕ) → ghost-then .held o ≡ zs → isAmong x zs ≡ false
         no-overflow x l o zs e = go (tell (isAmong x zs))
@@ -312,31 +279,33 @@ module _ (m : Memory) (b : Book) (i : Inv m b) (q : ℕ) (in-row : q < m .root .
             go (holds h) = absurd (let z = overflow-bounds owned o x (rw e h) in omega arith)
 
         unused : (j : ℕ) → Cmp j q → uses (partyAt (m .parties) j) d ≡ false
-        unused j (same e) = rw e (not-used d)
+        unused j (same e) = rw e (uses-none t refl d)
         unused j (diff n) = rw (row-other (m .parties) q j p-then n) at (u j)
 
     extents-then : ExtentsOk root-then (set (m .parties) q p-then) ghost-then
     unfolding restructures liveFor lowFor
     extents-then =
-        extents-move r root-then (record { limits = record { originals= = refl; capacity= = refl; primaries= = refl; overflow= = refl; parties= = refl }; level= = refl; next= = refl })
-        (m .parties) (i .ghost) ghost-then refl refl q p-then row-long (sym restructuring) (λ _. sym live-root) (λ _. sym low-root) (i .extents-ok)
+        extents-keep t
+        (record {
+          sizes = record { limits = record { originals= = refl; capacity= = refl; primaries= = refl; overflow= = refl; parties= = refl }; level= = refl; next= = refl };
+          live= = refl;
+          low= = refl;
+        })
+        p-then refl refl refl
 
     locks-then : LocksOk (lockWords root-then) (m .locks) (claimed root-then (set (m .parties) q p-then))
     unfolding claims
-    locks-then = locks-root r root-then (set (m .parties) q p-then) (locks-stay r (m .parties) q p-then row-long (sym claims-seventeen) (i .locks-ok))
-
-    no-olds : i .ghost .held (oldOf q) ≡ []
-    no-olds = no-pages .nothing-old .no-old
+    locks-then = locks-root r root-then (set (m .parties) q p-then) (locks-stay r (m .parties) q p-then (row-long t) (sym (its-claims t)) (t .inv .locks-ok))
 
     abbrev scene-then : Scene
     scene-then = record { root = root-then; parties = set (m .parties) q p-then; pages = pages-then; ghost = ghost-then; entries = b .entries }
 
-    kept : (o : Owner) → eqb (o .kind) 1 ≡ false → eqb (o .kind) 5 ≡ false → eqb (o .kind) 6 ≡ false → ghost-then .held o ≡ i .ghost .held o
-    kept o f u n = held-kept m b i q in-row needStay needGo enough no-built no-new o (kinds-apart o free f) (kinds-apart o (builtBy q) u) (kinds-apart o (newBy q) n)
+    kept : (o : Owner) → eqb (o .kind) 1 ≡ false → eqb (o .kind) 5 ≡ false → eqb (o .kind) 6 ≡ false → ghost-then .held o ≡ t .inv .ghost .held o
+    kept o f u n = held-kept t needStay needGo want o (kinds-apart o free f) (kinds-apart o (builtBy q) u) (kinds-apart o (newBy q) n)
 
-    divided-then : Divided scene-then q p-then (at-seventeen .entered)
+    divided-then : Divided scene-then q p-then (t .entered)
     divided-then =
-        let f = at-seventeen .facts in
+        let f = t .facts in
         record {
           noted = f .settled .noted;
           made = f .settled .made;
@@ -345,47 +314,37 @@ module _ (m : Memory) (b : Book) (i : Inv m b) (q : ℕ) (in-row : q < m .root .
             scratch-is = page-same pages₃ (scratchPage r q) (primaryOf (r .capacity) level stay xs) scratch-has page-stay ∙ ap (primaryOf (r .capacity) level stay) (sym held-stay);
             built = subst (λ (l : List ℕ). Overflow (r .capacity) pages-then l (drop (r .capacity) stay)) (sym held-stay) stay-built;
           };
-          go = subst (λ (l : List ℕ). ChainIs (r .capacity) pages-then (me .other) level go l) (sym held-go) go-built;
-          keeps-link = ap linkToFirst (sym (kept (inChain (me .chain)) refl refl refl));
-          nothing-old = record { no-old = kept (oldOf q) refl refl refl ∙ no-olds; no-partner = kept (partnerOf q) refl refl refl ∙ no-pages .nothing-old .no-partner };
+          go = subst (λ (l : List ℕ). ChainIs (r .capacity) pages-then (me t .other) level go l) (sym held-go) go-built;
+          keeps-link = ap linkToFirst (sym (kept (inChain (me t .chain)) refl refl refl));
+          nothing-old = record { no-old = kept (oldOf q) refl refl refl ∙ no-pages .nothing-old .no-old; no-partner = kept (partnerOf q) refl refl refl ∙ no-pages .nothing-old .no-partner };
         }
 
-    inv-then : Inv (record { root = root-then; parties = set (m .parties) q p-then; locks = m .locks; pages = pages-then }) b
+    parts-then : Parts m b (t .inv) q root-then (m .locks) pages-then p-then b ghost-then
     unfolding hasStep
-    inv-then =
-        let k = at-seventeen .busy in
-        assemble m b i q in-row root-then (m .locks) pages-then p-then b ghost-then
-        (taking-parts m b i q in-row needStay needGo enough no-built no-new pages-then p-then b (me .other ∷ []) long-then no-olds off touch-other other-primary (λ j n. refl) refl
-        dead-then (m .locks) extents-then locks-then
-        (working (at-seventeen .entered)
+    parts-then =
+        taking-parts t needStay needGo want pages-then p-then b (me t .other ∷ [])
         (record {
-          entry = k .entry;
-          same-operation = k .same-operation;
-          same-key = k .same-key;
-          step-fits = subst (λ (n : ℕ). hasStep (me .operation) n ≡ true) is-seventeen (k .step-fits);
-          lev-fits = k .lev-fits;
-          owed-fits = k .owed-fits;
-          answer-fits = k .answer-fits;
-          answer-set = λ h. k .answer-set (omega arith);
-          chain-fits = k .chain-fits;
-          other-fits = k .other-fits;
+          long = long-then;
+          off = off;
+          touch-extra = touch-other;
+          extra-primary = other-primary;
+          entries= = λ j n. refl;
+          contents= = refl;
+          dead = dead-then;
         })
-        divided-then))
+        (m .locks) extents-then locks-then
+        (working (t .entered) (busy-onto t 18 (has-step t) (omega arith) scene-then refl refl (p-then .old)) divided-then)
 
-    divided-kept : Kept m b q (divided (viewOf m q) whole (halvesOf (viewOf m q) whole) (record { pages = take (needStay + needGo) (i .ghost .held free); head = linkToFirst (drop (needStay + needGo) (i .ghost .held free)) }))
-    unfolding divided halvesOf halvesNeed halvesWritten rootAfterTaking refusalNumber agreesWith afterReply
+    divided-kept : Kept m b q (divided (viewOf m q) whole (halvesOf (viewOf m q) whole) (record { pages = take (needStay + needGo) (t .inv .ghost .held free); head = linkToFirst (drop (needStay + needGo) (t .inv .ghost .held free)) }))
+    unfolding divided halvesOf halvesNeed halvesWritten rootAfterTaking
     divided-kept =
-        rw (built-cut m b i q in-row needStay needGo enough no-built no-new, new-cut m b i q in-row needStay needGo enough no-built no-new)
-        (record {
-          allowed = refl;
-          right = refl;
-          inv = rw (still-noted b q (b .entries q) (me .step) (omega arith) (omega arith) (omega arith)) inv-then;
-        })
+        rw (built-cut t needStay needGo want, new-cut t needStay needGo want)
+        (moved-kept t (note-still t refl) parts-then)
 
   pub step17-kept : Kept m b q (step17 (viewOf m q))
   unfolding step17 divideWith halvesOf halvesNeed tooFew
   step17-kept =
-      rw (room, chain-found m b i (me .chain) chain-live)
+      rw (room, chain-found m b (t .inv) (me t .chain) chain-live)
       (cond-ind (Kept m b q) (ltb (r .free) (needStay + needGo)) _ _ (λ _. skipped)
       (λ e. let enough = ltb-false (r .free) (needStay + needGo) e in
-      rw (taken-is m b i q in-row needStay needGo enough (no-pages .nothing-built .no-built) (no-pages .nothing-built .no-new)) (divided-kept enough)))
+      rw (taken-is t needStay needGo (record { enough = enough; no-pages = no-pages })) (divided-kept enough)))

@@ -1,21 +1,23 @@
 -- The lemmas of the thirty steps together: every step of a party under way is not refused, agrees with the book and keeps the invariant.
 -- Main statement: steps-kept.
-use mathlib.Core.Path.{_≡_, sym, _∙_, subst}
+use mathlib.Core.Path.{_≡_, sym, _∙_, subst, ap, refl}
 use mathlib.Core.Logic.{_⊎_, inl, inr}
-use mathlib.Core.Bool.{true, false, _&&_, _||_, and-false, false≢true}
+use mathlib.Core.Bool.{true, _&&_, _||_, and-false, false≢true}
 use mathlib.Core.List.{List, [], _∷_}
 use Prim.Native.Nat.{ℕ, zero, suc, _+_, _<_}
 use native.Mathlib.Nat.{add-zero, add-suc, suc-add, zero-add}
 use native.Mathlib.Omega.{arith}
 use lib.ListN.{length, getD}
 use lib.Dec.{eqb, leb}
+use Rattle.model.specs.declared.Party.{Party}
 use Rattle.model.specs.Sizes.{within}
 use Rattle.model.specs.Outcome.{View, Outcome}
 use Rattle.model.specs.Memory.{Memory, partyAt, viewOf}
 use Rattle.model.specs.Book.{Book}
 use Rattle.model.specs.Steps.Dispatch.{hasStep, noStep, stepTable, stepOf}
-use Rattle.model.proofs.Laws.Lists.{and-both, or-either, leb-true}
-use Rattle.model.proofs.Invariant.Statement.{Inv}
+use Rattle.model.proofs.Laws.Lists.{and-both, or-either, leb-true, Numbered, _▸_}
+use Rattle.model.proofs.Invariant.Statement.{Inv, PartyOk, sceneOf, resting, working}
+use Rattle.model.proofs.Invariant.Turn.{Turn}
 use Rattle.model.proofs.Effects.Kept.{Kept}
 use Rattle.model.proofs.Theorems.Calls.{StepsKept}
 use Rattle.model.proofs.Steps.Locate.{step01-kept, step02-kept, step03-kept, step04-kept, step05-kept}
@@ -72,112 +74,36 @@ no-step-zero : (o : ℕ) → hasStep o 0 ≡ true → ⊥
 unfolding hasStep
 no-step-zero o h = false≢true (rw (and-false (eqb o 1), and-false (eqb o 2), and-false (eqb o 3)) at h)
 
-module _ (m : Memory) (b : Book) (i : Inv m b) (q : ℕ) (in-row : q < m .root .parties) where
-  -- The steps of a table keep the invariant, the first being step n.
-  abbrev AllKept : ℕ → List (View → Outcome) → Type 0
-  AllKept n [] = Unit {0}
-  AllKept n (f ∷ fs) =
-      (partyAt (m .parties) q .step ≡ n → hasStep (partyAt (m .parties) q .operation) (partyAt (m .parties) q .step) ≡ true → Kept m b q (f (viewOf m q))) × AllKept (suc n) fs
+-- A party under way has its turn.
+turn-of : (m : Memory) (b : Book) → Inv m b → (q : ℕ) → q < m .root .parties → hasStep (partyAt (m .parties) q .operation) (partyAt (m .parties) q .step) ≡ true
+    → Turn m b q (partyAt (m .parties) q .step)
+turn-of m b i q in-row has = go (i .parties-ok q in-row)
+  where
+    go : PartyOk (sceneOf m (i .ghost) b) q (partyAt (m .parties) q) → Turn m b q (partyAt (m .parties) q .step)
+    go (resting e x y z) =
+        absurd (no-step-zero (partyAt (m .parties) q .operation) (subst (λ (n : ℕ). hasStep (partyAt (m .parties) q .operation) n ≡ true) (ap (λ (p : Party). p .step) e) has))
+    go (working e k f) = record { inv = i; in-row = in-row; is-at = refl; entered = e; busy = k; facts = f }
 
-  all-kept-at : (n : ℕ) (fs : List (View → Outcome)) → AllKept n fs → (k : ℕ) → k < length fs → partyAt (m .parties) q .step ≡ n + k
-      → hasStep (partyAt (m .parties) q .operation) (partyAt (m .parties) q .step) ≡ true → Kept m b q (getD fs k noStep (viewOf m q))
-  all-kept-at n [] a k l e h = absurd (omega arith)
-  all-kept-at n (f ∷ fs) a zero l e h = a .0 (e ∙ add-zero n) h
-  all-kept-at n (f ∷ fs) a (suc k) l e h = all-kept-at (suc n) fs (a .1) k (omega arith) (e ∙ add-suc n k ∙ sym (suc-add n k)) h
+module _ (m : Memory) (b : Book) (q : ℕ) where
+  -- A step keeps the invariant in a turn at number n.
+  abbrev KeepsAt : ℕ → (View → Outcome) → Type 0
+  KeepsAt n f = Turn m b q n → Kept m b q (f (viewOf m q))
 
-  all-kept : AllKept 0 stepTable
+  kept-at : (n : ℕ) (fs : List (View → Outcome)) → Numbered KeepsAt n fs → (k : ℕ) → k < length fs → Turn m b q (n + k) → Kept m b q (getD fs k noStep (viewOf m q))
+  kept-at n [] a k l t = absurd (omega arith)
+  kept-at n (f ∷ fs) a zero l t = a .0 (subst (λ (j : ℕ). Turn m b q j) (add-zero n) t)
+  kept-at n (f ∷ fs) a (suc k) l t = kept-at (suc n) fs (a .1) k (omega arith) (subst (λ (j : ℕ). Turn m b q j) (add-suc n k ∙ sym (suc-add n k)) t)
+
+  all-kept : Numbered KeepsAt 0 stepTable
   unfolding stepTable
-  all-kept = (
-    (λ e h. absurd (no-step-zero (partyAt (m .parties) q .operation) (subst (λ (n : ℕ). hasStep (partyAt (m .parties) q .operation) n ≡ true) e h))),
-    (
-      (λ e h. step01-kept m b i q in-row e),
-      (
-        (λ e h. step02-kept m b i q in-row e),
-        (
-          (λ e h. step03-kept m b i q in-row e),
-          (
-            (λ e h. step04-kept m b i q in-row e),
-            (
-              (λ e h. step05-kept m b i q in-row e),
-              (
-                (λ e h. step06-kept m b i q in-row e),
-                (
-                  (λ e h. step07-kept m b i q in-row e),
-                  (
-                    (λ e h. step08-kept m b i q in-row e),
-                    (
-                      (λ e h. step09-kept m b i q in-row e),
-                      (
-                        (λ e h. step10-kept m b i q in-row e),
-                        (
-                          (λ e h. step11-kept m b i q in-row e),
-                          (
-                            (λ e h. step12-kept m b i q in-row e),
-                            (
-                              (λ e h. step13-kept m b i q in-row e),
-                              (
-                                (λ e h. step14-kept m b i q in-row e),
-                                (
-                                  (λ e h. step15-kept m b i q in-row e),
-                                  (
-                                    (λ e h. step16-kept m b i q in-row e),
-                                    (
-                                      (λ e h. step17-kept m b i q in-row e),
-                                      (
-                                        (λ e h. step18-kept m b i q in-row e),
-                                        (
-                                          (λ e h. step19-kept m b i q in-row e),
-                                          (
-                                            (λ e h. step20-kept m b i q in-row e),
-                                            (
-                                              (λ e h. step21-kept m b i q in-row e),
-                                              (
-                                                (λ e h. step22-kept m b i q in-row e),
-                                                (
-                                                  (λ e h. step23-kept m b i q in-row e),
-                                                  (
-                                                    (λ e h. step24-kept m b i q in-row e),
-                                                    (
-                                                      (λ e h. step25-kept m b i q in-row e),
-                                                      (
-                                                        (λ e h. step26-kept m b i q in-row e),
-                                                        (
-                                                          (λ e h. step27-kept m b i q in-row e),
-                                                          (
-                                                            (λ e h. step28-kept m b i q in-row e),
-                                                            ((λ e h. step29-kept m b i q in-row e), ((λ e h. step30-kept m b i q in-row e), tt)),
-                                                          ),
-                                                        ),
-                                                      ),
-                                                    ),
-                                                  ),
-                                                ),
-                                              ),
-                                            ),
-                                          ),
-                                        ),
-                                      ),
-                                    ),
-                                  ),
-                                ),
-                              ),
-                            ),
-                          ),
-                        ),
-                      ),
-                    ),
-                  ),
-                ),
-              ),
-            ),
-          ),
-        ),
-      ),
-    ),
-  )
+  all-kept =
+      (λ (t : Turn m b q 0). absurd (t .facts)) ▸ step01-kept ▸ step02-kept ▸ step03-kept ▸ step04-kept ▸ step05-kept ▸ step06-kept ▸ step07-kept ▸ step08-kept ▸ step09-kept
+      ▸ step10-kept ▸ step11-kept ▸ step12-kept ▸ step13-kept ▸ step14-kept ▸ step15-kept ▸ step16-kept ▸ step17-kept ▸ step18-kept ▸ step19-kept
+      ▸ step20-kept ▸ step21-kept ▸ step22-kept ▸ step23-kept ▸ step24-kept ▸ step25-kept ▸ step26-kept ▸ step27-kept ▸ step28-kept ▸ step29-kept
+      ▸ step30-kept ▸ tt
 
 pub steps-kept : StepsKept
 unfolding stepOf stepTable
 steps-kept m b i q in-row has =
-    all-kept-at m b i q in-row 0 stepTable (all-kept m b i q in-row) (partyAt (m .parties) q .step) (steps-last (partyAt (m .parties) q .operation) (partyAt (m .parties) q .step) has)
-    (sym (zero-add (partyAt (m .parties) q .step))) has
+    let k = partyAt (m .parties) q .step in
+    kept-at m b q 0 stepTable (all-kept m b q) k (steps-last (partyAt (m .parties) q .operation) k has) (subst (λ (j : ℕ). Turn m b q j) (sym (zero-add k)) (turn-of m b i q in-row has))

@@ -29,17 +29,17 @@ use Rattle.model.specs.Runs.{Call, beginFor, stepFor, Reply, toBegin, to
 use Rattle.model.specs.Book.{Book, Entered, changedAt, enter, bookAfter, afterReply, afterBegin, agrees, agreesWith, bookAgrees, bookAtEnd}
 use Rattle.model.specs.Steps.Dispatch.{hasStep, stepOf}
 use Rattle.model.proofs.Laws.Lists.{Ord, lt, ge, ord, both-and, eqb-same, eqb-diff, le-leb, lt-ltb}
+use Rattle.model.proofs.Laws.Reading.{held-length}
 use Rattle.model.proofs.Invariant.Ghost.{nobody, oldOf, free, rootExtent, size}
 use Rattle.model.proofs.Invariant.Owners.{owns-nothing, kinds-apart}
 use Rattle.model.proofs.Invariant.Claims.{claims}
 use Rattle.model.proofs.Invariant.LockMoves.{locks-stay}
-use Rattle.model.proofs.Effects.OwnRecord.{same-sizes, own-parts}
 use Rattle.model.proofs.Invariant.Facts.{no-pages-held}
 use Rattle.model.proofs.Invariant.Extents.{level-fits}
-use Rattle.model.proofs.Laws.Reading.{held-length}
-use Rattle.model.proofs.Theorems.RefusalOrder.{begin-order, step-order}
 use Rattle.model.proofs.Invariant.Statement.{Limits, restructures, uses, NoPages, Busy, PartyOk, resting, working, Inv, sceneOf}
+use Rattle.model.proofs.Effects.OwnRecord.{same-sizes, own-parts}
 use Rattle.model.proofs.Effects.Kept.{Kept, extents-move, assemble}
+use Rattle.model.proofs.Theorems.RefusalOrder.{begin-order, step-order}
 
 -- Every step of a party under way is not refused, agrees with the book and keeps the invariant.
 abbrev pub StepsKept : Type 0
@@ -166,25 +166,39 @@ module _ (m : Memory) (b : Book) (i : Inv m b) (q : ℕ) (o : Operation) (k : �
   begun-inv =
       let fits = i .limits in
       assemble m b i q in-row (m .root) (m .locks) (m .pages) p-then (enter b q o k) (i .ghost)
-      (own-parts m b i q in-row p-then (enter b q o k) (λ j n. rw (eqb-diff j q n) refl) refl
-      (λ x e. absurd (owns-nothing (i .pages-ok .owned) (oldOf q) x (kinds-apart (oldOf q) nobody refl) (none .nothing-old .no-old) e)) (λ d _. idle-uses d) (m .locks)
-      (extents-move (m .root) (m .root) (same-sizes (m .root)) (m .parties) (i .ghost) (i .ghost) refl refl q p-then row-long idle-rests
-      (λ e. absurd (false≢true (sym begun-rests ∙ e))) (λ e. absurd (false≢true (sym begun-rests ∙ e))) (i .extents-ok))
-      (locks-stay (m .root) (m .parties) q p-then row-long begun-claims (i .locks-ok))
-      (working entered
+      (own-parts m b i q in-row p-then (enter b q o k) (m .locks)
       (record {
-        entry = rw (eqb-same q q refl) refl;
-        same-operation = refl;
-        same-key = refl;
-        step-fits = has-first o;
-        lev-fits = omega arith;
-        owed-fits = omega arith;
-        answer-fits = omega arith;
-        answer-set = λ h. absurd (omega arith);
-        chain-fits = omega (arith, fits .some-original, fits .originals-fit);
-        other-fits = omega (arith, fits .some-original, fits .originals-fit);
-      })
-      (record { nothing-owed = refl; no-pages = no-pages-held _ _ q refl none })))
+        entries= = λ j n. rw (eqb-diff j q n) refl;
+        contents= = refl;
+        stays = λ x e. absurd (owns-nothing (i .pages-ok .owned) (oldOf q) x (kinds-apart (oldOf q) nobody refl) (none .nothing-old .no-old) e);
+        frees = λ d _. idle-uses d;
+        extents = extents-move
+            (record {
+              sizes = same-sizes (m .root);
+              live= = refl;
+              low= = refl;
+              in-row = row-long;
+              same-part = idle-rests;
+              same-live = λ e. absurd (false≢true (sym begun-rests ∙ e));
+              same-low = λ e. absurd (false≢true (sym begun-rests ∙ e));
+            })
+            (i .extents-ok);
+        locks = locks-stay (m .root) (m .parties) q p-then row-long begun-claims (i .locks-ok);
+        self = working entered
+            (record {
+              entry = rw (eqb-same q q refl) refl;
+              same-operation = refl;
+              same-key = refl;
+              step-fits = has-first o;
+              lev-fits = omega arith;
+              owed-fits = omega arith;
+              answer-fits = omega arith;
+              answer-set = λ h. absurd (omega arith);
+              chain-fits = omega (arith, fits .some-original, fits .originals-fit);
+              other-fits = omega (arith, fits .some-original, fits .originals-fit);
+            })
+            (record { nothing-owed = refl; no-pages = no-pages-held _ _ q refl none });
+      }))
 
 -- ---- A call
 

@@ -41,13 +41,14 @@ use Rattle.model.proofs.Invariant.Statement.{liveFor, Inv, sceneOf}
 use Rattle.model.proofs.Invariant.Claims.{claimTable, noLock}
 use Rattle.model.proofs.Invariant.Frame.{holds-chain}
 use Rattle.model.proofs.Invariant.Facts.{At, facts-at}
+use Rattle.model.proofs.Invariant.Turn.{turn-at}
 use Rattle.model.proofs.Effects.Kept.{row-same}
 use Rattle.model.proofs.Effects.Releases.{lock-held}
 use Rattle.model.proofs.Effects.ScratchPage.{protected-bounds}
 use Rattle.model.proofs.Effects.BuiltChain.{chain-found}
-use Rattle.model.proofs.Steps.Chase.Copy.{step06-moves, stayed-home}
 use Rattle.model.proofs.Theorems.Alters.{Tested, turned-away, let-through, tested}
 use Rattle.model.proofs.Theorems.Reached.{reached-inv}
+use Rattle.model.proofs.Steps.Chase.Copy.{step06-moves, stayed-home}
 
 -- ---- How far the live file extends, by Ellis's x
 
@@ -258,7 +259,7 @@ module _ (m : Memory) (b : Book) (i : Inv m b) (q : ℕ) where
     unfolding stepped stepOf stepTable
     leaves =
         ap (λ (x : Called StepAnswer). x .memory) leads-on ∙ ap (λ (k : ℕ). afterStep m (stepOf k (viewOf m q) .after)) is-six
-        ∙ ap (λ (o : Outcome). afterStep m (o .after)) (step06-moves m b i q (in-row m b i q 5 is-six) is-six)
+        ∙ ap (λ (o : Outcome). afterStep m (o .after)) (step06-moves (turn-at m b i q (in-row m b i q 5 is-six) 5 is-six))
 
     next-ends : within 9 10 (next .step) ≡ true
     next-ends =
@@ -280,7 +281,7 @@ module _ (m : Memory) (b : Book) (i : Inv m b) (q : ℕ) where
       at-home = record {
         chain = chain-at m b i (me .chain);
         reads = chain-found m b i (me .chain) (here .facts .1 .inside);
-        home = stayed-home m b i q (in-row m b i q 5 is-six) is-six stays;
+        home = stayed-home (turn-at m b i q (in-row m b i q 5 is-six) 5 is-six) stays;
         locked = chain-locked m b i q 5 is-six refl;
       };
       current =

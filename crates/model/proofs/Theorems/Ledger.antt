@@ -18,6 +18,7 @@ use Rattle.model.specs.LockWords.{Claim, claim, permits}
 use Rattle.model.specs.Memory.{partyAt}
 use Rattle.model.specs.Holds.{tableOne, Hold, hold, permitted, sameMode, isHold, withoutOne, withoutAll, withHeld}
 use Rattle.model.proofs.Laws.Lists.{cond-ind, Told, holds, fails, tell, Cmp, same, diff, cmp, and-both, both-and, left-or, right-or, false≢true, eqb-true, eqb-same, eqb-diff}
+use Rattle.model.proofs.Laws.Booleans.{eq-of-iff}
 use Rattle.model.proofs.Invariant.Claims.{claims, isClaimed, claimed, bit, LocksOk}
 use Rattle.model.proofs.Invariant.LockMoves.{mode-same, claims-root, table-true, permits-true}
 use Rattle.model.proofs.Effects.Kept.{row-same, row-other}
@@ -181,15 +182,9 @@ table-permitted (h ∷ hs) c f = both-and (go (cmp (h .claim .word) (c .word))) 
         right-or (not (eqb (h .claim .word) (c .word))) (f (h .party) (h .claim .mode) (rw here (omega arith)))
     go (diff n) = left-or (tableOne (c .mode) (h .claim .mode)) (ap not (eqb-diff (h .claim .word) (c .word) n))
 
--- Two tests each of which passes where the other does.
-both-ways : (a b : Bool) → (a ≡ true → b ≡ true) → (b ≡ true → a ≡ true) → a ≡ b
-both-ways true b f g = sym (f refl)
-both-ways false true f g = g refl
-both-ways false false f g = refl
-
 pub permitted-is : (r : Root) (ps : List Party) (hs : List Hold) → LedgerOk r ps hs → {n : ℕ} {locks : List ℕ} → LocksOk n locks (claimed r ps) → (c : Claim) → c .word < n
     → permitted hs c ≡ permits (getD locks (c .word) 0) (c .mode)
-permitted-is r ps hs ok {n} {locks} words c l = both-ways (permitted hs c) (permits (getD locks (c .word) 0) (c .mode)) to from
+permitted-is r ps hs ok {n} {locks} words c l = eq-of-iff to from
   where
     to : permitted hs c ≡ true → permits (getD locks (c .word) 0) (c .mode) ≡ true
     to e =

@@ -2,7 +2,7 @@
 -- Who waits wants a lock that somebody holds; the holder can move, or waits for a lock further on in the order of the lock words; and that order ends.
 -- Main statements: standing (a party under way can move, or waits for a lock behind all that it holds), climb (from a lock that is not granted to a party that can move);
 -- progress-holds, no-deadlock, always-progress.
-use mathlib.Core.Path.{_≡_, refl, sym, ap, _∙_}
+use mathlib.Core.Path.{_≡_, refl, sym, ap, _∙_, subst}
 use mathlib.Core.Logic.{_≢_, _⊎_, inl, inr}
 use mathlib.Core.Bool.{Bool, true, false, not, _&&_, _||_, false≢true}
 use mathlib.Core.List.{List, [], _∷_}
@@ -24,22 +24,23 @@ use Rattle.model.specs.Outcome.{View, damage}
 use Rattle.model.specs.LockRequests.{isGranted}
 use Rattle.model.specs.Memory.{Memory, partyAt, viewOf}
 use Rattle.model.specs.Calls.{Called, stepped, stepCall}
-use Rattle.model.specs.Runs.{Call, afterCall}
+use Rattle.model.specs.Runs.{Call, eventOf, afterCall}
 use Rattle.model.specs.Book.{Book, Entered, emptyBook}
 use Rattle.model.specs.Holds.{sameMode}
-use Rattle.model.specs.Progress.{underWay, canMove, someBelow, progresses, alwaysProgresses}
-use Rattle.model.specs.Demands.{Sizes, start, Reached}
+use Rattle.model.specs.Progress.{isEntered, underWay, canMove, someBelow, progresses, bookAfterCall, alwaysProgresses}
+use Rattle.model.specs.Demands.{Sizes, start, Reached, bookReached}
 use Rattle.model.specs.Steps.Dispatch.{stepOf, wants}
-use Rattle.model.proofs.Laws.Lists.{Told, holds, fails, tell, Cmp, same, diff, cmp, Ord, lt, ge, ord, and-both, both-and, or-either, left-or, right-or, not-both, not-true, eqb-true, eqb-diff, All}
-use Rattle.model.proofs.Invariant.Ghost.{size}
+use Rattle.model.proofs.Laws.Lists.{Told, holds, fails, tell, Cmp, same, diff, cmp, Ord, lt, ge, ord, and-both, both-and, or-either, left-or, right-or, not-both, not-true, eqb-true, All}
 use Rattle.model.proofs.Invariant.Claims.{claims, isClaimed}
 use Rattle.model.proofs.Invariant.LockMoves.{permits-true}
 use Rattle.model.proofs.Theorems.RefusalOrder.{step-order}
 use Rattle.model.proofs.Invariant.Statement.{factsAt, Busy, PartyOk, resting, working, sceneOf, Inv}
 use Rattle.model.proofs.Invariant.Start.{start-inv}
 use Rattle.model.proofs.Theorems.Calls.{StepsKept, within-limits, operation-some, record-sound, lengths-fit, root-sound, party-sound, call-kept, run-inv}
+use Rattle.model.proofs.Theorems.SizesStay.{call-limits, sizes-stay}
+use Rattle.model.proofs.Theorems.UnderWay.{inv-fits, entered-under}
 use Rattle.model.proofs.Theorems.Answering.{unasked, asked, fairly, step-fair}
-use Rattle.model.proofs.Theorems.LockOrder.{Higher, WantedHigher, RootFits, wanted-higher}
+use Rattle.model.proofs.Theorems.LockOrder.{Higher, WantedHigher, wanted-higher}
 
 -- ---- A search below a bound
 
@@ -98,9 +99,9 @@ idle-holds-nothing r p w e h = false≢true (rw e at h)
 -- ---- A party under way
 
 -- Where a party under way stands: its next step performs, or waits for a lock behind all that it holds.
-pub data Standing (m : Memory) (q : ℕ) : Type 0 where
-  moves : canMove m q ≡ true → Standing m q
-  awaits : (c : Claim) → permits (getD (m .locks) (c .word) 0) (c .mode) ≡ false → Higher (m .root) c (claims (m .root) (partyAt (m .parties) q)) → Standing m q
+pub data Standing (b : Book) (m : Memory) (q : ℕ) : Type 0 where
+  moves : canMove b m q ≡ true → Standing b m q
+  awaits : (c : Claim) → permits (getD (m .locks) (c .word) 0) (c .mode) ≡ false → Higher (m .root) c (claims (m .root) (partyAt (m .parties) q)) → Standing b m q
 
 -- A fair answer that is no refusal performs the step, unless a lock is wanted and not granted.
 module _ (v : View) (h : List Claim) where
@@ -117,35 +118,30 @@ module _ (v : View) (h : List Claim) where
   by-answer (some c) (StepAnswer.Refused n) r f x = absurd (omega (arith, r, eqb-true n damage f))
 
 module _ (kept : StepsKept) (m : Memory) (b : Book) (i : Inv m b) where
-  fits : RootFits (m .root)
-  unfolding size
-  fits = record { some-original = i .limits .some-original; next-fits = i .extents-ok .root-next; count-fits = i .extents-ok .root-fits }
-
   module _ (q : ℕ) (in-row : q < m .root .parties) where
     working-stands : (e : Entered) → Busy (sceneOf m (i .ghost) b) q (partyAt (m .parties) q) e
-        → factsAt (partyAt (m .parties) q .step) (sceneOf m (i .ghost) b) q (partyAt (m .parties) q) e → Standing m q
-    unfolding canMove underWay stepped isGranted
+        → factsAt (partyAt (m .parties) q .step) (sceneOf m (i .ghost) b) q (partyAt (m .parties) q) e → Standing b m q
+    unfolding canMove stepped isGranted
     working-stands e k x =
         let v = viewOf m q in
         let busy = operation-some (e .operation) (partyAt (m .parties) q .operation) (k .same-operation) in
         let sound = record-sound (m .root) (partyAt (m .parties) q) (root-sound m b i) (party-sound m b i q in-row (partyAt (m .parties) q) e k) in
         let performed = step-order m q .none (within-limits (m .root) (i .limits)) (lengths-fit m b i) in-row busy sound in
-        go performed busy
+        go performed (entered-under b q e (k .entry))
         (by-answer v (claims (m .root) (v .party)) (wants (m .root) (v .party)) (stepOf (v .party .step) v .answer) (kept m b i q in-row (k .step-fits) .allowed)
-        (step-fair v .fair) (wanted-higher (sceneOf m (i .ghost) b) q (v .party) e fits k x))
+        (step-fair v .fair) (wanted-higher (sceneOf m (i .ghost) b) q (v .party) e (inv-fits m b i) k x))
       where
-        go : stepCall m q ≡ stepped m q → partyAt (m .parties) q .operation ≢ 0
+        go : stepCall m q ≡ stepped m q → underWay b q ≡ true
             → (performs (stepOf (partyAt (m .parties) q .step) (viewOf m q) .answer) ≡ true)
-            ⊎ ((c : Claim) × (isGranted (viewOf m q) c ≡ false) × Higher (m .root) c (claims (m .root) (partyAt (m .parties) q))) → Standing m q
-        go performed busy (inl h) =
-            moves (both-and (ap not (eqb-diff (partyAt (m .parties) q .operation) 0 busy)) (ap (λ (c : Called StepAnswer). performs (c .answer)) performed ∙ h))
-        go performed busy (inr h) = awaits (h .0) (h .1) (h .2)
+            ⊎ ((c : Claim) × (isGranted (viewOf m q) c ≡ false) × Higher (m .root) c (claims (m .root) (partyAt (m .parties) q))) → Standing b m q
+        go performed entered (inl h) = moves (both-and entered (ap (λ (c : Called StepAnswer). performs (c .answer)) performed ∙ h))
+        go performed entered (inr h) = awaits (h .0) (h .1) (h .2)
 
     -- A party is idle, or stands somewhere.
-    pub standing : (partyAt (m .parties) q ≡ idle) ⊎ Standing m q
+    pub standing : (partyAt (m .parties) q ≡ idle) ⊎ Standing b m q
     standing = go (i .parties-ok q in-row)
       where
-        go : PartyOk (sceneOf m (i .ghost) b) q (partyAt (m .parties) q) → (partyAt (m .parties) q ≡ idle) ⊎ Standing m q
+        go : PartyOk (sceneOf m (i .ghost) b) q (partyAt (m .parties) q) → (partyAt (m .parties) q ≡ idle) ⊎ Standing b m q
         go (resting e _ _ _) = inl e
         go (working e k x) = inr (working-stands e k x)
 
@@ -174,17 +170,17 @@ module _ (kept : StepsKept) (m : Memory) (b : Book) (i : Inv m b) where
 
   -- From a lock that is not granted: its holder can move, or waits for one further on.
   pub climb : (k : ℕ) (c : Claim) → c .word < lockWords (m .root) → lockWords (m .root) ≤ k + c .word → permits (getD (m .locks) (c .word) 0) (c .mode) ≡ false
-      → Found (m .root .parties) (canMove m)
+      → Found (m .root .parties) (canMove b m)
   climb zero c l f n = absurd (omega arith)
   climb (suc k) c l f n = go (holder c l n) (λ d. climb k d)
     where
       go : Found (m .root .parties) (λ q. isOn (claims (m .root) (partyAt (m .parties) q)) (c .word))
           → ((d : Claim) → d .word < lockWords (m .root) → lockWords (m .root) ≤ k + d .word → permits (getD (m .locks) (d .word) 0) (d .mode) ≡ false
-          → Found (m .root .parties) (canMove m))
-          → Found (m .root .parties) (canMove m)
+          → Found (m .root .parties) (canMove b m))
+          → Found (m .root .parties) (canMove b m)
       go h ih = from (standing (h .number) (h .below))
         where
-          from : (partyAt (m .parties) (h .number) ≡ idle) ⊎ Standing m (h .number) → Found (m .root .parties) (canMove m)
+          from : (partyAt (m .parties) (h .number) ≡ idle) ⊎ Standing b m (h .number) → Found (m .root .parties) (canMove b m)
           from (inl e) = absurd (idle-holds-nothing (m .root) (partyAt (m .parties) (h .number)) (c .word) e (h .passes))
           from (inr (moves e)) = record { number = h .number; below = h .below; passes = e }
           from (inr (awaits d x y)) =
@@ -192,34 +188,41 @@ module _ (kept : StepsKept) (m : Memory) (b : Book) (i : Inv m b) where
               ih d (y .inside) (omega (arith, up, f)) x
 
   -- One under way, and so one who can move.
-  mover : Found (m .root .parties) (underWay m) → Found (m .root .parties) (canMove m)
-  unfolding underWay
-  mover h = go (standing (h .number) (h .below))
+  mover : Found (m .root .parties) (underWay b) → Found (m .root .parties) (canMove b m)
+  unfolding underWay isEntered
+  mover h = go (i .parties-ok (h .number) (h .below))
     where
-      go : (partyAt (m .parties) (h .number) ≡ idle) ⊎ Standing m (h .number) → Found (m .root .parties) (canMove m)
-      go (inl e) = absurd (false≢true (rw e at (h .passes)))
-      go (inr (moves e)) = record { number = h .number; below = h .below; passes = e }
-      go (inr (awaits c x y)) = climb (lockWords (m .root)) c (y .inside) (omega arith) x
+      from : Standing b m (h .number) → Found (m .root .parties) (canMove b m)
+      from (moves e) = record { number = h .number; below = h .below; passes = e }
+      from (awaits c x y) = climb (lockWords (m .root)) c (y .inside) (omega arith) x
+
+      go : PartyOk (sceneOf m (i .ghost) b) (h .number) (partyAt (m .parties) (h .number)) → Found (m .root .parties) (canMove b m)
+      go (resting _ n _ _) = absurd (false≢true (sym (ap isEntered n) ∙ h .passes))
+      go (working e k x) = from (working-stands (h .number) (h .below) e k x)
 
 -- PROGRESS: if operations are under way, at least one of them would answer moved or done if its step came next.
-pub progress-holds : StepsKept → (m : Memory) (b : Book) → Inv m b → progresses m ≡ true
+pub progress-holds : StepsKept → (m : Memory) (b : Book) → Inv m b → progresses (m .root .parties) b m ≡ true
 unfolding progresses
-progress-holds kept m b i = go (tell (someBelow (m .root .parties) (underWay m)))
+progress-holds kept m b i = go (tell (someBelow (m .root .parties) (underWay b)))
   where
-    go : Told (someBelow (m .root .parties) (underWay m)) → (not (someBelow (m .root .parties) (underWay m)) || someBelow (m .root .parties) (canMove m)) ≡ true
+    go : Told (someBelow (m .root .parties) (underWay b)) → (not (someBelow (m .root .parties) (underWay b)) || someBelow (m .root .parties) (canMove b m)) ≡ true
     go (holds e) =
-        let x = mover kept m b i (some-found (m .root .parties) (underWay m) e) in
-        right-or (not (someBelow (m .root .parties) (underWay m))) (found-some (m .root .parties) (canMove m) (x .number) (x .below) (x .passes))
-    go (fails e) = left-or (someBelow (m .root .parties) (canMove m)) (ap not e)
+        let x = mover kept m b i (some-found (m .root .parties) (underWay b) e) in
+        right-or (not (someBelow (m .root .parties) (underWay b))) (found-some (m .root .parties) (canMove b m) (x .number) (x .below) (x .passes))
+    go (fails e) = left-or (someBelow (m .root .parties) (canMove b m)) (ap not e)
 
 -- The same after every call of a list, and before the first.
-pub always-progress : StepsKept → (m : Memory) (b : Book) → Inv m b → (cs : List Call) → alwaysProgresses m cs ≡ true
-unfolding alwaysProgresses
+pub always-progress : StepsKept → (m : Memory) (b : Book) → Inv m b → (cs : List Call) → alwaysProgresses (m .root .parties) b m cs ≡ true
+unfolding alwaysProgresses eventOf
 always-progress kept m b i [] = progress-holds kept m b i
-always-progress kept m b i (c ∷ cs) = both-and (progress-holds kept m b i) (always-progress kept (afterCall m c) _ (call-kept kept m b i c .inv) cs)
+always-progress kept m b i (c ∷ cs) =
+    both-and (progress-holds kept m b i)
+    (subst (λ (n : ℕ). alwaysProgresses n (bookAfterCall b m c) (afterCall m c) cs ≡ true) (call-limits m c .parties=)
+    (always-progress kept (afterCall m c) (bookAfterCall b m c) (call-kept kept m b i c .inv) cs))
 
 -- Ellis's P1, no deadlock: after every list of calls from formatted memory.
-pub no-deadlock : StepsKept → (s : Sizes) (cs : List Call) → progresses (Reached s cs) ≡ true
+pub no-deadlock : StepsKept → (s : Sizes) (cs : List Call) → progresses (s .parties) (bookReached s cs) (Reached s cs) ≡ true
 no-deadlock kept s cs =
-    progress-holds kept (Reached s cs) _
-    (run-inv kept (start s) emptyBook (start-inv (s .originals) (s .capacity) (s .primaries) (s .overflow) (s .parties) (s .fit)) cs)
+    subst (λ (n : ℕ). progresses n (bookReached s cs) (Reached s cs) ≡ true) (sizes-stay s cs .parties)
+    (progress-holds kept (Reached s cs) (bookReached s cs)
+    (run-inv kept (start s) emptyBook (start-inv (s .originals) (s .capacity) (s .primaries) (s .overflow) (s .parties) (s .fit)) cs))

@@ -19,6 +19,7 @@ use Rattle.model.specs.ScratchPages.{builtBeside}
 
 -- ---- What an operation makes of a chain's records
 
+-- What an operation makes of its chain.
 pub data Change : Type 0 where
   -- Nothing: the answer's number.
   kept : ℕ → Change

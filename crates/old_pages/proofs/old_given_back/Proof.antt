@@ -8,12 +8,12 @@ use Rattle.model.specs.declared.Root.{Root}
 use Rattle.model.specs.Chains.{listFrom}
 use Rattle.records.specs.Words.{rootIn, partyIn}
 use Rattle.records.proofs.Words.{old-written, free-list-written, root-is}
-use Rattle.chains.proofs.Tests.{named-sound}
+use Rattle.model.proofs.Laws.Tests.{named-sound}
 use Rattle.free_list.specs.Giving.{listed, CanGive}
-use Rattle.free_list.proofs.Giving.{listed-length, same-sizes}
+use Rattle.free_list.proofs.Giving.{listed-length, same-sizes, free-list-kept, walked-at-most}
 use Rattle.endings.specs.Scratch.{HasScratch}
 use Rattle.endings.proofs.Scratching.{ready-has-scratch, still-has-scratch}
-use Rattle.old_pages.proofs.OldPages.{no-room-refused, not-held-refused, all-given-back, free-list-kept}
+use Rattle.old_pages.proofs.OldPages.{no-room-refused, not-held-refused, all-given-back}
 use borrow.Author.Needs.{needs}
 use Rattle.old_pages.proofs.old_given_back.Statement.{statement}
 use Rattle.old_pages.proofs.old_given_back.Tie as tie
@@ -21,22 +21,24 @@ use Rattle.old_pages.proofs.old_given_back.Tie as tie
 root-of-requires : tie.Need-root-of-requires
 root-of-requires c κs = search needs
 
-sub-if1 : tie.Need-sub-if1
-sub-if1 c =
+add-if1 : tie.Need-add-if1
+add-if1 c =
     let at-root-of = c .before in
     let start = at-root-of .before .before .before .before .before .before in
+    let a = start .args in
     let pre = start .pre in
     let er = at-root-of .root-of .ensures in
     let free = ap (λ (x : Root). x .free) er in
-    let overflow = ap (λ (x : Root). x .overflow) er in
-    omega (arith, pre .1 .ready .free-fits)
+    let r = rootIn (a .root .now) in
+    let few = walked-at-most r (a .pages .now) (partyIn (a .party .now) .old) (a .n) (pre .3) in
+    omega (arith, pre .1 .ready .free-fits, pre .1 .ready .pages-fit)
 
 same-length : tie.Need-same-length
 same-length c = search needs
 
 returns : tie.Need-returns
 returns c =
-    let at-root-of = c .before .before in
+    let at-root-of = c .before .before .before in
     let start = at-root-of .before .before .before .before .before .before in
     let a = start .args in
     let pre = start .pre in
@@ -70,7 +72,7 @@ returns-2 c =
     let at-give-up = c .before .before .before in
     let at-chain-word = at-give-up .before .before in
     let at-if1 = at-chain-word .before .before in
-    let at-root-of = at-if1 .before .before in
+    let at-root-of = at-if1 .before .before .before in
     let start = at-root-of .before .before .before .before .before .before in
     let a = start .args in
     let pre = start .pre in
@@ -90,7 +92,7 @@ slice-read-give-back-2 c = search needs
 give-back-requires : tie.Need-give-back-requires
 give-back-requires c κs =
     let at-if1 = c .before .before .before .before .before .before .before .before .before in
-    let at-root-of = at-if1 .before .before in
+    let at-root-of = at-if1 .before .before .before in
     let start = at-root-of .before .before .before .before .before .before in
     let a = start .args in
     let pre = start .pre in
@@ -103,22 +105,24 @@ give-back-requires c κs =
     subst (λ (x : Root). CanGive x (a .pages .now) (p .old) (a .n)) (sym er) can
 
 slice-write-root : tie.Need-slice-write-root
-slice-write-root c = search needs
+slice-write-root c =
+    let start = c .before .before .before .before .before .before .before .before .before .before .before .before .before .before .before .before .before .before .before .before .before in
+    omega (arith, start .pre .0)
 
 slice-write-root-2 : tie.Need-slice-write-root-2
 slice-write-root-2 c =
-    let start = c .before .before .before .before .before .before .before .before .before .before .before .before .before .before .before .before .before .before .before .before in
+    let start = c .before .before .before .before .before .before .before .before .before .before .before .before .before .before .before .before .before .before .before .before .before in
     simp length-set (omega (arith, start .pre .0))
 
 slice-write-party : tie.Need-slice-write-party
 slice-write-party c =
-    let start = c .before .before .before .before .before .before .before .before .before .before .before .before .before .before .before .before .before .before .before .before in
+    let start = c .before .before .before .before .before .before .before .before .before .before .before .before .before .before .before .before .before .before .before .before .before in
     omega (arith, start .pre .1 .words)
 
 onward-requires : tie.Need-onward-requires
 onward-requires c κs =
     let at-give-back = c .before .before .before .before in
-    let at-root-of = at-give-back .before .before .before .before .before .before .before .before .before .before .before .before in
+    let at-root-of = at-give-back .before .before .before .before .before .before .before .before .before .before .before .before .before in
     let start = at-root-of .before .before .before .before .before .before in
     let a = start .args in
     let pre = start .pre in
@@ -149,7 +153,7 @@ returns-3 c =
     let at-give-up = at-if2 .before .before .before in
     let at-chain-word = at-give-up .before .before in
     let at-if1 = at-chain-word .before .before in
-    let at-root-of = at-if1 .before .before in
+    let at-root-of = at-if1 .before .before .before in
     let start = at-root-of .before .before .before .before .before .before in
     let a = start .args in
     let pre = start .pre in
@@ -172,7 +176,7 @@ old-given-back-spec =
     tie.close
     (tie.spec
     root-of-requires
-    sub-if1
+    add-if1
     same-length
     returns
     slice-read-give-back

@@ -3,7 +3,7 @@ use mathlib.Core.Path.{sym, _∙_}
 use native.Mathlib.Omega.{arith}
 use borrow.Author.Tests.{not-true, not-false}
 use Rattle.records.specs.Words.{rootIn, partyIn}
-use Rattle.chains.proofs.Tests.{named-sound}
+use Rattle.model.proofs.Laws.Tests.{named-sound}
 use Rattle.old_pages.proofs.OldPages.{unnamed-refused, damaged-refused, walked-given-back}
 use borrow.Author.Needs.{needs}
 use Rattle.old_pages.proofs.step_14.Statement.{statement}

@@ -2,7 +2,8 @@
 use mathlib.Core.Path.{sym, _∙_}
 use native.Mathlib.Omega.{arith}
 use Rattle.records.specs.Words.{rootIn, partyIn}
-use Rattle.split_build.proofs.Cases.{barred-refused, chain-refused, scan-damaged}
+use Rattle.chain_scan.proofs.ScannedChain.{unsound-chain}
+use Rattle.split_build.proofs.Cases.{barred-refused, chain-refused}
 use borrow.Author.Needs.{needs}
 use Rattle.split_build.proofs.step_17.Statement.{statement}
 use Rattle.split_build.proofs.step_17.Tie as tie
@@ -85,7 +86,7 @@ returns-2 c =
     let p = partyIn (a .party .now) in
     let left = sym (rw er at (at-split-barred .split-barred .ensures)) ∙ at-if1 .if1 .left in
     let bad = sym (c .enum-told .given .1) ∙ rw er at (at-look-through .look-through .ensures) in
-    chain-refused r p (a .q) (a .locks .now) (a .pages .now) left (scan-damaged _ bad)
+    chain-refused r p (a .q) (a .locks .now) (a .pages .now) left (unsound-chain _ 0 bad)
 
 same-length-4 : tie.Need-same-length-4
 same-length-4 c = search needs

@@ -16,7 +16,7 @@ use Rattle.model.specs.declared.OperationAnswer.{OperationAnswer}
 use Rattle.model.specs.declared.OperationAnswer.the-variants as OperationAnswer
 use Rattle.model.specs.Sizes.{pageWords}
 use Rattle.model.specs.Records.{atStep, withLev, withChain, withOther}
-use Rattle.model.specs.Answers.{operationNumber, refusalNumber}
+use Rattle.model.specs.Answers.{operationNumber}
 use Rattle.model.specs.Addresses.{hash}
 use Rattle.model.specs.Entries.{hasKey}
 use Rattle.model.specs.Pages.{pageOf, withPage, levelOf, entriesOf, pageSound, primaryPage, scratchPage}
@@ -26,23 +26,24 @@ use Rattle.model.specs.ScratchPages.{withScratch}
 use Rattle.model.specs.LockRequests.{modeOf}
 use Rattle.model.specs.Steps.Chase.{Chase, chase, chaseOf, arrived, chasing, step06}
 use Rattle.model.specs.Steps.Dispatch.{hasStep}
-use Rattle.model.specs.Memory.{Memory, partyAt, viewOf}
-use Rattle.model.specs.Book.{Book, Entered, isIn, changedAt, noteAtSix, notedIfFind, noteStep, noteFor, agreesWith, afterReply}
+use Rattle.model.specs.Memory.{Memory, viewOf}
+use Rattle.model.specs.Book.{Book, Entered, isIn, changedAt, noteAtSix, notedIfFind, noteStep, noteFor}
 use Rattle.model.proofs.Laws.Lists.{lt-ltb, le-leb, Told, holds, fails, tell, Cmp, same, diff, cmp, eqb-same, eqb-diff, eqb-true}
 use Rattle.model.proofs.Laws.Pages.{length-pageOf}
 use Rattle.model.proofs.Laws.Structure.{ChainIs}
-use Rattle.model.proofs.Invariant.Ghost.{Extent, nobody, inChain, oldOf, size, localLevel}
 use Rattle.model.proofs.Laws.Filling.{overflow-linked, chain-level, chain-link, chain-entries, chain-sound}
 use Rattle.model.proofs.Laws.Reading.{held-overflow}
-use Rattle.model.proofs.Invariant.Owners.{no-repeats, own-of-member, owns-nothing, kinds-apart}
+use Rattle.model.proofs.Invariant.Ghost.{Extent, inChain, size, localLevel}
+use Rattle.model.proofs.Invariant.Owners.{no-repeats, own-of-member}
 use Rattle.model.proofs.Invariant.Claims.{claims}
 use Rattle.model.proofs.Invariant.LockMoves.{locks-stay}
-use Rattle.model.proofs.Invariant.Statement.{restructures, uses, Scene, Early, Heads, Walking, in-chain, Busy, PartyOk, working, Inv, sceneOf}
+use Rattle.model.proofs.Invariant.Statement.{restructures, Scene, Early, Heads, Walking, in-chain, Busy, PartyOk, working}
 use Rattle.model.proofs.Invariant.Extents.{next-heads, home-is, local-most}
-use Rattle.model.proofs.Effects.Kept.{Kept, assemble}
+use Rattle.model.proofs.Invariant.Facts.{no-pages-held}
+use Rattle.model.proofs.Invariant.Turn.{Turn, has-step, owns-no-old, row-long, me, uses-none}
+use Rattle.model.proofs.Effects.Kept.{Kept, moved-kept}
 use Rattle.model.proofs.Effects.ScratchPage.{scratch-parts, copied-walks}
-use Rattle.model.proofs.Invariant.Facts.{At, facts-at, no-pages-held}
-use Rattle.model.proofs.Effects.Moves.{restructures-at, uses-none, has-at, extents-rest}
+use Rattle.model.proofs.Effects.Moves.{extents-rest, same-file}
 
 -- ---- Where a chase ends
 
@@ -107,88 +108,70 @@ noted-six b q e h = go (e .operation) refl
 
 -- ---- 6: copy the primary page to the scratch page; chase
 
-module _ (m : Memory) (b : Book) (i : Inv m b) (q : ℕ) (in-row : q < m .root .parties) (is-six : partyAt (m .parties) q .step ≡ 6) where
-  abbrev me : Party
-  me = partyAt (m .parties) q
-
-  abbrev before : Scene
-  before = sceneOf m (i .ghost) b
-
-  at-six : At 6 before q me
-  at-six = facts-at 5 before q me is-six (i .parties-ok q in-row)
-
-  abbrev heads : Heads (m .root .originals) (i .ghost .live) (me .chain) (me .lev) (me .key)
-  heads = at-six .facts .1
-
-  row-long : q < length (m .parties)
-  row-long = omega (arith, i .parties-many)
+module _ {m : Memory} {b : Book} {q : ℕ} (t : Turn m b q 6) where
+  abbrev heads : Heads (m .root .originals) (t .inv .ghost .live) (me t .chain) (me t .lev) (me t .key)
+  heads = t .facts .1
 
   -- ---- The chain, and where the chase ends
 
   abbrev top : ℕ
-  top = localLevel (m .root .originals) (i .ghost .live) (me .chain)
+  top = localLevel (m .root .originals) (t .inv .ghost .live) (me t .chain)
 
   abbrev page : List ℕ
-  page = pageOf (m .pages) (primaryPage (me .chain))
+  page = pageOf (m .pages) (primaryPage (me t .chain))
 
   abbrev over : List ℕ
-  over = i .ghost .held (inChain (me .chain))
+  over = t .inv .ghost .held (inChain (me t .chain))
 
   abbrev end : Chase
   end = chaseOf (viewOf m q)
 
-  chain-is : ChainIs (m .root .capacity) (m .pages) (me .chain) top (i .ghost .records (me .chain)) over
-  chain-is = i .pages-ok .chain (me .chain) (heads .inside)
+  chain-is : ChainIs (m .root .capacity) (m .pages) (me t .chain) top (t .inv .ghost .records (me t .chain)) over
+  chain-is = t .inv .pages-ok .chain (me t .chain) (heads .inside)
 
   page-level : levelOf page ≡ top
-  page-level = chain-level (m .root .capacity) (m .pages) (me .chain) top (i .ghost .records (me .chain)) over chain-is
+  page-level = chain-level (m .root .capacity) (m .pages) (me t .chain) top (t .inv .ghost .records (me t .chain)) over chain-is
 
   page-long : length page ≡ pageWords
-  page-long = length-pageOf (record { fits = omega (arith, i .pages-many, at-six .busy .chain-fits) })
+  page-long = length-pageOf (record { fits = omega (arith, t .inv .pages-many, t .busy .chain-fits) })
 
-  chased : Chased (m .root .originals) (me .key) (me .chain) top end
+  chased : Chased (m .root .originals) (me t .key) (me t .chain) top end
   unfolding chaseOf
-  chased = chase-ends (m .root .originals) (me .key) (me .chain) (levelOf page - me .lev) (me .lev) top (omega (arith, page-level, heads .reach)) (heads .there)
+  chased = chase-ends (m .root .originals) (me t .key) (me t .chain) (levelOf page - me t .lev) (me t .lev) top (omega (arith, page-level, heads .reach)) (heads .there)
 
-  end-heads : Heads (m .root .originals) (i .ghost .live) (end .chain) (end .lev) (me .key)
-  end-heads = chased-heads (m .root .originals) (i .ghost .live) (me .key) (me .chain) end (i .limits .some-original) (heads .inside) chased
+  end-heads : Heads (m .root .originals) (t .inv .ghost .live) (end .chain) (end .lev) (me t .key)
+  end-heads = chased-heads (m .root .originals) (t .inv .ghost .live) (me t .key) (me t .chain) end (t .inv .limits .some-original) (heads .inside) chased
 
   -- ---- No test fails
 
   page-sound : pageSound (m .root) page ≡ true
   page-sound =
-      chain-sound (m .root) (m .pages) (me .chain) top (i .ghost .records (me .chain)) over chain-is (held-overflow (m .root) (i .pages-ok .owned) (inChain (me .chain))) (local-most i (me .chain))
+      chain-sound (m .root) (m .pages) (me t .chain) top (t .inv .ghost .records (me t .chain)) over chain-is (held-overflow (m .root) (t .inv .pages-ok .owned) (inChain (me t .chain))) (local-most (t .inv) (me t .chain))
 
-  reaches : leb (me .lev) (levelOf page) ≡ true
-  reaches = le-leb (me .lev) (levelOf page) (omega (arith, page-level, heads .reach))
+  reaches : leb (me t .lev) (levelOf page) ≡ true
+  reaches = le-leb (me t .lev) (levelOf page) (omega (arith, page-level, heads .reach))
 
   end-fits : end .chain < m .root .primaries
-  end-fits = omega (arith, end-heads .inside, i .extents-ok .live-fits)
+  end-fits = omega (arith, end-heads .inside, t .inv .extents-ok .live-fits)
 
   -- ---- The invariant afterwards, for whatever record the party has then
 
-  noted : NotedSix b (noteStep b q (at-six .entered) 6) q (at-six .entered)
-  noted = noted-six b q (at-six .entered) (at-six .busy .entry)
+  noted : NotedSix b (noteStep b q (t .entered) 6) q (t .entered)
+  noted = noted-six b q (t .entered) (t .busy .entry)
 
   abbrev book-then : Book
-  book-then = noteStep b q (at-six .entered) 6
+  book-then = noteStep b q (t .entered) 6
 
-  book-is : noteFor b q (b .entries q) (me .step) ≡ book-then
+  book-is : noteFor b q (b .entries q) (me t .step) ≡ book-then
   unfolding noteFor
-  book-is = rw (at-six .busy .entry) (ap (noteStep b q (at-six .entered)) is-six)
-
-  stays : (p : Party) (x : ℕ) → i .ghost .own x ≡ oldOf q → p .chain ≡ me .chain
-  stays p x o = absurd (owns-nothing (i .pages-ok .owned) (oldOf q) x (kinds-apart (oldOf q) nobody refl) (at-six .facts .0 .no-pages .nothing-old .no-old) o)
-
-  frees : (p : Party) (d : ℕ) → uses p d ≡ false → uses me d ≡ false
-  frees p d _ = uses-none me 6 is-six refl d
+  book-is = rw (t .busy .entry) (ap (noteStep b q (t .entered)) (t .is-at))
 
   abbrev scene-then : Party → Scene
   scene-then p = record {
     root = m .root;
     parties = set (m .parties) q p;
     pages = withPage (m .pages) (scratchPage (m .root) q) page;
-    ghost = i .ghost;
+    ghost = t .inv .ghost;
     entries = book-then .entries;
   }
 
@@ -196,37 +179,35 @@ module _ (m : Memory) (b : Book) (i : Inv m b) (q : ℕ) (in-row : q < m .root .
   abbrev Leads : Party → Type 0
   Leads p = Kept m b q (moved (withParty p (withScratch page (viewOf m q))))
 
-  goes-on : (p : Party) → claims (m .root) p ≡ claims (m .root) me → restructures p ≡ false → PartyOk (scene-then p) q p → Leads p
-  unfolding refusalNumber agreesWith afterReply
-  goes-on p claims= rests self = record {
-    allowed = refl;
-    right = refl;
-    inv =
-        rw book-is
-        (assemble m b i q in-row (m .root) (m .locks) _ p book-then (i .ghost)
-        (scratch-parts m b i q in-row page page-long p book-then (noted .others=) (noted .contents=) (stays p) (frees p) (m .locks)
-        (extents-rest (m .root) (m .parties) (i .ghost) q p row-long (restructures-at me 6 is-six) rests (i .extents-ok))
-        (locks-stay (m .root) (m .parties) q p row-long claims= (i .locks-ok)) self));
-  }
+  goes-on : (p : Party) → claims (m .root) p ≡ claims (m .root) (me t) → restructures p ≡ false → PartyOk (scene-then p) q p → Leads p
+  goes-on p claims= rests self =
+      moved-kept t book-is
+      (scratch-parts t page page-long p book-then (m .locks)
+      (record {
+        entries= = noted .others=;
+        contents= = noted .contents=;
+        stays = λ x o. absurd (owns-no-old t (t .facts .0 .no-pages) x o);
+        frees = λ d _. uses-none t refl d;
+        extents = extents-rest t (same-file t) p refl rests;
+        locks = locks-stay (m .root) (m .parties) q p (row-long t) claims= (t .inv .locks-ok);
+        self = self;
+      }))
 
   -- ---- Where 6 leads
 
-  has-step : hasStep (me .operation) 6 ≡ true
-  has-step = has-at before q me (at-six .entered) (at-six .busy) 6 is-six
+  early-then : (p : Party) → p .owed ≡ me t .owed → Early (scene-then p) q p
+  early-then p e = record { nothing-owed = e ∙ t .facts .0 .nothing-owed; no-pages = no-pages-held _ _ q refl (t .facts .0 .no-pages) }
 
-  early-then : (p : Party) → p .owed ≡ me .owed → Early (scene-then p) q p
-  early-then p e = record { nothing-owed = e ∙ at-six .facts .0 .nothing-owed; no-pages = no-pages-held _ _ q refl (at-six .facts .0 .no-pages) }
-
-  busy-then : (p : Party) (n c o : ℕ) → n ≤ 11 → hasStep (me .operation) n ≡ true → c < m .root .primaries → o < m .root .primaries
-      → Busy (scene-then p) q (atStep n (withLev (end .lev) (withChain c (withOther o me)))) (noted .after)
+  busy-then : (p : Party) (n c o : ℕ) → n ≤ 11 → hasStep (me t .operation) n ≡ true → c < m .root .primaries → o < m .root .primaries
+      → Busy (scene-then p) q (atStep n (withLev (end .lev) (withChain c (withOther o (me t))))) (noted .after)
   busy-then p n c o low has c-fits o-fits =
-      let k = at-six .busy in
+      let k = t .busy in
       record {
         entry = noted .entry;
         same-operation = ap operationNumber (noted .operation=) ∙ k .same-operation;
         same-key = noted .key= ∙ k .same-key;
         step-fits = has;
-        lev-fits = omega (arith, end-heads .reach, local-most i (end .chain));
+        lev-fits = omega (arith, end-heads .reach, local-most (t .inv) (end .chain));
         owed-fits = k .owed-fits;
         answer-fits = k .answer-fits;
         answer-set = λ h. absurd (omega arith);
@@ -235,13 +216,13 @@ module _ (m : Memory) (b : Book) (i : Inv m b) (q : ℕ) (in-row : q < m .root .
       }
 
   -- To 7, on the way to another chain.
-  leaves : (j : ℕ) → end .lev ≡ j + 1 → hash (m .root .originals) j (me .key) ≡ me .chain → end .chain ≢ me .chain → end .lev ≤ top
-      → Leads (chasing end me)
+  leaves : (j : ℕ) → end .lev ≡ j + 1 → hash (m .root .originals) j (me t .key) ≡ me t .chain → end .chain ≢ me t .chain → end .lev ≤ top
+      → Leads (chasing end (me t))
   unfolding chasing claims modeOf restructures hasStep
   leaves j l h n r =
-      let p = chasing end me in
-      goes-on p (rw is-six refl) refl
-      (working (noted .after) (busy-then p 7 (end .chain) (me .chain) (omega arith) has-step end-fits (at-six .busy .chain-fits)) (
+      let p = chasing end (me t) in
+      goes-on p (rw (t .is-at) refl) refl
+      (working (noted .after) (busy-then p 7 (end .chain) (me t .chain) (omega arith) (has-step t) end-fits (t .busy .chain-fits)) (
         early-then p refl,
         record {
           inside = heads .inside;
@@ -255,62 +236,68 @@ module _ (m : Memory) (b : Book) (i : Inv m b) (q : ℕ) (in-row : q < m .root .
       ))
 
   -- Or the chase stays on the chain: it is the key's home.
-  module _ (lev-is : end .lev ≡ top) (there : hash (m .root .originals) top (me .key) ≡ me .chain) where
+  module _ (lev-is : end .lev ≡ top) (there : hash (m .root .originals) top (me t .key) ≡ me t .chain) where
     abbrev home : ℕ → Party
-    home n = atStep n (withLev (end .lev) me)
+    home n = atStep n (withLev (end .lev) (me t))
 
-    home-heads : Heads (m .root .originals) (i .ghost .live) (me .chain) (end .lev) (me .key)
-    home-heads = record { inside = heads .inside; there = ap (λ (l : ℕ). hash (m .root .originals) l (me .key)) lev-is ∙ there; reach = omega arith }
+    home-heads : Heads (m .root .originals) (t .inv .ghost .live) (me t .chain) (end .lev) (me t .key)
+    home-heads = record { inside = heads .inside; there = ap (λ (l : ℕ). hash (m .root .originals) l (me t .key)) lev-is ∙ there; reach = omega arith }
 
-    busy-home : (p : Party) (n : ℕ) → n ≤ 11 → hasStep (me .operation) n ≡ true → Busy (scene-then p) q (home n) (noted .after)
-    busy-home p n low has = busy-then p n (me .chain) (me .other) low has (at-six .busy .chain-fits) (at-six .busy .other-fits)
+    busy-home : (p : Party) (n : ℕ) → n ≤ 11 → hasStep (me t .operation) n ≡ true → Busy (scene-then p) q (home n) (noted .after)
+    busy-home p n low has = busy-then p n (me t .chain) (me t .other) low has (t .busy .chain-fits) (t .busy .other-fits)
 
     -- To 10, for a change.
-    changes : eqb (me .operation) 1 ≡ false → Leads (home 10)
+    changes : eqb (me t .operation) 1 ≡ false → Leads (home 10)
     unfolding claims modeOf restructures hasStep
-    changes t =
-        goes-on (home 10) (rw is-six refl) refl
-        (working (noted .after) (busy-home (home 10) 10 (omega arith) (rw t (rw t at has-step))) (early-then (home 10) refl, record { heads = home-heads; exact = lev-is }))
+    changes o =
+        goes-on (home 10) (rw (t .is-at) refl) refl
+        (working (noted .after) (busy-home (home 10) 10 (omega arith) (rw o (rw o at (has-step t)))) (early-then (home 10) refl, record { heads = home-heads; exact = lev-is }))
 
     -- To 9, for a find.
-    is-in : isIn (b .contents (at-six .entered .key)) ≡ hasKey (me .key) (entriesOf page ++ entriesOn (m .pages) over)
+    is-in : isIn (b .contents (t .entered .key)) ≡ hasKey (me t .key) (entriesOf page ++ entriesOn (m .pages) over)
     unfolding entriesOn
     is-in =
-        ap (λ (k : ℕ). isIn (b .contents k)) (at-six .busy .same-key) ∙ i .book-ok .same (me .key)
-        ∙ ap (λ (c : ℕ). hasKey (me .key) (i .ghost .records c))
-        (home-is (m .root .originals) (i .ghost .live) (me .chain) (end .lev) (me .key) (i .limits .some-original) (omega (arith, i .extents-ok .live-next)) home-heads lev-is)
-        ∙ ap (hasKey (me .key)) (sym (chain-entries (m .root .capacity) (m .pages) (me .chain) top (i .ghost .records (me .chain)) over chain-is))
+        ap (λ (k : ℕ). isIn (b .contents k)) (t .busy .same-key) ∙ t .inv .book-ok .same (me t .key)
+        ∙ ap (λ (c : ℕ). hasKey (me t .key) (t .inv .ghost .records c))
+        (home-is (m .root .originals) (t .inv .ghost .live) (me t .chain) (end .lev) (me t .key) (t .inv .limits .some-original) (omega (arith, t .inv .extents-ok .live-next)) home-heads lev-is)
+        ∙ ap (hasKey (me t .key)) (sym (chain-entries (m .root .capacity) (m .pages) (me t .chain) top (t .inv .ghost .records (me t .chain)) over chain-is))
 
-    walking : me .operation ≡ 1 → Walking (scene-then (home 9)) q (home 9) (noted .after)
+    walking : me t .operation ≡ 1 → Walking (scene-then (home 9)) q (home 9) (noted .after)
     walking o =
-        copied-walks m b i q in-row page page-long (home 9) book-then (noted .others=) (noted .contents=) (stays (home 9)) (frees (home 9)) (noted .after) over page-sound
-        (chain-link (m .root .capacity) (m .pages) (me .chain) top (i .ghost .records (me .chain)) over chain-is)
-        (overflow-linked (m .root) (m .pages) over (drop (m .root .capacity) (i .ghost .records (me .chain))) (held-overflow (m .root) (i .pages-ok .owned) (inChain (me .chain))) (chain-is .overflow))
-        (no-repeats (i .pages-ok .owned) (inChain (me .chain))) (λ x h. in-chain (own-of-member (i .pages-ok .owned) (inChain (me .chain)) x h))
-        (noted .found (at-six .busy .same-operation ∙ o) ∙ ap (λ (t : Bool). some (cond t OperationAnswer.Found OperationAnswer.Absent)) is-in) (at-six .facts .0 .no-pages)
+        copied-walks t page page-long (home 9) book-then (noted .after) over
+        (record {
+          sound = page-sound;
+          link = chain-link (m .root .capacity) (m .pages) (me t .chain) top (t .inv .ghost .records (me t .chain)) over chain-is;
+          linked = overflow-linked (m .root) (m .pages) over (drop (m .root .capacity) (t .inv .ghost .records (me t .chain)))
+              (held-overflow (m .root) (t .inv .pages-ok .owned) (inChain (me t .chain))) (chain-is .overflow);
+          once = no-repeats (t .inv .pages-ok .owned) (inChain (me t .chain));
+          protected = λ x h. in-chain (own-of-member (t .inv .pages-ok .owned) (inChain (me t .chain)) x h);
+          note-is = noted .found (t .busy .same-operation ∙ o) ∙ ap (λ (there : Bool). some (cond there OperationAnswer.Found OperationAnswer.Absent)) is-in;
+          no-pages = t .facts .0 .no-pages;
+        })
 
-    finds : me .operation ≡ 1 → Leads (home 9)
+    finds : me t .operation ≡ 1 → Leads (home 9)
     unfolding claims modeOf restructures hasStep
     finds o =
-        goes-on (home 9) (rw is-six refl) refl
+        goes-on (home 9) (rw (t .is-at) refl) refl
         (working (noted .after) (busy-home (home 9) 9 (omega arith) (rw o refl)) (walking o))
 
   abbrev next : Party
-  next = cond (eqb (end .chain) (me .chain)) (arrived end me) (chasing end me)
+  next = cond (eqb (end .chain) (me t .chain)) (arrived end (me t)) (chasing end (me t))
 
   moves : Leads next
   unfolding arrived
   moves = go chased
     where
-      arrives : end .lev ≡ top → end .chain ≡ me .chain → hash (m .root .originals) top (me .key) ≡ me .chain → Told (eqb (me .operation) 1) → Leads next
-      arrives l s h (holds o) = subst Leads (rw (eqb-same (end .chain) (me .chain) s, o) refl) (finds l h (eqb-true (me .operation) 1 o))
-      arrives l s h (fails o) = subst Leads (rw (eqb-same (end .chain) (me .chain) s, o) refl) (changes l h o)
+      arrives : end .lev ≡ top → end .chain ≡ me t .chain → hash (m .root .originals) top (me t .key) ≡ me t .chain → Told (eqb (me t .operation) 1) → Leads next
+      arrives l s h (holds o) = subst Leads (rw (eqb-same (end .chain) (me t .chain) s, o) refl) (finds l h (eqb-true (me t .operation) 1 o))
+      arrives l s h (fails o) = subst Leads (rw (eqb-same (end .chain) (me t .chain) s, o) refl) (changes l h o)
 
-      go : Chased (m .root .originals) (me .key) (me .chain) top end → Leads next
-      go (stayed l s h) = arrives l s h (tell (eqb (me .operation) 1))
+      go : Chased (m .root .originals) (me t .key) (me t .chain) top end → Leads next
+      go (stayed l s h) = arrives l s h (tell (eqb (me t .operation) 1))
       go (left j l s h d r) =
-          let n : end .chain ≢ me .chain = λ e. d (sym s ∙ e) in
-          subst Leads (rw (eqb-diff (end .chain) (me .chain) n) refl) (leaves j l h n (omega arith))
+          let n : end .chain ≢ me t .chain = λ e. d (sym s ∙ e) in
+          subst Leads (rw (eqb-diff (end .chain) (me t .chain) n) refl) (leaves j l h n (omega arith))
 
   -- No test fails, so the page is copied and the chase decides.
   pub step06-moves : step06 (viewOf m q) ≡ moved (withParty next (withScratch page (viewOf m q)))
@@ -318,10 +305,10 @@ module _ (m : Memory) (b : Book) (i : Inv m b) (q : ℕ) (in-row : q < m .root .
   step06-moves = rw (page-sound, reaches, lt-ltb (end .chain) (m .root .primaries) end-fits) refl
 
   -- Where the chase stays, the chain is the key's home.
-  pub stayed-home : end .chain ≡ me .chain → hash (m .root .originals) top (me .key) ≡ me .chain
+  pub stayed-home : end .chain ≡ me t .chain → hash (m .root .originals) top (me t .key) ≡ me t .chain
   stayed-home e = go chased
     where
-      go : Chased (m .root .originals) (me .key) (me .chain) top end → hash (m .root .originals) top (me .key) ≡ me .chain
+      go : Chased (m .root .originals) (me t .key) (me t .chain) top end → hash (m .root .originals) top (me t .key) ≡ me t .chain
       go (stayed l s h) = h
       go (left j l s h d r) = absurd (d (sym s ∙ e))
 

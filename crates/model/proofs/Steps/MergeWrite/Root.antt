@@ -1,12 +1,12 @@
 -- Step 27 keeps the invariant: the root moves back by one merge, before the pages do, and its lock becomes selective.
 -- Main statement: step27-kept.
-use mathlib.Core.Path.{_≡_, refl, sym, ap, _∙_, subst}
+use mathlib.Core.Path.{_≡_, refl, sym, _∙_, subst}
 use mathlib.Core.Logic.{_≢_}
 use mathlib.Core.Bool.{true, false, cond, not, _&&_, _||_, and-true, and-false, and-not-self, or-false, false≢true}
 use mathlib.Core.List.{List, [], _∷_}
 use Prim.Native.Nat.{ℕ, _+_, _<_}
 use native.Mathlib.Omega.{arith}
-use lib.ListN.{length, getD, set}
+use lib.ListN.{getD, set}
 use lib.Dec.{eqb, leb}
 use Rattle.model.specs.declared.Root.{Root}
 use Rattle.model.specs.declared.Party.{Party}
@@ -14,31 +14,30 @@ use Rattle.model.specs.declared.Mode.{Mode}
 use Rattle.model.specs.declared.Mode.the-variants.{Read, Selective, Exclusive}
 use Rattle.model.specs.Sizes.{lockWords, within}
 use Rattle.model.specs.Records.{atStep, withNext, withLevel}
-use Rattle.model.specs.Answers.{refusalNumber}
 use Rattle.model.specs.LockWords.{Claim, rootWord, turnedSelective}
 use Rattle.model.specs.Addresses.{mergePartner, mergeLevel}
 use Rattle.model.specs.LockRequests.{isHeld, chainExclusive, rootSelective, rootExclusive, otherExclusive}
 use Rattle.model.specs.Memory.{Memory, partyAt, viewOf}
-use Rattle.model.specs.Book.{Book, agreesWith, afterReply}
+use Rattle.model.specs.Book.{Book}
 use Rattle.model.specs.Holds.{sameMode}
 use Rattle.model.specs.Steps.MergeLocks.{mergeLocks}
 use Rattle.model.specs.Steps.MergeWrite.{rootMovedBack, step27}
 use Rattle.model.specs.Steps.Dispatch.{hasStep}
 use Rattle.model.proofs.Laws.Lists.{Cmp, same, diff, cmp, and-both, left-or, right-or, leb-true, eqb-same, eqb-diff}
 use Rattle.model.proofs.Laws.Retreat.{Retreat, merge-retreats}
-use Rattle.model.proofs.Invariant.Ghost.{owner, extent, rootExtent, size, Ghost}
 use Rattle.model.proofs.Laws.Structure.{same-on}
+use Rattle.model.proofs.Invariant.Ghost.{owner, extent, rootExtent, size, Ghost}
 use Rattle.model.proofs.Invariant.Claims.{claims, claimTable, noLock, isClaimed, claimed, LocksOk}
 use Rattle.model.proofs.Invariant.LockMoves.{exclusive-alone, locks-turned, locks-move, locks-root}
-use Rattle.model.proofs.Invariant.Statement.{restructures, liveFor, lowFor, ExtentsOk, PagesOk, Scene, Joined, MovedBack, Busy, Inv, sceneOf, working}
+use Rattle.model.proofs.Invariant.Statement.{restructures, liveFor, lowFor, ExtentsOk, PagesOk, Scene, Joined, MovedBack, Busy, working}
 use Rattle.model.proofs.Invariant.Frame.{SameLimits, Grows, Keeps, claims-at, named}
-use Rattle.model.proofs.Effects.Kept.{Kept, assemble, extents-by-one}
-use Rattle.model.proofs.Invariant.Facts.{At, facts-at, still-noted}
+use Rattle.model.proofs.Invariant.Restructurer.{allBelow, all-below, others-rest}
+use Rattle.model.proofs.Invariant.Turn.{Turn, before, has-step, its-claims, live-now, me, note-still, party-small, restructures-now, row-long, uses-none}
+use Rattle.model.proofs.Effects.Kept.{Kept, extents-by-one, Parts, moved-kept}
 use Rattle.model.proofs.Effects.OwnRecord.{protected-row, pages-row}
 use Rattle.model.proofs.Effects.Requests.{claim-more}
 use Rattle.model.proofs.Effects.Releases.{lock-held}
-use Rattle.model.proofs.Invariant.Restructurer.{allBelow, all-below, others-rest}
-use Rattle.model.proofs.Effects.Moves.{busy-on, at-its-step, uses-none, has-at}
+use Rattle.model.proofs.Effects.Moves.{busy-onto}
 
 -- ---- A party at 3, 4 or 5 reads the root
 
@@ -70,43 +69,27 @@ turns p w o = rw (claim-more rootExclusive rest w o, claim-more rootSelective re
     go (same e) = rw (e, not-root p o, and-not-self (sameMode o Exclusive)) refl
     go (diff n) = rw (eqb-diff w rootWord n, or-false (isClaimed rest w o), and-true (isClaimed rest w o)) (or-false (isClaimed rest w o))
 
-module _ (m : Memory) (b : Book) (i : Inv m b) (q : ℕ) (in-row : q < m .root .parties) (is-27 : partyAt (m .parties) q .step ≡ 27) where
-  abbrev me : Party
-  me = partyAt (m .parties) q
-
-  abbrev before : Scene
-  before = sceneOf m (i .ghost) b
-
-  row-long : q < length (m .parties)
-  row-long = omega (arith, i .parties-many)
-
-  at-27 : At 27 before q me
-  at-27 = facts-at 26 before q me is-27 (i .parties-ok q in-row)
-
-  restructuring : restructures me ≡ true
-  unfolding restructures
-  restructuring = rw is-27 refl
-
-  holds-root : isClaimed (claims (m .root) me) rootWord Exclusive ≡ true
-  holds-root = rw (claims-at (m .root) me 27 is-27) (named (chainExclusive me ∷ (otherExclusive me ∷ [])) rootWord Exclusive)
+module _ {m : Memory} {b : Book} {q : ℕ} (t : Turn m b q 27) where
+  holds-root : isClaimed (claims (m .root) (me t)) rootWord Exclusive ≡ true
+  holds-root = rw (its-claims t) (named (chainExclusive (me t) ∷ (otherExclusive (me t) ∷ [])) rootWord Exclusive)
 
   -- Nobody else reads the root.
   no-reader : (j : ℕ) → j ≢ q → isClaimed (claims (m .root) (partyAt (m .parties) j)) rootWord Read ≡ true → ⊥
-  no-reader j n h = n (exclusive-alone (i .locks-ok .each rootWord (omega arith)) q j Read holds-root h .0)
+  no-reader j n h = n (exclusive-alone (t .inv .locks-ok .each rootWord (omega arith)) q j Read holds-root h .0)
 
   -- ---- What is left
 
   abbrev root-then : Root
-  root-then = withNext (me .chain) (withLevel (mergeLevel (m .root .level) (m .root .next)) (m .root))
+  root-then = withNext (me t .chain) (withLevel (mergeLevel (m .root .level) (m .root .next)) (m .root))
 
   abbrev locks-then : List ℕ
   locks-then = set (m .locks) rootWord (turnedSelective (getD (m .locks) rootWord 0) q)
 
   abbrev ghost-then : Ghost
-  ghost-then = record { own = i .ghost .own; held = i .ghost .held; records = i .ghost .records; live = i .ghost .live; low = rootExtent root-then }
+  ghost-then = record { own = t .inv .ghost .own; held = t .inv .ghost .held; records = t .inv .ghost .records; live = t .inv .ghost .live; low = rootExtent root-then }
 
   abbrev row-then : List Party
-  row-then = set (m .parties) q (atStep 28 me)
+  row-then = set (m .parties) q (atStep 28 (me t))
 
   abbrev then-scene : Scene
   then-scene = record { root = root-then; parties = row-then; pages = m .pages; ghost = ghost-then; entries = b .entries }
@@ -118,34 +101,41 @@ module _ (m : Memory) (b : Book) (i : Inv m b) (q : ℕ) (in-row : q < m .root .
   retreat : Retreat (m .root .originals) (rootExtent (m .root)) (rootExtent root-then)
   retreat =
       let r = m .root in
-      let chains = at-27 .facts .1 in
+      let chains = t .facts .1 in
       subst (λ (x : ℕ). Retreat (r .originals) (rootExtent r) (extent (mergeLevel (r .level) (r .next)) x)) (sym (chains .target))
-      (merge-retreats (r .originals) (r .level) (r .next) (i .limits .some-original) (i .extents-ok .root-next) (chains .goes-on))
+      (merge-retreats (r .originals) (r .level) (r .next) (t .inv .limits .some-original) (t .inv .extents-ok .root-next) (chains .goes-on))
 
   extents-then : ExtentsOk root-then row-then ghost-then
   unfolding restructures liveFor lowFor
   extents-then =
-      let ok = i .extents-ok in
-      let was : i .ghost .live ≡ rootExtent (m .root) = ok .live-by q restructuring ∙ ap (liveFor (m .root)) (at-its-step me 27 is-27) in
-      extents-by-one root-then (m .parties) ghost-then q (atStep 28 me) row-long (others-rest m b i q restructuring) refl (was ∙ sym (retreat .advances)) refl (ok .live-next) (ok .live-fits)
-      (retreat .next-fits) (omega (arith, retreat .one-less, ok .root-fits))
+      let ok = t .inv .extents-ok in
+      extents-by-one t refl
+      (record {
+        still = refl;
+        live = live-now t refl ∙ sym (retreat .advances);
+        low = refl;
+        live-next = ok .live-next;
+        live-fits = ok .live-fits;
+        root-next = retreat .next-fits;
+        root-fits = omega (arith, retreat .one-less, ok .root-fits);
+      })
 
   locks-ok : LocksOk (lockWords root-then) locks-then (claimed root-then row-then)
   locks-ok =
       locks-root (m .root) root-then row-then
-      (locks-move (m .root) (m .parties) q (atStep 28 me) row-long
-      (locks-turned (i .locks-ok) rootWord (omega arith) q holds-root (omega (arith, i .limits .parties-fit))) (λ w k o. go w k o (cmp k q)))
+      (locks-move (m .root) (m .parties) q (atStep 28 (me t)) (row-long t)
+      (locks-turned (t .inv .locks-ok) rootWord (omega arith) q holds-root (party-small t)) (λ w k o. go w k o (cmp k q)))
     where
       go : (w k : ℕ) (o : Mode) → Cmp k q
           → ((claimed (m .root) (m .parties) w k o && not (eqb w rootWord && eqb k q && sameMode o Exclusive)) || (eqb w rootWord && eqb k q && sameMode o Selective))
-          ≡ cond (eqb k q) (isClaimed (claims (m .root) (atStep 28 me)) w o) (claimed (m .root) (m .parties) w k o)
+          ≡ cond (eqb k q) (isClaimed (claims (m .root) (atStep 28 (me t))) w o) (claimed (m .root) (m .parties) w k o)
       go w k o (same e) =
-          rw (e, eqb-same q q refl, and-true (eqb w rootWord), claims-at (m .root) me 27 is-27, claims-at (m .root) (atStep 28 me) 28 refl) (turns me w o)
+          rw (e, eqb-same q q refl, and-true (eqb w rootWord), its-claims t, claims-at (m .root) (atStep 28 (me t)) 28 refl) (turns (me t) w o)
       go w k o (diff n) = rw (eqb-diff k q n, and-false (eqb w rootWord), or-false (claimed (m .root) (m .parties) w k o && true)) (and-true (claimed (m .root) (m .parties) w k o))
 
   pages-then : PagesOk root-then row-then (m .pages) ghost-then
   pages-then =
-      let ok = pages-row m b i q in-row (atStep 28 me) b (λ j n. refl) refl (λ x e. refl) (λ d e. uses-none me 27 is-27 refl d) in
+      let ok = pages-row m b (t .inv) q (row-long t) (atStep 28 (me t)) (λ d _. uses-none t refl d) in
       record {
         owned = ok .owned;
         kinds = ok .kinds;
@@ -162,11 +152,11 @@ module _ (m : Memory) (b : Book) (i : Inv m b) (q : ℕ) (in-row : q < m .root .
   -- ---- Others
 
   -- Nobody else restructures, and nobody is at 3, 4 or 5.
-  grows : (j : ℕ) → j ≢ q → Grows before then-scene (partyAt (m .parties) j)
+  grows : (j : ℕ) → j ≢ q → Grows (before t) then-scene (partyAt (m .parties) j)
   grows j n =
       let p = partyAt (m .parties) j in
       record {
-        same-for-restructurer = λ h. absurd (false≢true (sym (others-rest m b i q restructuring j n) ∙ h));
+        same-for-restructurer = λ h. absurd (false≢true (sym (others-rest m b (t .inv) q (restructures-now t) j n) ∙ h));
         level-rises = λ h. absurd (no-reader j n (reads-root (m .root) p (omega arith) (left-or (within 4 5 (p .step)) (eqb-same (p .step) 3 h))));
         low-grows = λ h. let l = leb-true (p .step) 5 (and-both (leb 4 (p .step)) (leb (p .step) 5) h .1) in
             absurd (no-reader j n (reads-root (m .root) p (omega arith) (right-or (eqb (p .step) 3) h)));
@@ -174,29 +164,27 @@ module _ (m : Memory) (b : Book) (i : Inv m b) (q : ℕ) (in-row : q < m .root .
         firm = λ c o h d l. refl;
       }
 
-  keeps : (j : ℕ) → j ≢ q → Keeps before then-scene j (partyAt (m .parties) j)
+  keeps : (j : ℕ) → j ≢ q → Keeps (before t) then-scene j (partyAt (m .parties) j)
   keeps j n = record {
     sizes = sizes-then;
     grows = grows j n;
     entry= = refl;
-    ours = λ k _ _. (refl, same-on (m .pages) (m .pages) (i .ghost .held (owner k j)) (λ x. refl));
+    ours = λ k _ _. (refl, same-on (m .pages) (m .pages) (t .inv .ghost .held (owner k j)) (λ x. refl));
     scratch= = refl;
     chain= = λ c o h d l. (refl, refl);
-    reading = λ x e h. (protected-row before then-scene q (atStep 28 me) refl refl row-long (λ y o. refl) (partyAt (m .parties) j .chain) x h, refl);
+    reading = λ x e h. (protected-row (before t) then-scene q (atStep 28 (me t)) refl refl (row-long t) (λ y o. refl) (partyAt (m .parties) j .chain) x h, refl);
     spare = λ u. refl;
   }
 
   -- ---- 27
 
-  busy-then : Busy then-scene q (atStep 28 me) (at-27 .entered)
+  busy-then : Busy then-scene q (atStep 28 (me t)) (t .entered)
   unfolding hasStep
-  busy-then =
-      let k = at-27 .busy in
-      busy-on before q me (at-27 .entered) k then-scene 28 refl refl (has-at before q me (at-27 .entered) k 27 is-27) (λ _. omega arith)
+  busy-then = busy-onto t 28 (has-step t) (omega arith) then-scene refl refl (me t .old)
 
-  joined-then : Joined then-scene q (atStep 28 me) (at-27 .entered)
+  joined-then : Joined then-scene q (atStep 28 (me t)) (t .entered)
   joined-then =
-      let h = at-27 .facts .0 in
+      let h = t .facts .0 in
       record {
         noted = h .noted;
         made = h .made;
@@ -206,32 +194,27 @@ module _ (m : Memory) (b : Book) (i : Inv m b) (q : ℕ) (in-row : q < m .root .
         nothing-old = record { no-old = h .nothing-old .no-old; no-partner = h .nothing-old .no-partner };
       }
 
-  moved-back : MovedBack then-scene (atStep 28 me)
+  moved-back : MovedBack then-scene (atStep 28 (me t))
   unfolding size mergePartner
   moved-back = record {
     target = refl;
-    partner = omega (arith, at-27 .facts .1 .partner, retreat .one-less);
-    room = omega (arith, retreat .one-less, i .extents-ok .root-fits);
+    partner = omega (arith, t .facts .1 .partner, retreat .one-less);
+    room = omega (arith, retreat .one-less, t .inv .extents-ok .root-fits);
   }
 
-  inv-then : Inv (record { root = root-then; parties = row-then; locks = locks-then; pages = m .pages }) b
-  inv-then = assemble m b i q in-row root-then locks-then (m .pages) (atStep 28 me) b ghost-then (record {
+  parts-then : Parts m b (t .inv) q root-then locks-then (m .pages) (atStep 28 (me t)) b ghost-then
+  parts-then = record {
     sizes = sizes-then;
     pages-many = refl;
     extents = extents-then;
     locks = locks-ok;
     pages = pages-then;
-    book = record { same = i .book-ok .same };
-    self = working (at-27 .entered) busy-then (joined-then, moved-back);
+    book = record { same = t .inv .book-ok .same };
+    self = working (t .entered) busy-then (joined-then, moved-back);
     others = keeps;
-  })
+  }
 
   pub step27-kept : Kept m b q (step27 (viewOf m q))
-  unfolding step27 isHeld rootMovedBack refusalNumber agreesWith afterReply
+  unfolding step27 isHeld rootMovedBack
   step27-kept =
-      rw (at-27 .facts .1 .goes-on, lock-held (m .root) (m .parties) (i .locks-ok) q rootExclusive (omega arith) holds-root)
-      (record {
-        allowed = refl;
-        right = refl;
-        inv = rw (still-noted b q (b .entries q) (me .step) (omega arith) (omega arith) (omega arith)) inv-then;
-      })
+      rw (t .facts .1 .goes-on, lock-held (m .root) (m .parties) (t .inv .locks-ok) q rootExclusive (omega arith) holds-root) (moved-kept t (note-still t refl) parts-then)

@@ -13,46 +13,40 @@ use Rattle.model.specs.declared.Mode.{Mode}
 use Rattle.model.specs.declared.Mode.the-variants.{Exclusive}
 use Rattle.model.specs.Sizes.{pageWords}
 use Rattle.model.specs.Records.{atStep}
-use Rattle.model.specs.Answers.{refusalNumber}
 use Rattle.model.specs.LockWords.{chainWord}
 use Rattle.model.specs.Addresses.{span, hash, addressOf}
 use Rattle.model.specs.Entries.{Entry, hasKey, ascending, joined}
 use Rattle.model.specs.Pages.{pageOf, withPage, levelOf, linkOf, scratchPage, primaryPage, linkToFirst, pageSound, zeroPage, withLocalLevel}
 use Rattle.model.specs.Filling.{primaryOf}
 use Rattle.model.specs.Memory.{Memory, partyAt, viewOf}
-use Rattle.model.specs.Book.{Book, Entered, changedAt, agreesWith, afterReply}
+use Rattle.model.specs.Book.{Book, Entered, changedAt}
 use Rattle.model.specs.LockRequests.{modeOf, chainExclusive, rootSelective, otherExclusive}
 use Rattle.model.specs.Steps.MergeWrite.{step28}
 use Rattle.model.specs.Steps.Dispatch.{hasStep}
 use Rattle.model.proofs.Laws.Lists.{Cmp, same, diff, cmp, or-either, eqb-same, eqb-diff}
-use Rattle.model.proofs.Invariant.Ghost.{owner, nobody, free, inChain, oldOf, partnerOf, builtBy, newBy, Extent, rootExtent, size, advance, localLevel, Ghost}
-use Rattle.model.proofs.Invariant.Owners.{kinds-apart, indices-apart}
-use Rattle.model.proofs.Invariant.Handing.{ownAlso, heldAlso, Also, beside-chain, beside-party, beside-kind, also-to, also-from, also-chain, also-old, also-built, also-other, owned-also, own-also-other, kinds-also}
 use Rattle.model.proofs.Laws.Pages.{length-withLocalLevel, withLocalLevel-filledPage}
 use Rattle.model.proofs.Laws.Structure.{ChainIs}
 use Rattle.model.proofs.Laws.Filling.{chain-link, chain-sound}
 use Rattle.model.proofs.Laws.Reading.{held-overflow}
+use Rattle.model.proofs.Laws.Joins.{has-joined, ascends-joined}
+use Rattle.model.proofs.Invariant.Ghost.{owner, nobody, free, inChain, oldOf, partnerOf, builtBy, newBy, Extent, rootExtent, size, advance, localLevel, Ghost}
+use Rattle.model.proofs.Invariant.Owners.{kinds-apart, indices-apart}
+use Rattle.model.proofs.Invariant.Handing.{ownAlso, heldAlso, Also, beside-chain, beside-party, beside-kind, also-to, also-from, also-chain, also-old, also-built, also-other, owned-also, own-also-other, kinds-also}
 use Rattle.model.proofs.Invariant.Extents.{size-is, local-most, local-rest, key-home, away-absent}
 use Rattle.model.proofs.Invariant.Advance.{advance-size, advance-other, advance-split, advance-made, hash-back, hash-back-made, split-hash, home-splits, home-other, home-split, home-made}
-use Rattle.model.proofs.Laws.Joins.{has-joined, ascends-joined}
 use Rattle.model.proofs.Invariant.Claims.{claims, isClaimed, claimed}
 use Rattle.model.proofs.Invariant.LockMoves.{locks-stay}
-use Rattle.model.proofs.Invariant.Statement.{restructures, liveFor, lowFor, ExtentsOk, uses, PagesOk, BookOk, Scene, Protected, in-chain, in-old, Building, Joined, MovedBack, Emptying, PartyOk, working, Inv, sceneOf}
+use Rattle.model.proofs.Invariant.Statement.{restructures, liveFor, lowFor, ExtentsOk, uses, PagesOk, BookOk, Scene, Protected, in-chain, in-old, Building, Joined, MovedBack, Emptying, PartyOk, working}
 use Rattle.model.proofs.Invariant.Frame.{StaysLive, Grows, Keeps, restructures-at, claims-at, named, later}
-use Rattle.model.proofs.Effects.Kept.{Kept, row-same, row-other, row-chain, extents-by-one, assemble}
+use Rattle.model.proofs.Invariant.Facts.{changed-here, changed-elsewhere}
+use Rattle.model.proofs.Invariant.Restructurer.{low-at, others-rest, using-restructures}
+use Rattle.model.proofs.Invariant.Turn.{Turn, before, has-step, its-claims, live-now, low-now, me, note-still, restructures-now, row-long, uses-none}
+use Rattle.model.proofs.Effects.Kept.{Kept, row-same, row-other, row-chain, extents-by-one, Parts, moved-kept}
 use Rattle.model.proofs.Effects.OwnRecord.{same-limits}
 use Rattle.model.proofs.Effects.PrimaryPage.{held-exclusively, length-scratch, built-sound, built-level, primary-off, primary-same, primary-long, owned-apart, written-here, written-beside, chain-linked, free-beside}
-use Rattle.model.proofs.Invariant.Facts.{At, facts-at, still-noted, changed-here, changed-elsewhere}
-use Rattle.model.proofs.Invariant.Restructurer.{low-at, others-rest, using-restructures}
-use Rattle.model.proofs.Effects.Moves.{uses-none}
+use Rattle.model.proofs.Effects.Moves.{busy-onto}
 
-module _ (m : Memory) (b : Book) (i : Inv m b) (q : ℕ) (in-row : q < m .root .parties) (is-28 : partyAt (m .parties) q .step ≡ 28) where
-  abbrev me : Party
-  me = partyAt (m .parties) q
-
-  abbrev before : Scene
-  before = sceneOf m (i .ghost) b
-
+module _ {m : Memory} {b : Book} {q : ℕ} (t : Turn m b q 28) where
   -- The target, and the partner, which leaves the file.
   abbrev here : ℕ
   here = partyAt (m .parties) q .chain
@@ -66,42 +60,36 @@ module _ (m : Memory) (b : Book) (i : Inv m b) (q : ℕ) (in-row : q < m .root .
   abbrev originals : ℕ
   originals = m .root .originals
 
-  row-long : q < length (m .parties)
-  row-long = omega (arith, i .parties-many)
-
-  at-28 : At 28 before q me
-  at-28 = facts-at 27 before q me is-28 (i .parties-ok q in-row)
-
   abbrev entered : Entered
-  entered = at-28 .entered
+  entered = t .entered
 
-  facts : Joined before q me entered
-  facts = at-28 .facts .0
+  facts : Joined (before t) q (me t) entered
+  facts = t .facts .0
 
-  chains : MovedBack before me
-  chains = at-28 .facts .1
+  chains : MovedBack (before t) (me t)
+  chains = t .facts .1
 
-  mine : restructures me ≡ true
-  mine = restructures-at me 28 is-28
+  mine : restructures (me t) ≡ true
+  mine = restructures-now t
 
   -- ---- How far the file extends: by the root, one split less than before
 
   abbrev live : Extent
-  live = i .ghost .live
+  live = t .inv .ghost .live
 
   abbrev back : Extent
   back = rootExtent (m .root)
 
   live-is : live ≡ advance originals back
   unfolding liveFor
-  live-is = i .extents-ok .live-by q mine ∙ (rw is-28 refl)
+  live-is = live-now t refl
 
-  low-is : i .ghost .low ≡ back
+  low-is : t .inv .ghost .low ≡ back
   unfolding lowFor
-  low-is = i .extents-ok .low-by q mine ∙ (rw is-28 refl)
+  low-is = low-now t refl
 
   inside : back .next < span originals (back .level)
-  inside = i .extents-ok .root-next
+  inside = t .inv .extents-ok .root-next
 
   here-is : here ≡ back .next
   here-is = chains .target
@@ -111,7 +99,7 @@ module _ (m : Memory) (b : Book) (i : Inv m b) (q : ℕ) (in-row : q < m .root .
   gone-is = chains .partner
 
   fits : here < m .root .primaries
-  fits = at-28 .busy .chain-fits
+  fits = t .busy .chain-fits
 
   longer : size originals live ≡ suc (size originals back)
   longer = ap (size originals) live-is ∙ advance-size originals back inside
@@ -149,7 +137,7 @@ module _ (m : Memory) (b : Book) (i : Inv m b) (q : ℕ) (in-row : q < m .root .
   -- ---- The page written
 
   abbrev both : List Entry
-  both = joined (i .ghost .records here) (i .ghost .records gone)
+  both = joined (t .inv .ghost .records here) (t .inv .ghost .records gone)
 
   abbrev lowered : List ℕ
   lowered = withLocalLevel (levelOf scratch - 1) scratch
@@ -157,32 +145,32 @@ module _ (m : Memory) (b : Book) (i : Inv m b) (q : ℕ) (in-row : q < m .root .
   abbrev pages-then : List ℕ
   pages-then = withPage (m .pages) (primaryPage here) lowered
 
-  built : Building before q (back .level + 1) both
-  built = subst (λ (l : ℕ). Building before q l both) local-here (facts .joins)
+  built : Building (before t) q (back .level + 1) both
+  built = subst (λ (l : ℕ). Building (before t) q l both) local-here (facts .joins)
 
   scratch-sound : pageSound (m .root) scratch ≡ true
-  scratch-sound = built-sound m b i q (back .level + 1) both built (omega (arith, local-here, local-most i here))
+  scratch-sound = built-sound m b (t .inv) q (back .level + 1) both built (omega (arith, local-here, local-most (t .inv) here))
 
   scratch-level : levelOf scratch ≡ back .level + 1
-  scratch-level = built-level m b i q (back .level + 1) both built
+  scratch-level = built-level m b (t .inv) q (back .level + 1) both built
 
   not-lowest : eqb (levelOf scratch) 0 ≡ false
   not-lowest = eqb-diff (levelOf scratch) 0 (omega (arith, scratch-level))
 
   whole : length lowered ≡ pageWords
-  whole = length-withLocalLevel (levelOf scratch - 1) scratch (length-scratch m b i q in-row)
+  whole = length-withLocalLevel (levelOf scratch - 1) scratch (length-scratch m b (t .inv) q (t .in-row))
 
-  lowered-is : lowered ≡ primaryOf (m .root .capacity) (back .level) both (i .ghost .held (builtBy q))
+  lowered-is : lowered ≡ primaryOf (m .root .capacity) (back .level) both (t .inv .ghost .held (builtBy q))
   unfolding primaryOf
   lowered-is =
       let down : levelOf scratch - 1 ≡ back .level = omega (arith, scratch-level) in
       ap (λ (l : ℕ). withLocalLevel l scratch) down ∙ ap (withLocalLevel (back .level)) (built .scratch-is) ∙ withLocalLevel-filledPage (back .level) (back .level + 1) _ _
 
   off : (x : ℕ) → x ≢ here → pageOf pages-then x ≡ pageOf (m .pages) x
-  off = primary-off m b i here fits lowered whole
+  off = primary-off m b (t .inv) here fits lowered whole
 
-  chain-here : ChainIs (m .root .capacity) pages-then here (back .level) both (i .ghost .held (builtBy q))
-  chain-here = written-here m b i here fits lowered whole (back .level) both (builtBy q) lowered-is (built .built)
+  chain-here : ChainIs (m .root .capacity) pages-then here (back .level) both (t .inv .ghost .held (builtBy q))
+  chain-here = written-here m b (t .inv) here fits lowered whole (back .level) both (builtBy q) lowered-is (built .built)
 
   -- ---- Ghost and record afterwards
 
@@ -195,9 +183,9 @@ module _ (m : Memory) (b : Book) (i : Inv m b) (q : ℕ) (in-row : q < m .root .
   -- The partner's records are no part of the file any more, and stay.
   abbrev ghost-then : Ghost
   ghost-then = record {
-    own = ownAlso (i .ghost .own) (i .ghost .held) here q (inChain gone) (partnerOf q);
-    held = heldAlso (i .ghost .held) here q (inChain gone) (partnerOf q);
-    records = changedAt (i .ghost .records) here both;
+    own = ownAlso (t .inv .ghost .own) (t .inv .ghost .held) here q (inChain gone) (partnerOf q);
+    held = heldAlso (t .inv .ghost .held) here q (inChain gone) (partnerOf q);
+    records = changedAt (t .inv .ghost .records) here both;
     live = rootExtent (m .root);
     low = rootExtent (m .root);
   }
@@ -206,7 +194,7 @@ module _ (m : Memory) (b : Book) (i : Inv m b) (q : ℕ) (in-row : q < m .root .
   then-scene = record { root = m .root; parties = row-then; pages = pages-then; ghost = ghost-then; entries = b .entries }
 
   -- The target is written anew, and the pages of the partner become the party's to give back.
-  hands : Also (i .ghost .held) here q (inChain gone) (partnerOf q)
+  hands : Also (t .inv .ghost .held) here q (inChain gone) (partnerOf q)
   hands = record {
     from = beside-chain here q gone (λ e. apart (sym e));
     to = beside-kind here q (partnerOf q) refl refl refl;
@@ -218,46 +206,46 @@ module _ (m : Memory) (b : Book) (i : Inv m b) (q : ℕ) (in-row : q < m .root .
     to-none = facts .nothing-old .no-partner;
   }
 
-  other-chain : (d : ℕ) → d ≢ gone → d ≢ here → ghost-then .held (inChain d) ≡ i .ghost .held (inChain d)
+  other-chain : (d : ℕ) → d ≢ gone → d ≢ here → ghost-then .held (inChain d) ≡ t .inv .ghost .held (inChain d)
   other-chain d x y = also-other hands (inChain d) (beside-chain here q d y) (indices-apart (inChain d) (inChain gone) x) (kinds-apart (inChain d) (partnerOf q) refl)
 
-  other-party : (k j : ℕ) → 3 ≤ k → j ≢ q → ghost-then .held (owner k j) ≡ i .ghost .held (owner k j)
+  other-party : (k j : ℕ) → 3 ≤ k → j ≢ q → ghost-then .held (owner k j) ≡ t .inv .ghost .held (owner k j)
   other-party k j l n =
       also-other hands (owner k j) (beside-party here q k j l n) (kinds-apart (owner k j) (inChain gone) (eqb-diff k 2 (omega arith))) (indices-apart (owner k j) (partnerOf q) n)
 
-  free-then : ghost-then .held free ≡ i .ghost .held free
+  free-then : ghost-then .held free ≡ t .inv .ghost .held free
   free-then = also-other hands free (beside-kind here q free refl refl refl) (kinds-apart free (inChain gone) refl) (kinds-apart free (partnerOf q) refl)
 
   records-here : ghost-then .records here ≡ both
-  records-here = changed-here (i .ghost .records) here both here refl
+  records-here = changed-here (t .inv .ghost .records) here both here refl
 
-  records-other : (d : ℕ) → d ≢ here → ghost-then .records d ≡ i .ghost .records d
-  records-other d n = changed-elsewhere (i .ghost .records) here both d n
+  records-other : (d : ℕ) → d ≢ here → ghost-then .records d ≡ t .inv .ghost .records d
+  records-other d n = changed-elsewhere (t .inv .ghost .records) here both d n
 
   -- ---- What others rely on
 
-  claims-28 : claims (m .root) me ≡ rootSelective ∷ (chainExclusive me ∷ (otherExclusive me ∷ []))
-  claims-28 = claims-at (m .root) me 28 is-28
+  claims-28 : claims (m .root) (me t) ≡ rootSelective ∷ (chainExclusive (me t) ∷ (otherExclusive (me t) ∷ []))
+  claims-28 = its-claims t
 
   holds-here : claimed (m .root) (m .parties) (chainWord here) q Exclusive ≡ true
   holds-here =
-      rw claims-28 (later rootSelective (chainExclusive me ∷ (otherExclusive me ∷ [])) (chainWord here) Exclusive (named (otherExclusive me ∷ []) (chainWord here) Exclusive))
+      rw claims-28 (later rootSelective (chainExclusive (me t) ∷ (otherExclusive (me t) ∷ [])) (chainWord here) Exclusive (named (otherExclusive (me t) ∷ []) (chainWord here) Exclusive))
 
   holds-gone : claimed (m .root) (m .parties) (chainWord gone) q Exclusive ≡ true
   holds-gone =
       rw claims-28
-      (later rootSelective (chainExclusive me ∷ (otherExclusive me ∷ [])) (chainWord gone) Exclusive
-      (later (chainExclusive me) (otherExclusive me ∷ []) (chainWord gone) Exclusive (named [] (chainWord gone) Exclusive)))
+      (later rootSelective (chainExclusive (me t) ∷ (otherExclusive (me t) ∷ [])) (chainWord gone) Exclusive
+      (later (chainExclusive (me t)) (otherExclusive (me t) ∷ []) (chainWord gone) Exclusive (named [] (chainWord gone) Exclusive)))
 
   -- Nobody else holds either chain.
   not-here : (j : ℕ) → j ≢ q → (d : ℕ) (o : Mode) → isClaimed (claims (m .root) (partyAt (m .parties) j)) (chainWord d) o ≡ true → d ≢ here
-  not-here = held-exclusively m b i q here fits holds-here
+  not-here = held-exclusively m b (t .inv) q here fits holds-here
 
   not-partner : (j : ℕ) → j ≢ q → (d : ℕ) (o : Mode) → isClaimed (claims (m .root) (partyAt (m .parties) j)) (chainWord d) o ≡ true → d ≢ gone
-  not-partner = held-exclusively m b i q gone (at-28 .busy .other-fits) holds-gone
+  not-partner = held-exclusively m b (t .inv) q gone (t .busy .other-fits) holds-gone
 
   others-rest-here : (j : ℕ) → j ≢ q → restructures (partyAt (m .parties) j) ≡ false
-  others-rest-here = others-rest m b i q mine
+  others-rest-here = others-rest m b (t .inv) q mine
 
   -- Every other chain stays in the file, at its local level.
   stays-live : (d : ℕ) → d ≢ here → d ≢ gone → StaysLive originals live back d
@@ -265,7 +253,7 @@ module _ (m : Memory) (b : Book) (i : Inv m b) (q : ℕ) (in-row : q < m .root .
       let inside-back : d < size originals back = omega (arith, longer, gone-is) in
       (inside-back, omega (arith, local-other d x inside-back))
 
-  grows : (j : ℕ) → j ≢ q → Grows before then-scene (partyAt (m .parties) j)
+  grows : (j : ℕ) → j ≢ q → Grows (before t) then-scene (partyAt (m .parties) j)
   grows j n = record {
     same-for-restructurer = λ h. absurd (false≢true (sym (others-rest-here j n) ∙ h));
     level-rises = λ _. omega arith;
@@ -277,32 +265,32 @@ module _ (m : Memory) (b : Book) (i : Inv m b) (q : ℕ) (in-row : q < m .root .
   }
 
   -- A page that a reader of another chain may walk stays, and stays protected.
-  read-page : (d x : ℕ) → d ≢ here → d ≢ gone → Protected before d x → Protected then-scene d x × (pageOf pages-then x ≡ pageOf (m .pages) x)
+  read-page : (d x : ℕ) → d ≢ here → d ≢ gone → Protected (before t) d x → Protected then-scene d x × (pageOf pages-then x ≡ pageOf (m .pages) x)
   read-page d x n k (in-chain y) = (
     in-chain
-        (own-also-other hands (i .pages-ok .owned) x (inChain d) (indices-apart (inChain d) (inChain here) n) (kinds-apart (inChain d) (builtBy q) refl)
+        (own-also-other hands (t .inv .pages-ok .owned) x (inChain d) (indices-apart (inChain d) (inChain here) n) (kinds-apart (inChain d) (builtBy q) refl)
         (indices-apart (inChain d) (inChain gone) k) y),
-    off x (owned-apart m b i here fits lowered whole x (inChain d) y refl),
+    off x (owned-apart m b (t .inv) here fits lowered whole x (inChain d) y refl),
   )
   read-page d x n k (in-old j y z) = (
     in-old j
-        (own-also-other hands (i .pages-ok .owned) x (oldOf j) (kinds-apart (oldOf j) (inChain here) refl) (kinds-apart (oldOf j) (builtBy q) refl)
-        (kinds-apart (oldOf j) (inChain gone) refl) y) (row-chain (m .parties) q then-party row-long refl j ∙ z),
-    off x (owned-apart m b i here fits lowered whole x (oldOf j) y refl),
+        (own-also-other hands (t .inv .pages-ok .owned) x (oldOf j) (kinds-apart (oldOf j) (inChain here) refl) (kinds-apart (oldOf j) (builtBy q) refl)
+        (kinds-apart (oldOf j) (inChain gone) refl) y) (row-chain (m .parties) q then-party (row-long t) refl j ∙ z),
+    off x (owned-apart m b (t .inv) here fits lowered whole x (oldOf j) y refl),
   )
 
   -- A find at 9 holds its chain.
   finds : (j : ℕ) → partyAt (m .parties) j .step ≡ 9 → isClaimed (claims (m .root) (partyAt (m .parties) j)) (chainWord (partyAt (m .parties) j .chain)) (modeOf (partyAt (m .parties) j)) ≡ true
   finds j e = rw (claims-at (m .root) (partyAt (m .parties) j) 9 e) (named [] (chainWord (partyAt (m .parties) j .chain)) (modeOf (partyAt (m .parties) j)))
 
-  keeps-others : (j : ℕ) → j ≢ q → Keeps before then-scene j (partyAt (m .parties) j)
+  keeps-others : (j : ℕ) → j ≢ q → Keeps (before t) then-scene j (partyAt (m .parties) j)
   keeps-others j n =
       let p = partyAt (m .parties) j in
       record {
         sizes = same-limits (m .root);
         grows = grows j n;
         entry= = refl;
-        ours = λ k a d. (other-party k j a n, primary-same m b i here fits lowered whole (owner k j));
+        ours = λ k a d. (other-party k j a n, primary-same m b (t .inv) here fits lowered whole (owner k j));
         scratch= = off (scratchPage (m .root) j) (omega (arith, fits));
         chain= = λ d o h r l. (records-other d (not-here j n d o h), other-chain d (not-partner j n d o h) (not-here j n d o h));
         reading = λ x e h. read-page (p .chain) x (not-here j n (p .chain) (modeOf p) (finds j e)) (not-partner j n (p .chain) (modeOf p) (finds j e)) h;
@@ -318,68 +306,68 @@ module _ (m : Memory) (b : Book) (i : Inv m b) (q : ℕ) (in-row : q < m .root .
   each-chain d l (diff n) =
       subst₃ (λ (j : ℕ) (es : List Entry) (xs : List ℕ). ChainIs (m .root .capacity) pages-then d j es xs) (sym (local-other d n l)) (sym (records-other d n))
       (sym (other-chain d (not-gone d l) n))
-      (written-beside m b i here fits lowered whole d _ (i .ghost .records d) (inChain d) n (i .pages-ok .chain d (still-live d l)))
+      (written-beside m b (t .inv) here fits lowered whole d _ (t .inv .ghost .records d) (inChain d) n (t .inv .pages-ok .chain d (still-live d l)))
 
   -- The two chains have no key in common: a key has one home.
   ascends-both : ascending both ≡ true
   ascends-both =
-      ascends-joined (i .ghost .records here) (i .ghost .records gone) (i .pages-ok .ascends here live-here) (i .pages-ok .ascends gone live-gone)
-      (λ k h. away-absent i gone live-gone k (λ e. apart (sym (key-home i here live-here k h) ∙ e)))
+      ascends-joined (t .inv .ghost .records here) (t .inv .ghost .records gone) (t .inv .pages-ok .ascends here live-here) (t .inv .pages-ok .ascends gone live-gone)
+      (λ k h. away-absent (t .inv) gone live-gone k (λ e. apart (sym (key-home (t .inv) here live-here k h) ∙ e)))
 
   each-ascends : (d : ℕ) → d < size originals back → Cmp d here → ascending (ghost-then .records d) ≡ true
   each-ascends d l (same e) = ap (λ (k : ℕ). ascending (ghost-then .records k)) e ∙ ap ascending records-here ∙ ascends-both
-  each-ascends d l (diff n) = ap ascending (records-other d n) ∙ i .pages-ok .ascends d (still-live d l)
+  each-ascends d l (diff n) = ap ascending (records-other d n) ∙ t .inv .pages-ok .ascends d (still-live d l)
 
   -- A key of either chain is led to the target by one bit less.
   homed-both : (k : ℕ) → hasKey k both ≡ true → hash originals (back .level) k ≡ here
-  homed-both k h = go (or-either (hasKey k (i .ghost .records here)) (hasKey k (i .ghost .records gone)) (sym (has-joined k (i .ghost .records here) (i .ghost .records gone)) ∙ h)) ∙ sym here-is
+  homed-both k h = go (or-either (hasKey k (t .inv .ghost .records here)) (hasKey k (t .inv .ghost .records gone)) (sym (has-joined k (t .inv .ghost .records here) (t .inv .ghost .records gone)) ∙ h)) ∙ sym here-is
     where
-      go : (hasKey k (i .ghost .records here) ≡ true) ⊎ (hasKey k (i .ghost .records gone) ≡ true) → hash originals (back .level) k ≡ back .next
+      go : (hasKey k (t .inv .ghost .records here) ≡ true) ⊎ (hasKey k (t .inv .ghost .records gone) ≡ true) → hash originals (back .level) k ≡ back .next
       go (inl x) =
-          hash-back originals back inside (i .limits .some-original) k
-          (ap (λ (j : ℕ). hash originals j k) (sym local-here) ∙ i .pages-ok .homed here live-here k x ∙ here-is)
+          hash-back originals back inside (t .inv .limits .some-original) k
+          (ap (λ (j : ℕ). hash originals j k) (sym local-here) ∙ t .inv .pages-ok .homed here live-here k x ∙ here-is)
       go (inr x) =
-          hash-back-made originals back inside (i .limits .some-original) k
-          (ap (λ (j : ℕ). hash originals j k) (sym local-gone) ∙ i .pages-ok .homed gone live-gone k x ∙ gone-is)
+          hash-back-made originals back inside (t .inv .limits .some-original) k
+          (ap (λ (j : ℕ). hash originals j k) (sym local-gone) ∙ t .inv .pages-ok .homed gone live-gone k x ∙ gone-is)
 
   each-homed : (d : ℕ) → d < size originals back → Cmp d here → (k : ℕ) → hasKey k (ghost-then .records d) ≡ true → hash originals (localLevel originals back d) k ≡ d
   each-homed d l (same e) k h =
       ap (λ (c : ℕ). hash originals (localLevel originals back c) k) e ∙ ap (λ (j : ℕ). hash originals j k) local-back
       ∙ homed-both k (sym (ap (hasKey k) (ap (ghost-then .records) e ∙ records-here)) ∙ h) ∙ sym e
   each-homed d l (diff n) k h =
-      ap (λ (j : ℕ). hash originals j k) (local-other d n l) ∙ i .pages-ok .homed d (still-live d l) k (sym (ap (hasKey k) (records-other d n)) ∙ h)
+      ap (λ (j : ℕ). hash originals j k) (local-other d n l) ∙ t .inv .pages-ok .homed d (still-live d l) k (sym (ap (hasKey k) (records-other d n)) ∙ h)
 
   -- Outside the shorter file the partner alone has pages in use, all of them the party's now.
   each-beyond : (d : ℕ) → size originals back ≤ d → Cmp d gone → ghost-then .held (inChain d) ≡ []
   each-beyond d far (same e) = ap (λ (k : ℕ). ghost-then .held (inChain k)) e ∙ also-from hands
-  each-beyond d far (diff n) = other-chain d n (omega (arith, back-here)) ∙ i .pages-ok .beyond d (omega (arith, longer, gone-is))
+  each-beyond d far (diff n) = other-chain d n (omega (arith, back-here)) ∙ t .inv .pages-ok .beyond d (omega (arith, longer, gone-is))
 
   uses-gone : uses then-party gone ≡ true
   unfolding uses
   uses-gone = eqb-same gone gone refl
 
   unused-before : (d : ℕ) → ((j : ℕ) → uses (partyAt row-then j) d ≡ false) → (j : ℕ) → Cmp j q → uses (partyAt (m .parties) j) d ≡ false
-  unused-before d u j (same e) = rw e (uses-none me 28 is-28 refl d)
+  unused-before d u j (same e) = rw e (uses-none t refl d)
   unused-before d u j (diff n) = rw (row-other (m .parties) q j then-party n) at (u j)
 
   each-dead : (d : ℕ) → size originals back ≤ d → d < m .root .primaries → ((j : ℕ) → uses (partyAt row-then j) d ≡ false) → pageOf pages-then (primaryPage d) ≡ zeroPage
-  each-dead d far r u = off d (omega (arith, back-here)) ∙ i .pages-ok .dead d (omega (arith, longer, gone-is, unlike)) r (λ j. unused-before d u j (cmp j q))
+  each-dead d far r u = off d (omega (arith, back-here)) ∙ t .inv .pages-ok .dead d (omega (arith, longer, gone-is, unlike)) r (λ j. unused-before d u j (cmp j q))
     where
       unlike : d ≢ gone
       unlike e =
-          let free-of-it : uses then-party gone ≡ false = subst (λ (k : ℕ). uses then-party k ≡ false) e (rw (row-same (m .parties) q then-party row-long) at (u q)) in
+          let free-of-it : uses then-party gone ≡ false = subst (λ (k : ℕ). uses then-party k ≡ false) e (rw (row-same (m .parties) q then-party (row-long t)) at (u q)) in
           false≢true (sym free-of-it ∙ uses-gone)
 
   pages-ok-then : PagesOk (m .root) row-then pages-then ghost-then
   pages-ok-then =
-      let ok = i .pages-ok in
+      let ok = t .inv .pages-ok in
       record {
         owned = owned-also hands (ok .owned);
         kinds = λ x. kinds-also hands (ok .owned) x (ok .kinds x);
         beyond = λ d l. each-beyond d l (cmp d gone);
         head-is = ok .head-is ∙ ap linkToFirst (sym free-then);
         free-count = ok .free-count ∙ ap length (sym free-then);
-        free-pages = rw free-then (free-beside m b i here fits lowered whole);
+        free-pages = rw free-then (free-beside m b (t .inv) here fits lowered whole);
         chain = λ d l. each-chain d l (cmp d here);
         ascends = λ d l. each-ascends d l (cmp d here);
         homed = λ d l. each-homed d l (cmp d here);
@@ -395,7 +383,7 @@ module _ (m : Memory) (b : Book) (i : Inv m b) (q : ℕ) (in-row : q < m .root .
   home-then k = addressOf originals (back .level) (back .next) k
 
   -- Each key is on its home afterwards where it was before.
-  same-keys : (k : ℕ) → Cmp (home-then k) here → hasKey k (ghost-then .records (home-then k)) ≡ hasKey k (i .ghost .records (home k))
+  same-keys : (k : ℕ) → Cmp (home-then k) here → hasKey k (ghost-then .records (home-then k)) ≡ hasKey k (t .inv .ghost .records (home k))
   unfolding home home-then
   same-keys k place = go place
     where
@@ -404,59 +392,59 @@ module _ (m : Memory) (b : Book) (i : Inv m b) (q : ℕ) (in-row : q < m .root .
       was c e = ap (λ (x : Extent). addressOf originals (x .level) (x .next) k) live-is ∙ e
 
       -- The key was at home on the target, or on the partner, and not on the other of the two.
-      either : (c : ℕ) → home k ≡ c → (hasKey k (i .ghost .records here) || hasKey k (i .ghost .records gone)) ≡ hasKey k (i .ghost .records c)
-          → hasKey k (ghost-then .records here) ≡ hasKey k (i .ghost .records (home k))
+      either : (c : ℕ) → home k ≡ c → (hasKey k (t .inv .ghost .records here) || hasKey k (t .inv .ghost .records gone)) ≡ hasKey k (t .inv .ghost .records c)
+          → hasKey k (ghost-then .records here) ≡ hasKey k (t .inv .ghost .records (home k))
       either c e f =
-          ap (hasKey k) records-here ∙ has-joined k (i .ghost .records here) (i .ghost .records gone) ∙ f
-          ∙ ap (λ (d : ℕ). hasKey k (i .ghost .records d)) (sym e)
+          ap (hasKey k) records-here ∙ has-joined k (t .inv .ghost .records here) (t .inv .ghost .records gone) ∙ f
+          ∙ ap (λ (d : ℕ). hasKey k (t .inv .ghost .records d)) (sym e)
 
-      at-here : home k ≡ here → hasKey k (ghost-then .records here) ≡ hasKey k (i .ghost .records (home k))
+      at-here : home k ≡ here → hasKey k (ghost-then .records here) ≡ hasKey k (t .inv .ghost .records (home k))
       at-here e =
           either here e
-          (ap (λ (x : Bool). hasKey k (i .ghost .records here) || x) (away-absent i gone live-gone k (λ f. apart (sym e ∙ f)))
-          ∙ or-false (hasKey k (i .ghost .records here)))
+          (ap (λ (x : Bool). hasKey k (t .inv .ghost .records here) || x) (away-absent (t .inv) gone live-gone k (λ f. apart (sym e ∙ f)))
+          ∙ or-false (hasKey k (t .inv .ghost .records here)))
 
-      at-gone : home k ≡ gone → hasKey k (ghost-then .records here) ≡ hasKey k (i .ghost .records (home k))
+      at-gone : home k ≡ gone → hasKey k (ghost-then .records here) ≡ hasKey k (t .inv .ghost .records (home k))
       at-gone e =
           either gone e
-          (ap (λ (x : Bool). x || hasKey k (i .ghost .records gone)) (away-absent i here live-here k (λ f. apart (sym f ∙ e))))
+          (ap (λ (x : Bool). x || hasKey k (t .inv .ghost .records gone)) (away-absent (t .inv) here live-here k (λ f. apart (sym f ∙ e))))
 
       from : hash originals (back .level) k ≡ back .next → Cmp (hash originals (back .level + 1) k) (back .next)
-          → hasKey k (ghost-then .records here) ≡ hasKey k (i .ghost .records (home k))
-      from led (same s) = at-here (was here (home-split originals back inside (i .limits .some-original) k s ∙ sym here-is))
+          → hasKey k (ghost-then .records here) ≡ hasKey k (t .inv .ghost .records (home k))
+      from led (same s) = at-here (was here (home-split originals back inside (t .inv .limits .some-original) k s ∙ sym here-is))
       from led (diff d) =
-          at-gone (was gone (home-made originals back inside (i .limits .some-original) k (split-hash originals back inside (i .limits .some-original) k led d) ∙ sym gone-is))
+          at-gone (was gone (home-made originals back inside (t .inv .limits .some-original) k (split-hash originals back inside (t .inv .limits .some-original) k led d) ∙ sym gone-is))
 
-      go : Cmp (home-then k) here → hasKey k (ghost-then .records (home-then k)) ≡ hasKey k (i .ghost .records (home k))
+      go : Cmp (home-then k) here → hasKey k (ghost-then .records (home-then k)) ≡ hasKey k (t .inv .ghost .records (home k))
       go (diff n) =
           ap (hasKey k) (records-other (home-then k) n)
-          ∙ ap (λ (c : ℕ). hasKey k (i .ghost .records c)) (sym (was (home-then k) (home-other originals back inside (i .limits .some-original) k (λ e. n (e ∙ sym here-is)))))
+          ∙ ap (λ (c : ℕ). hasKey k (t .inv .ghost .records c)) (sym (was (home-then k) (home-other originals back inside (t .inv .limits .some-original) k (λ e. n (e ∙ sym here-is)))))
       go (same e) =
           ap (λ (c : ℕ). hasKey k (ghost-then .records c)) e
-          ∙ from (home-splits originals back inside (i .limits .some-original) k (e ∙ here-is)) (cmp (hash originals (back .level + 1) k) (back .next))
+          ∙ from (home-splits originals back inside (t .inv .limits .some-original) k (e ∙ here-is)) (cmp (hash originals (back .level + 1) k) (back .next))
 
   book-ok-then : BookOk (m .root) ghost-then b
   unfolding home home-then
-  book-ok-then = record { same = λ k. i .book-ok .same k ∙ sym (same-keys k (cmp (home-then k) here)) }
+  book-ok-then = record { same = λ k. t .inv .book-ok .same k ∙ sym (same-keys k (cmp (home-then k) here)) }
 
   -- ---- The party at 29
 
   emptying-then : Emptying then-scene q then-party entered
   emptying-then =
-      let partner = i .pages-ok .chain gone live-gone in
+      let partner = t .inv .pages-ok .chain gone live-gone in
       let unwritten : pageOf pages-then (primaryPage gone) ≡ pageOf (m .pages) (primaryPage gone) = off gone (λ e. apart (sym e)) in
       record {
         noted = facts .noted;
         made = facts .made;
         trash = record {
           link = facts .keeps-link ∙ ap linkToFirst (sym (also-old hands));
-          linked = rw (also-old hands) (chain-linked m b i here fits lowered whole here live-here);
+          linked = rw (also-old hands) (chain-linked m b (t .inv) here fits lowered whole here live-here);
         };
         partner-sound = ap (pageSound (m .root)) unwritten
-            ∙ chain-sound (m .root) (m .pages) gone _ (i .ghost .records gone) (i .ghost .held (inChain gone)) partner (held-overflow (m .root) (i .pages-ok .owned) (inChain gone)) (local-most i gone);
+            ∙ chain-sound (m .root) (m .pages) gone _ (t .inv .ghost .records gone) (t .inv .ghost .held (inChain gone)) partner (held-overflow (m .root) (t .inv .pages-ok .owned) (inChain gone)) (local-most (t .inv) gone);
         partner-link = ap linkOf unwritten
-            ∙ chain-link (m .root .capacity) (m .pages) gone _ (i .ghost .records gone) (i .ghost .held (inChain gone)) partner ∙ ap linkToFirst (sym (also-to hands));
-        partner-linked = rw (also-to hands) (chain-linked m b i here fits lowered whole gone live-gone);
+            ∙ chain-link (m .root .capacity) (m .pages) gone _ (t .inv .ghost .records gone) (t .inv .ghost .held (inChain gone)) partner ∙ ap linkToFirst (sym (also-to hands));
+        partner-linked = rw (also-to hands) (chain-linked m b (t .inv) here fits lowered whole gone live-gone);
         nothing-built = record {
           no-built = also-built hands;
           no-new = also-other hands (newBy q) (beside-kind here q (newBy q) refl refl refl) (kinds-apart (newBy q) (inChain gone) refl) (kinds-apart (newBy q) (partnerOf q) refl) ∙ facts .no-new;
@@ -466,48 +454,37 @@ module _ (m : Memory) (b : Book) (i : Inv m b) (q : ℕ) (in-row : q < m .root .
   self-then : PartyOk then-scene q then-party
   unfolding hasStep
   self-then =
-      let k = at-28 .busy in
-      working entered
-      (record {
-        entry = k .entry;
-        same-operation = k .same-operation;
-        same-key = k .same-key;
-        step-fits = subst (λ (n : ℕ). hasStep (me .operation) n ≡ true) is-28 (k .step-fits);
-        lev-fits = k .lev-fits;
-        owed-fits = k .owed-fits;
-        answer-fits = k .answer-fits;
-        answer-set = λ _. k .answer-set (omega arith);
-        chain-fits = k .chain-fits;
-        other-fits = k .other-fits;
-      })
+      working entered (busy-onto t 29 (has-step t) (omega arith) then-scene refl refl (me t .old))
       (emptying-then, record { target = chains .target; partner = chains .partner; room = chains .room })
 
   extents-then : ExtentsOk (m .root) row-then ghost-then
   unfolding liveFor
   extents-then =
-      let ok = i .extents-ok in
-      extents-by-one (m .root) (m .parties) ghost-then q then-party row-long others-rest-here (restructures-at then-party 29 refl) refl
-      (sym (low-at (m .root) then-party 29 refl refl)) (ok .root-next) (ok .root-fits) (ok .root-next) (ok .root-fits)
+      let ok = t .inv .extents-ok in
+      extents-by-one t refl
+      (record {
+        still = restructures-at then-party 29 refl;
+        live = refl;
+        low = sym (low-at (m .root) then-party 29 refl refl);
+        live-next = ok .root-next;
+        live-fits = ok .root-fits;
+        root-next = ok .root-next;
+        root-fits = ok .root-fits;
+      })
 
-  written-inv : Inv (record { root = m .root; parties = row-then; locks = m .locks; pages = pages-then }) b
+  parts-then : Parts m b (t .inv) q (m .root) (m .locks) pages-then then-party b ghost-then
   unfolding claims
-  written-inv = assemble m b i q in-row (m .root) (m .locks) pages-then then-party b ghost-then (record {
+  parts-then = record {
     sizes = same-limits (m .root);
-    pages-many = primary-long m b i here fits lowered whole;
+    pages-many = primary-long m b (t .inv) here fits lowered whole;
     extents = extents-then;
-    locks = locks-stay (m .root) (m .parties) q then-party row-long (sym claims-28) (i .locks-ok);
+    locks = locks-stay (m .root) (m .parties) q then-party (row-long t) (sym claims-28) (t .inv .locks-ok);
     pages = pages-ok-then;
     book = book-ok-then;
     self = self-then;
     others = keeps-others;
-  })
+  }
 
   pub step28-kept : Kept m b q (step28 (viewOf m q))
-  unfolding step28 refusalNumber agreesWith afterReply
-  step28-kept =
-      rw (scratch-sound, not-lowest)
-      (record {
-        allowed = refl;
-        right = refl;
-        inv = rw (still-noted b q (b .entries q) (me .step) (omega arith) (omega arith) (omega arith)) written-inv;
-      })
+  unfolding step28
+  step28-kept = rw (scratch-sound, not-lowest) (moved-kept t (note-still t refl) parts-then)

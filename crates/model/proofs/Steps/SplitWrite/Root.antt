@@ -2,143 +2,143 @@
 -- Main statements: step20-kept, step21-kept.
 use mathlib.Core.Path.{_≡_, refl, sym, ap, _∙_, subst}
 use mathlib.Core.Logic.{_≢_}
-use mathlib.Core.Bool.{true, false, cond, false≢true}
-use mathlib.Core.List.{List}
+use mathlib.Core.Bool.{true, cond, false≢true}
 use Prim.Native.Nat.{ℕ, suc, _+_, _≤_, _<_}
 use native.Mathlib.Nat.{mod-lt, mod-eq-of-lt, mod-self}
 use native.Mathlib.Omega.{arith}
-use lib.ListN.{length, set}
+use lib.ListN.{set}
 use lib.Dec.{eqb}
 use Rattle.model.specs.declared.Root.{Root}
 use Rattle.model.specs.declared.Party.{Party}
-use Rattle.model.specs.Sizes.{lockWords}
 use Rattle.model.specs.Records.{atStep, withLevel, withNext}
-use Rattle.model.specs.Answers.{refusalNumber}
 use Rattle.model.specs.Addresses.{span, chainCount, splitNext, splitLevel}
 use Rattle.model.specs.Memory.{Memory, partyAt, viewOf}
-use Rattle.model.specs.Book.{Book, Entered, agreesWith, afterReply}
+use Rattle.model.specs.Book.{Book}
 use Rattle.model.specs.Steps.SplitWrite.{step20, step21}
 use Rattle.model.specs.Steps.Dispatch.{hasStep}
-use Rattle.model.proofs.Laws.Lists.{Cmp, same, diff, cmp, cond-ind, eqb-true, eqb-same, eqb-diff}
+use Rattle.model.specs.Outcome.{moved, withParty, withRoot}
+use Rattle.model.proofs.Laws.Lists.{Cmp, same, diff, cmp, cond-ind, eqb-true, eqb-same, eqb-diff, or-neither}
 use Rattle.model.proofs.Laws.Addresses.{span-next, span-pos}
-use Rattle.model.proofs.Invariant.Ghost.{owner, oldOf, Extent, extent, rootExtent, size, advance}
 use Rattle.model.proofs.Laws.Structure.{same-on}
-use Rattle.model.proofs.Invariant.Claims.{claims, claimed, LocksOk}
+use Rattle.model.proofs.Invariant.Ghost.{owner, oldOf, Extent, extent, rootExtent, size, advance}
 use Rattle.model.proofs.Invariant.LockMoves.{locks-root, locks-stay}
-use Rattle.model.proofs.Invariant.Statement.{restructures, liveFor, lowFor, ExtentsOk, uses, PagesOk, Scene, Leaving, factsAt, working, Inv, sceneOf}
+use Rattle.model.proofs.Invariant.Statement.{restructures, liveFor, lowFor, ExtentsOk, PagesOk, Scene, Leaving, factsAt, working}
 use Rattle.model.proofs.Invariant.Frame.{SameLimits, Keeps, linked-sizes, claims-at}
-use Rattle.model.proofs.Effects.Kept.{Kept, row-other, assemble, extents-by-one}
-use Rattle.model.proofs.Invariant.Facts.{At, facts-at, still-noted}
-use Rattle.model.proofs.Effects.OwnRecord.{protected-row}
 use Rattle.model.proofs.Invariant.Restructurer.{low-at, others-rest}
-use Rattle.model.proofs.Effects.Moves.{restructures-at, uses-none, has-at, busy-on}
+use Rattle.model.proofs.Invariant.Turn.{Plain, Turn, before, claimsAt, has-step, its-claims, me, note-still, notesAt, restructures-now, restructuresAt, row-long, usesAt, uses-none}
+use Rattle.model.proofs.Effects.Kept.{Kept, extents-by-one, moved-kept}
+use Rattle.model.proofs.Effects.OwnRecord.{protected-row, pages-row}
+use Rattle.model.proofs.Effects.Moves.{restructures-at, busy-onto}
 
 -- ---- The restructurer moves the root's level and next, and its own step number from k to k + 1
 
-module _ (m : Memory) (b : Book) (i : Inv m b) (q : ℕ) (in-row : q < m .root .parties) where
-  abbrev me : Party
-  me = partyAt (m .parties) q
+-- What it owes; how far the live file extends goes by its record, and stays.
+pub record MovesRoot {m : Memory} {b : Book} {q k : ℕ} (t : Turn m b q k) (level next : ℕ) : Type 0 where
+  pub plain : Plain k
+  pub late : 12 ≤ k
+  pub mine : restructuresAt k ≡ true
+  pub still-mine : restructuresAt (suc k) ≡ true
+  pub has-next : hasStep (me t .operation) (suc k) ≡ true
+  pub same-claims : claimsAt (suc k) (atStep (suc k) (me t)) ≡ claimsAt k (me t)
+  pub same-live : liveFor (withLevel level (withNext next (m .root))) (atStep (suc k) (me t)) ≡ liveFor (m .root) (me t)
+  pub same-low : lowFor (withLevel level (withNext next (m .root))) (atStep (suc k) (me t)) ≡ lowFor (m .root) (me t)
+  pub level-rises : m .root .level ≤ level
+  pub next-fits : next < span (m .root .originals) level
+  pub fits : size (m .root .originals) (extent level next) ≤ m .root .primaries
+  pub leaving : Leaving (before t) q (me t) (t .entered)
+  pub settles : (s : Scene) → Leaving s q (atStep (suc k) (me t)) (t .entered) → factsAt (suc k) s q (atStep (suc k) (me t)) (t .entered)
 
-  row-long : q < length (m .parties)
-  row-long = omega (arith, i .parties-many)
+module _ {m : Memory} {b : Book} {q k : ℕ} (t : Turn m b q k) (level next : ℕ) (x : MovesRoot t level next) where
+  abbrev root-then : Root
+  root-then = withLevel level (withNext next (m .root))
 
-  module _ (k level next : ℕ) (mine : restructures me ≡ true) (still-mine : restructures (atStep (suc k) me) ≡ true)
-      (same-live : liveFor (withLevel level (withNext next (m .root))) (atStep (suc k) me) ≡ liveFor (m .root) me)
-      (same-low : lowFor (withLevel level (withNext next (m .root))) (atStep (suc k) me) ≡ lowFor (m .root) me) (level-rises : m .root .level ≤ level)
-      (next-fits : next < span (m .root .originals) level) (fits : size (m .root .originals) (extent level next) ≤ m .root .primaries)
-      (same-claims : claims (m .root) (atStep (suc k) me) ≡ claims (m .root) me) (no-use : (d : ℕ) → uses me d ≡ false) where
-    abbrev root-then : Root
-    root-then = withLevel level (withNext next (m .root))
+  abbrev p-then : Party
+  p-then = atStep (suc k) (partyAt (m .parties) q)
 
-    abbrev row-then : List Party
-    row-then = set (m .parties) q (atStep (suc k) me)
+  abbrev then-scene : Scene
+  then-scene = record { root = root-then; parties = set (m .parties) q p-then; pages = m .pages; ghost = t .inv .ghost; entries = b .entries }
 
-    abbrev then-scene : Scene
-    then-scene = record { root = root-then; parties = row-then; pages = m .pages; ghost = i .ghost; entries = b .entries }
+  same-limits-then : SameLimits (m .root) root-then
+  same-limits-then = record { originals= = refl; capacity= = refl; primaries= = refl; overflow= = refl; parties= = refl }
 
-    same-limits-then : SameLimits (m .root) root-then
-    same-limits-then = record { originals= = refl; capacity= = refl; primaries= = refl; overflow= = refl; parties= = refl }
+  restructuring : restructures (me t) ≡ true
+  restructuring = restructures-now t ∙ x .mine
 
-    extents-then : ExtentsOk root-then row-then (i .ghost)
-    extents-then =
-        let ok = i .extents-ok in
-        extents-by-one root-then (m .parties) (i .ghost) q (atStep (suc k) me) row-long (others-rest m b i q mine) still-mine (ok .live-by q mine ∙ sym same-live)
-        (ok .low-by q mine ∙ sym same-low) (ok .live-next) (ok .live-fits) next-fits fits
+  extents-then : ExtentsOk root-then (set (m .parties) q p-then) (t .inv .ghost)
+  extents-then =
+      let ok = t .inv .extents-ok in
+      extents-by-one t (x .mine)
+      (record {
+        still = restructures-at p-then (suc k) refl ∙ x .still-mine;
+        live = ok .live-by q restructuring ∙ sym (x .same-live);
+        low = ok .low-by q restructuring ∙ sym (x .same-low);
+        live-next = ok .live-next;
+        live-fits = ok .live-fits;
+        root-next = x .next-fits;
+        root-fits = x .fits;
+      })
 
-    unused : (d : ℕ) → ((j : ℕ) → uses (partyAt row-then j) d ≡ false) → (j : ℕ) → Cmp j q → uses (partyAt (m .parties) j) d ≡ false
-    unused d f j (same e) = rw e (no-use d)
-    unused d f j (diff n) = rw (row-other (m .parties) q j (atStep (suc k) me) n) at (f j)
+  pages-then : PagesOk root-then (set (m .parties) q p-then) (m .pages) (t .inv .ghost)
+  pages-then =
+      let ok = pages-row m b (t .inv) q (row-long t) p-then (λ d _. uses-none t (or-neither (notesAt k) (usesAt k) (x .plain) .1) d) in
+      record {
+        owned = ok .owned;
+        kinds = ok .kinds;
+        beyond = ok .beyond;
+        head-is = ok .head-is;
+        free-count = ok .free-count;
+        free-pages = ok .free-pages;
+        chain = ok .chain;
+        ascends = ok .ascends;
+        homed = ok .homed;
+        dead = ok .dead;
+      }
 
-    pages-then : PagesOk root-then row-then (m .pages) (i .ghost)
-    pages-then =
-        let ok = i .pages-ok in
-        record {
-          owned = ok .owned;
-          kinds = ok .kinds;
-          beyond = ok .beyond;
-          head-is = ok .head-is;
-          free-count = ok .free-count;
-          free-pages = ok .free-pages;
-          chain = ok .chain;
-          ascends = ok .ascends;
-          homed = ok .homed;
-          dead = λ d l r f. ok .dead d l r (λ j. unused d f j (cmp j q));
-        }
+  keeps-then : (j : ℕ) → j ≢ q → Keeps (before t) then-scene j (partyAt (m .parties) j)
+  keeps-then j n = record {
+    sizes = same-limits-then;
+    grows = record {
+      same-for-restructurer = λ h. absurd (false≢true (sym (others-rest m b (t .inv) q restructuring j n) ∙ h));
+      level-rises = λ _. x .level-rises;
+      low-grows = λ _ c l. (l, omega arith);
+      live-grows = λ c o _ l. (l, omega arith);
+      firm = λ c o _ _ _. refl;
+    };
+    entry= = refl;
+    ours = λ y _ _. (refl, same-on (m .pages) (m .pages) (t .inv .ghost .held (owner y j)) (λ z. refl));
+    scratch= = refl;
+    chain= = λ d o h e l. (refl, refl);
+    reading = λ y e h. (protected-row (before t) then-scene q p-then refl refl (row-long t) (λ z o. refl) (partyAt (m .parties) j .chain) y h, refl);
+    spare = λ u. refl;
+  }
 
-    locks-then : LocksOk (lockWords root-then) (m .locks) (claimed root-then row-then)
-    locks-then = locks-root (m .root) root-then row-then (locks-stay (m .root) (m .parties) q (atStep (suc k) me) row-long same-claims (i .locks-ok))
+  leaving-then : Leaving then-scene q p-then (t .entered)
+  leaving-then =
+      let h = x .leaving in
+      record {
+        noted = h .noted;
+        made = h .made;
+        trash = record { link = h .trash .link; linked = linked-sizes (m .root) root-then same-limits-then (m .pages) (t .inv .ghost .held (oldOf q)) (h .trash .linked) };
+        no-partner = h .no-partner;
+        nothing-built = record { no-built = h .nothing-built .no-built; no-new = h .nothing-built .no-new };
+      }
 
-    keeps-then : (j : ℕ) → j ≢ q → Keeps (sceneOf m (i .ghost) b) then-scene j (partyAt (m .parties) j)
-    keeps-then j n = record {
-      sizes = same-limits-then;
-      grows = record {
-        same-for-restructurer = λ h. absurd (false≢true (sym (others-rest m b i q mine j n) ∙ h));
-        level-rises = λ _. level-rises;
-        low-grows = λ _ c l. (l, omega arith);
-        live-grows = λ c o _ l. (l, omega arith);
-        firm = λ c o _ _ _. refl;
-      };
-      entry= = refl;
-      ours = λ x _ _. (refl, same-on (m .pages) (m .pages) (i .ghost .held (owner x j)) (λ y. refl));
-      scratch= = refl;
-      chain= = λ d o h e l. (refl, refl);
-      reading = λ x e h.
-          (protected-row (sceneOf m (i .ghost) b) then-scene q (atStep (suc k) me) refl refl row-long (λ y o. refl) (partyAt (m .parties) j .chain) x h, refl);
-      spare = λ u. refl;
-    }
-
-    leaving-then : (e : Entered) → Leaving (sceneOf m (i .ghost) b) q me e → Leaving then-scene q (atStep (suc k) me) e
-    leaving-then e h = record {
-      noted = h .noted;
-      made = h .made;
-      trash = record { link = h .trash .link; linked = linked-sizes (m .root) root-then same-limits-then (m .pages) (i .ghost .held (oldOf q)) (h .trash .linked) };
-      no-partner = h .no-partner;
-      nothing-built = record { no-built = h .nothing-built .no-built; no-new = h .nothing-built .no-new };
-    }
-
-    moves-on : (f : At k (sceneOf m (i .ghost) b) q me) → hasStep (me .operation) (suc k) ≡ true → Leaving (sceneOf m (i .ghost) b) q me (f .entered)
-        → ((s : Scene) (e : Entered) → Leaving s q (atStep (suc k) me) e → factsAt (suc k) s q (atStep (suc k) me) e) → 12 ≤ me .step
-        → Inv (record { root = root-then; parties = row-then; locks = m .locks; pages = m .pages }) b
-    moves-on f has leaving settles late =
-        assemble m b i q in-row root-then (m .locks) (m .pages) (atStep (suc k) me) b (i .ghost)
-        (record {
-          sizes = same-limits-then;
-          pages-many = refl;
-          extents = extents-then;
-          locks = locks-then;
-          pages = pages-then;
-          book = record { same = i .book-ok .same };
-          self = working (f .entered) (busy-on (sceneOf m (i .ghost) b) q me (f .entered) (f .busy) then-scene (suc k) refl refl has (λ _. late))
-              (settles then-scene (f .entered) (leaving-then (f .entered) leaving));
-          others = keeps-then;
-        })
+  root-kept : Kept m b q (moved (withRoot (withLevel level (withNext next (m .root))) (withParty (atStep (suc k) (me t)) (viewOf m q))))
+  root-kept =
+      moved-kept t (note-still t (or-neither (notesAt k) (usesAt k) (x .plain) .0))
+      (record {
+        sizes = same-limits-then;
+        pages-many = refl;
+        extents = extents-then;
+        locks = locks-root (m .root) root-then (set (m .parties) q p-then)
+            (locks-stay (m .root) (m .parties) q p-then (row-long t) (claims-at (m .root) p-then (suc k) refl ∙ x .same-claims ∙ sym (its-claims t)) (t .inv .locks-ok));
+        pages = pages-then;
+        book = record { same = t .inv .book-ok .same };
+        self = working (t .entered) (busy-onto t (suc k) (x .has-next) (x .late) then-scene refl refl (me t .old)) (x .settles then-scene leaving-then);
+        others = keeps-then;
+      })
 
 -- ---- 20
-
--- An operation that has step 20 has step 21, and one that has 21 has 22.
-has-next : (o : ℕ) → (hasStep o 21 ≡ hasStep o 20) × (hasStep o 22 ≡ hasStep o 21)
-unfolding hasStep
-has-next o = (refl, refl)
 
 -- (next + 1) mod (N × 2^level): 0 at the end of a round, else one more.
 split-next-last : (n level next : ℕ) → next + 1 ≡ span n level → splitNext n level next ≡ 0
@@ -172,47 +172,45 @@ split-next-size n level next h =
     (cond-ind (λ (e : Extent). span n level + splitNext n level next ≤ span n (e .level) + e .next) (eqb (splitNext n level next) 0) _ _
     (λ t. omega (arith, eqb-true (splitNext n level next) 0 t, span-next n level)) (λ _. omega arith))
 
-module _ (m : Memory) (b : Book) (i : Inv m b) (q : ℕ) (in-row : q < m .root .parties) (is-twenty : partyAt (m .parties) q .step ≡ 20) where
+module _ {m : Memory} {b : Book} {q : ℕ} (t : Turn m b q 20) where
   abbrev r : Root
   r = m .root
 
-  abbrev p : Party
-  p = partyAt (m .parties) q
-
   abbrev then-next : ℕ
-  then-next = splitNext (r .originals) (r .level) (r .next)
+  then-next = splitNext (m .root .originals) (m .root .level) (m .root .next)
 
-  at-twenty : At 20 (sceneOf m (i .ghost) b) q p
-  at-twenty = facts-at 19 (sceneOf m (i .ghost) b) q p is-twenty (i .parties-ok q in-row)
-
-  mine-at-20 : restructures p ≡ true
-  mine-at-20 = restructures-at p 20 is-twenty
-
-  live-at-20 : liveFor r p ≡ advance (r .originals) (rootExtent r)
+  live-at-20 : liveFor r (me t) ≡ advance (r .originals) (rootExtent r)
   unfolding liveFor
-  live-at-20 = rw is-twenty refl
+  live-at-20 = rw (t .is-at) refl
 
-  live-20-then : liveFor (withNext then-next r) (atStep 21 p) ≡ liveFor r p
+  live-20-then : liveFor (withNext then-next r) (atStep 21 (me t)) ≡ liveFor r (me t)
   unfolding liveFor
-  live-20-then = split-advances (r .originals) (r .level) (r .next) (i .extents-ok .root-next) ∙ sym live-at-20
+  live-20-then = split-advances (r .originals) (r .level) (r .next) (t .inv .extents-ok .root-next) ∙ sym live-at-20
 
   fits-20-then : size (r .originals) (extent (r .level) then-next) ≤ r .primaries
   fits-20-then =
-      let l = rw (i .extents-ok .live-by q mine-at-20 ∙ live-at-20) at (i .extents-ok .live-fits) in
-      omega (arith, split-next-size (r .originals) (r .level) (r .next) (i .extents-ok .root-next), l)
+      let l = rw (t .inv .extents-ok .live-by q (restructures-now t) ∙ live-at-20) at (t .inv .extents-ok .live-fits) in
+      omega (arith, split-next-size (r .originals) (r .level) (r .next) (t .inv .extents-ok .root-next), l)
 
   pub step20-kept : Kept m b q (step20 (viewOf m q))
-  unfolding step20 refusalNumber agreesWith afterReply claims
-  step20-kept = record {
-    allowed = refl;
-    right = refl;
-    inv = rw (still-noted b q (b .entries q) (p .step) (omega arith) (omega arith) (omega arith))
-        (moves-on m b i q in-row 20 (r .level) then-next mine-at-20 (restructures-at (atStep 21 p) 21 refl) live-20-then
-        (low-at (withNext then-next r) (atStep 21 p) 21 refl refl ∙ live-20-then ∙ sym (low-at r p 20 is-twenty refl)) (omega arith)
-        (split-next-fits (r .originals) (r .level) (r .next) (i .limits .some-original)) fits-20-then (sym (claims-at r p 20 is-twenty)) (uses-none p 20 is-twenty refl)
-        at-twenty (has-next (p .operation) .0 ∙ has-at (sceneOf m (i .ghost) b) q p (at-twenty .entered) (at-twenty .busy) 20 is-twenty) (at-twenty .facts)
-        (λ s e f. f) (omega arith));
-  }
+  unfolding step20 hasStep
+  step20-kept =
+      root-kept t (r .level) then-next
+      (record {
+        plain = refl;
+        late = omega arith;
+        mine = refl;
+        still-mine = refl;
+        has-next = has-step t;
+        same-claims = refl;
+        same-live = live-20-then;
+        same-low = low-at (withNext then-next r) (atStep 21 (me t)) 21 refl refl ∙ live-20-then ∙ sym (low-at r (me t) 20 (t .is-at) refl);
+        level-rises = omega arith;
+        next-fits = split-next-fits (r .originals) (r .level) (r .next) (t .inv .limits .some-original);
+        fits = fits-20-then;
+        leaving = t .facts;
+        settles = λ s f. f;
+      })
 
 -- ---- 21
 
@@ -229,44 +227,41 @@ level-rises : (level next : ℕ) → level ≤ splitLevel level next
 unfolding splitLevel
 level-rises level next = cond-ind (λ (l : ℕ). level ≤ l) (eqb next 0) (level + 1) level (λ _. omega arith) (λ _. omega arith)
 
-module _ (m : Memory) (b : Book) (i : Inv m b) (q : ℕ) (in-row : q < m .root .parties) (is-twenty-one : partyAt (m .parties) q .step ≡ 21) where
+module _ {m : Memory} {b : Book} {q : ℕ} (t : Turn m b q 21) where
   abbrev root : Root
   root = m .root
 
-  abbrev party : Party
-  party = partyAt (m .parties) q
-
   abbrev then-level : ℕ
-  then-level = splitLevel (root .level) (root .next)
+  then-level = splitLevel (m .root .level) (m .root .next)
 
-  at-twenty-one : At 21 (sceneOf m (i .ghost) b) q party
-  at-twenty-one = facts-at 20 (sceneOf m (i .ghost) b) q party is-twenty-one (i .parties-ok q in-row)
-
-  mine-at-21 : restructures party ≡ true
-  mine-at-21 = restructures-at party 21 is-twenty-one
-
-  live-at-21 : liveFor root party ≡ extent then-level (root .next)
+  live-at-21 : liveFor root (me t) ≡ extent then-level (root .next)
   unfolding liveFor
-  live-at-21 = rw is-twenty-one (level-raised (root .level) (root .next))
+  live-at-21 = rw (t .is-at) (level-raised (root .level) (root .next))
 
-  live-21-then : liveFor (withLevel then-level root) (atStep 22 party) ≡ liveFor root party
+  live-21-then : liveFor (withLevel then-level root) (atStep 22 (me t)) ≡ liveFor root (me t)
   unfolding liveFor
   live-21-then = sym live-at-21
 
   -- The root then says how far the live file extends.
-  live-is : i .ghost .live ≡ extent then-level (root .next)
-  live-is = i .extents-ok .live-by q mine-at-21 ∙ live-at-21
+  live-is : t .inv .ghost .live ≡ extent then-level (root .next)
+  live-is = t .inv .extents-ok .live-by q (restructures-now t) ∙ live-at-21
 
   pub step21-kept : Kept m b q (step21 (viewOf m q))
-  unfolding step21 refusalNumber agreesWith afterReply claims
-  step21-kept = record {
-    allowed = refl;
-    right = refl;
-    inv = rw (still-noted b q (b .entries q) (party .step) (omega arith) (omega arith) (omega arith))
-        (moves-on m b i q in-row 21 then-level (root .next) mine-at-21 (restructures-at (atStep 22 party) 22 refl) live-21-then
-        (low-at (withLevel then-level root) (atStep 22 party) 22 refl refl ∙ live-21-then ∙ sym (low-at root party 21 is-twenty-one refl))
-        (level-rises (root .level) (root .next)) (rw live-is at (i .extents-ok .live-next)) (rw live-is at (i .extents-ok .live-fits)) (sym (claims-at root party 21 is-twenty-one))
-        (uses-none party 21 is-twenty-one refl) at-twenty-one
-        (has-next (party .operation) .1 ∙ has-at (sceneOf m (i .ghost) b) q party (at-twenty-one .entered) (at-twenty-one .busy) 21 is-twenty-one) (at-twenty-one .facts)
-        (λ s e f. f) (omega arith));
-  }
+  unfolding step21 hasStep
+  step21-kept =
+      root-kept t then-level (root .next)
+      (record {
+        plain = refl;
+        late = omega arith;
+        mine = refl;
+        still-mine = refl;
+        has-next = has-step t;
+        same-claims = refl;
+        same-live = live-21-then;
+        same-low = low-at (withLevel then-level root) (atStep 22 (me t)) 22 refl refl ∙ live-21-then ∙ sym (low-at root (me t) 21 (t .is-at) refl);
+        level-rises = level-rises (root .level) (root .next);
+        next-fits = rw live-is at (t .inv .extents-ok .live-next);
+        fits = rw live-is at (t .inv .extents-ok .live-fits);
+        leaving = t .facts;
+        settles = λ s f. f;
+      })

@@ -9,7 +9,6 @@ use Prim.Native.Nat.{ℕ, _<_}
 use native.Mathlib.Omega.{arith}
 use lib.ListN.{length, set}
 use lib.Dec.{eqb}
-use Rattle.model.specs.declared.Root.{Root}
 use Rattle.model.specs.declared.Party.{Party}
 use Rattle.model.specs.declared.Mode.{Mode}
 use Rattle.model.specs.declared.Mode.the-variants.{Read, Selective}
@@ -20,28 +19,30 @@ use Rattle.model.specs.Addresses.{hash, addressOf}
 use Rattle.model.specs.Entries.{Entry, hasKey, ascending}
 use Rattle.model.specs.Pages.{pageOf, withPage, scratchPage, primaryPage, linkToFirst, pageSound}
 use Rattle.model.specs.Memory.{Memory, partyAt, viewOf}
-use Rattle.model.specs.Book.{Book, Entered, isIn, changedAt, withEntry, withContent, noted, noteAtEleven, contentAtEleven, noteStep, noteFor, agreesWith, afterReply}
+use Rattle.model.specs.Book.{Book, Entered, isIn, changedAt, withEntry, withContent, noted, noteAtEleven, contentAtEleven, noteStep, noteFor}
 use Rattle.model.specs.Holds.{sameMode}
 use Rattle.model.specs.LockRequests.{modeOf}
 use Rattle.model.specs.Steps.Rebuild.{splitOwed, mergeOwed, owedBy}
 use Rattle.model.specs.ScratchPages.{primaryWritten}
 use Rattle.model.specs.Steps.Write.{step11}
 use Rattle.model.specs.Steps.Dispatch.{hasStep}
-use Rattle.model.specs.Answers.{answerOf, refusalNumber}
+use Rattle.model.specs.Answers.{answerOf}
 use Rattle.model.proofs.Laws.Lists.{Cmp, same, diff, cmp, eqb-same, eqb-diff}
+use Rattle.model.proofs.Laws.Structure.{ChainIs}
+use Rattle.model.proofs.Laws.Changes.{ChangeMade, change-made}
 use Rattle.model.proofs.Invariant.Ghost.{Owner, owner, free, inChain, oldOf, partnerOf, builtBy, newBy, size, localLevel, sameOwner, Ghost}
 use Rattle.model.proofs.Invariant.Owners.{kinds-apart, indices-apart, ownAnew, heldAnew, anew-chain, anew-old, anew-built, anew-other, owned-anew, own-anew-old, own-anew-other, kinds-anew}
-use Rattle.model.proofs.Laws.Structure.{ChainIs}
 use Rattle.model.proofs.Invariant.Extents.{home-is}
-use Rattle.model.proofs.Laws.Changes.{ChangeMade, change-made}
 use Rattle.model.proofs.Invariant.Claims.{claims, isClaimed, claimed}
 use Rattle.model.proofs.Invariant.LockMoves.{locks-stay}
-use Rattle.model.proofs.Invariant.Statement.{restructures, uses, PagesOk, BookOk, Scene, Protected, Rebuilt, Leaving, made-change, owedFits, PartyOk, working, Inv, sceneOf}
+use Rattle.model.proofs.Invariant.Statement.{restructures, uses, PagesOk, BookOk, Scene, Protected, Rebuilt, Leaving, made-change, owedFits, PartyOk, working}
 use Rattle.model.proofs.Invariant.Frame.{Keeps, still-grows, holds-selectively}
-use Rattle.model.proofs.Effects.Kept.{Kept, row-other, row-chain, extents-move, assemble}
+use Rattle.model.proofs.Invariant.Facts.{used-outside, changed-here, changed-elsewhere}
+use Rattle.model.proofs.Invariant.Turn.{Turn, has-step, its-claims, row-long, me, before, uses-none}
+use Rattle.model.proofs.Effects.Kept.{Kept, row-other, row-chain, Parts, moved-kept}
 use Rattle.model.proofs.Effects.OwnRecord.{same-limits, same-sizes}
 use Rattle.model.proofs.Effects.PrimaryPage.{held-alone, length-scratch, built-sound, primary-off, primary-same, primary-long, written-here, written-beside, old-linked, free-beside, read-beside}
-use Rattle.model.proofs.Invariant.Facts.{At, facts-at, used-outside, changed-here, changed-elsewhere}
+use Rattle.model.proofs.Effects.Moves.{extents-rest}
 
 -- What a change owes is one of the things that may be owed.
 owed-may : (n before now : ℕ) (es : List Entry) → hasStep n 11 ≡ true → owedFits n (owedBy n before now es) ≡ true
@@ -57,26 +58,7 @@ owed-may n before now es h = go (eqb n 1) (eqb n 2) (eqb n 3) (splitOwed before 
     go true false false t u h = absurd (false≢true h)
     go false false false t u h = absurd (false≢true h)
 
--- A party at 11 restructures nothing, uses no page outside the live file, and claims at 12 what it claims at 11.
-rests-at : (p : Party) → p .step ≡ 11 → restructures p ≡ false
-unfolding restructures
-rests-at p e = rw e refl
-
-used-at : (p : Party) → p .step ≡ 11 → (d : ℕ) → uses p d ≡ false
-unfolding uses
-used-at p e d = rw e refl
-
-claims-alike : (r : Root) (p : Party) → p .step ≡ 11 → claims r (atStep 12 p) ≡ claims r p
-unfolding claims modeOf
-claims-alike r p e = rw e refl
-
-module _ (m : Memory) (b : Book) (i : Inv m b) (q : ℕ) (in-row : q < m .root .parties) (is-eleven : partyAt (m .parties) q .step ≡ 11) where
-  abbrev me : Party
-  me = partyAt (m .parties) q
-
-  abbrev before : Scene
-  before = sceneOf m (i .ghost) b
-
+module _ {m : Memory} {b : Book} {q : ℕ} (t : Turn m b q 11) where
   abbrev here : ℕ
   here = partyAt (m .parties) q .chain
 
@@ -84,48 +66,42 @@ module _ (m : Memory) (b : Book) (i : Inv m b) (q : ℕ) (in-row : q < m .root .
   scratch = pageOf (m .pages) (scratchPage (m .root) q)
 
   abbrev level : ℕ
-  level = localLevel (m .root .originals) (i .ghost .live) here
-
-  row-long : q < length (m .parties)
-  row-long = omega (arith, i .parties-many)
-
-  at-eleven : At 11 before q me
-  at-eleven = facts-at 10 before q me is-eleven (i .parties-ok q in-row)
+  level = localLevel (m .root .originals) (t .inv .ghost .live) here
 
   abbrev entered : Entered
-  entered = at-eleven .entered
+  entered = t .entered
 
-  facts : Rebuilt before q me
-  facts = at-eleven .facts
+  facts : Rebuilt (before t) q (me t)
+  facts = t .facts
 
   abbrev after : List Entry
   after = facts .after
 
   abbrev built : List ℕ
-  built = i .ghost .held (builtBy q)
+  built = t .inv .ghost .held (builtBy q)
 
   -- ---- The page written
 
   abbrev pages-then : List ℕ
   pages-then = withPage (m .pages) (primaryPage here) scratch
 
-  live-here : here < size (m .root .originals) (i .ghost .live)
+  live-here : here < size (m .root .originals) (t .inv .ghost .live)
   live-here = facts .at-home .heads .inside
 
   fits : here < m .root .primaries
-  fits = at-eleven .busy .chain-fits
+  fits = t .busy .chain-fits
 
   whole : length scratch ≡ pageWords
-  whole = length-scratch m b i q in-row
+  whole = length-scratch m b (t .inv) q (t .in-row)
 
   off : (x : ℕ) → x ≢ here → pageOf pages-then x ≡ pageOf (m .pages) x
-  off = primary-off m b i here fits scratch whole
+  off = primary-off m b (t .inv) here fits scratch whole
 
   chain-then : ChainIs (m .root .capacity) pages-then here level after built
-  chain-then = written-here m b i here fits scratch whole level after (builtBy q) (facts .building .scratch-is) (facts .building .built)
+  chain-then = written-here m b (t .inv) here fits scratch whole level after (builtBy q) (facts .building .scratch-is) (facts .building .built)
 
   scratch-sound : pageSound (m .root) scratch ≡ true
-  scratch-sound = built-sound m b i q level after (facts .building) (omega (arith, facts .at-home .exact, at-eleven .busy .lev-fits))
+  scratch-sound = built-sound m b (t .inv) q level after (facts .building) (omega (arith, facts .at-home .exact, t .busy .lev-fits))
 
   -- ---- Ghost, record and book afterwards
 
@@ -134,11 +110,11 @@ module _ (m : Memory) (b : Book) (i : Inv m b) (q : ℕ) (in-row : q < m .root .
 
   abbrev ghost-then : Ghost
   ghost-then = record {
-    own = ownAnew (i .ghost .own) (i .ghost .held) here q;
-    held = heldAnew (i .ghost .held) here q;
-    records = changedAt (i .ghost .records) here after;
-    live = i .ghost .live;
-    low = i .ghost .low;
+    own = ownAnew (t .inv .ghost .own) (t .inv .ghost .held) here q;
+    held = heldAnew (t .inv .ghost .held) here q;
+    records = changedAt (t .inv .ghost .records) here after;
+    live = t .inv .ghost .live;
+    low = t .inv .ghost .low;
   }
 
   abbrev was-in : Bool
@@ -154,10 +130,10 @@ module _ (m : Memory) (b : Book) (i : Inv m b) (q : ℕ) (in-row : q < m .root .
   then-scene = record { root = m .root; parties = set (m .parties) q then-party; pages = pages-then; ghost = ghost-then; entries = book-then .entries }
 
   -- A list of pages that is neither the chain's nor this party's old or built pages stays.
-  held-kept : (o : Owner) → sameOwner o (inChain here) ≡ false → sameOwner o (oldOf q) ≡ false → sameOwner o (builtBy q) ≡ false → ghost-then .held o ≡ i .ghost .held o
-  held-kept o a d e = anew-other (i .ghost .held) here q o a d e
+  held-kept : (o : Owner) → sameOwner o (inChain here) ≡ false → sameOwner o (oldOf q) ≡ false → sameOwner o (builtBy q) ≡ false → ghost-then .held o ≡ t .inv .ghost .held o
+  held-kept o a d e = anew-other (t .inv .ghost .held) here q o a d e
 
-  other-chain : (d : ℕ) → d ≢ here → ghost-then .held (inChain d) ≡ i .ghost .held (inChain d)
+  other-chain : (d : ℕ) → d ≢ here → ghost-then .held (inChain d) ≡ t .inv .ghost .held (inChain d)
   other-chain d n =
       held-kept (inChain d) (indices-apart (inChain d) (inChain here) n) (kinds-apart (inChain d) (oldOf q) refl) (kinds-apart (inChain d) (builtBy q) refl)
 
@@ -165,103 +141,103 @@ module _ (m : Memory) (b : Book) (i : Inv m b) (q : ℕ) (in-row : q < m .root .
 
   holds-here : claimed (m .root) (m .parties) (chainWord here) q Selective ≡ true
   unfolding hasStep
-  holds-here = holds-selectively before q me entered 11 is-eleven (at-eleven .busy) (λ o. refl) refl
+  holds-here = holds-selectively (before t) q (me t) entered 11 (t .is-at) (t .busy) (λ o. refl) refl
 
   -- Nobody else holds the chain but to read it.
   only-mine : (j : ℕ) → j ≢ q → (d : ℕ) (o : Mode) → isClaimed (claims (m .root) (partyAt (m .parties) j)) (chainWord d) o ≡ true → sameMode o Read ≡ false → d ≢ here
   unfolding sameMode
-  only-mine = held-alone m b i q here Selective fits refl holds-here
+  only-mine = held-alone m b (t .inv) q here Selective fits refl holds-here
 
   -- A page that a reader may walk stays, and stays protected: the chain's pages are now to be given back for it.
-  read-page : (c x : ℕ) → Protected before c x → Protected then-scene c x × (pageOf pages-then x ≡ pageOf (m .pages) x)
+  read-page : (c x : ℕ) → Protected (before t) c x → Protected then-scene c x × (pageOf pages-then x ≡ pageOf (m .pages) x)
   read-page =
-      read-beside m b i here fits scratch whole then-scene refl q refl (own-anew-old (i .pages-ok .owned) here q)
-      (λ x o k n y. own-anew-other (i .pages-ok .owned) here q x (rw y n) (rw y (kinds-apart o (builtBy q) (eqb-diff (o .kind) 5 (omega arith)))) ∙ y)
-      (row-chain (m .parties) q then-party row-long refl)
+      read-beside m b (t .inv) here fits scratch whole then-scene refl q refl (own-anew-old (t .inv .pages-ok .owned) here q)
+      (λ x o k n y. own-anew-other (t .inv .pages-ok .owned) here q x (rw y n) (rw y (kinds-apart o (builtBy q) (eqb-diff (o .kind) 5 (omega arith)))) ∙ y)
+      (row-chain (m .parties) q then-party (row-long t) refl)
 
-  keeps-others : (j : ℕ) → j ≢ q → Keeps before then-scene j (partyAt (m .parties) j)
+  keeps-others : (j : ℕ) → j ≢ q → Keeps (before t) then-scene j (partyAt (m .parties) j)
   keeps-others j n = record {
     sizes = same-limits (m .root);
-    grows = still-grows before then-scene (partyAt (m .parties) j) (record { level= = refl; next= = refl; live= = refl; low= = refl });
+    grows = still-grows (before t) then-scene (partyAt (m .parties) j) (record { level= = refl; next= = refl; live= = refl; low= = refl });
     entry= = changed-elsewhere (b .entries) q (some entry-then) j n;
     ours = λ k a d. (
       held-kept (owner k j) (kinds-apart (owner k j) (inChain here) (eqb-diff k 2 (omega arith))) (indices-apart (owner k j) (oldOf q) n) (indices-apart (owner k j) (builtBy q) n),
-      primary-same m b i here fits scratch whole (owner k j),
+      primary-same m b (t .inv) here fits scratch whole (owner k j),
     );
     scratch= = off (scratchPage (m .root) j) (omega (arith, fits));
     chain= = λ d o h r _.
         let e = only-mine j n d o h r in
-        (changed-elsewhere (i .ghost .records) here after d e, other-chain d e);
+        (changed-elsewhere (t .inv .ghost .records) here after d e, other-chain d e);
     reading = λ x e h. read-page (partyAt (m .parties) j .chain) x h;
-    spare = λ u. off (partyAt (m .parties) j .other) (let z = used-outside m b i j (partyAt (m .parties) j .other) u in omega (arith, live-here));
+    spare = λ u. off (partyAt (m .parties) j .other) (let z = used-outside m b (t .inv) j (partyAt (m .parties) j .other) u in omega (arith, live-here));
   }
 
   -- ---- The pages
 
-  change : ChangeMade (entered .operation) (me .key) (i .ghost .records here) (me .answer) after
+  change : ChangeMade (entered .operation) (me t .key) (t .inv .ghost .records here) (me t .answer) after
   change =
-      change-made (me .key) (i .ghost .records here) (me .answer) after (entered .operation) (me .operation) (at-eleven .busy .same-operation)
-      (subst (λ (n : ℕ). hasStep (me .operation) n ≡ true) is-eleven (at-eleven .busy .step-fits)) (facts .change)
+      change-made (me t .key) (t .inv .ghost .records here) (me t .answer) after (entered .operation) (me t .operation) (t .busy .same-operation)
+      (subst (λ (n : ℕ). hasStep (me t .operation) n ≡ true) (t .is-at) (t .busy .step-fits)) (facts .change)
 
-  free-then : ghost-then .held free ≡ i .ghost .held free
+  free-then : ghost-then .held free ≡ t .inv .ghost .held free
   free-then = held-kept free (kinds-apart free (inChain here) refl) (kinds-apart free (oldOf q) refl) (kinds-apart free (builtBy q) refl)
 
-  each-chain : (d : ℕ) → Cmp d here → d < size (m .root .originals) (i .ghost .live)
-      → ChainIs (m .root .capacity) pages-then d (localLevel (m .root .originals) (i .ghost .live) d) (ghost-then .records d) (ghost-then .held (inChain d))
+  each-chain : (d : ℕ) → Cmp d here → d < size (m .root .originals) (t .inv .ghost .live)
+      → ChainIs (m .root .capacity) pages-then d (localLevel (m .root .originals) (t .inv .ghost .live) d) (ghost-then .records d) (ghost-then .held (inChain d))
   each-chain d (same e) l =
-      subst (λ (k : ℕ). ChainIs (m .root .capacity) pages-then k (localLevel (m .root .originals) (i .ghost .live) k) (ghost-then .records k) (ghost-then .held (inChain k))) (sym e)
-      (rw (changed-here (i .ghost .records) here after here refl, anew-chain (i .ghost .held) here q) chain-then)
+      subst (λ (k : ℕ). ChainIs (m .root .capacity) pages-then k (localLevel (m .root .originals) (t .inv .ghost .live) k) (ghost-then .records k) (ghost-then .held (inChain k))) (sym e)
+      (rw (changed-here (t .inv .ghost .records) here after here refl, anew-chain (t .inv .ghost .held) here q) chain-then)
   each-chain d (diff n) l =
-      rw (changed-elsewhere (i .ghost .records) here after d n, other-chain d n)
-      (written-beside m b i here fits scratch whole d _ (i .ghost .records d) (inChain d) n (i .pages-ok .chain d l))
+      rw (changed-elsewhere (t .inv .ghost .records) here after d n, other-chain d n)
+      (written-beside m b (t .inv) here fits scratch whole d _ (t .inv .ghost .records d) (inChain d) n (t .inv .pages-ok .chain d l))
 
   -- Each key is the operation's or was there before.
-  each-homed : (d : ℕ) → Cmp d here → d < size (m .root .originals) (i .ghost .live) → (k : ℕ) → hasKey k (ghost-then .records d) ≡ true
-      → hash (m .root .originals) (localLevel (m .root .originals) (i .ghost .live) d) k ≡ d
-  each-homed d (diff n) l k h = i .pages-ok .homed d l k (rw (changed-elsewhere (i .ghost .records) here after d n) at h)
-  each-homed d (same e) l k h = subst (λ (c : ℕ). hash (m .root .originals) (localLevel (m .root .originals) (i .ghost .live) c) k ≡ c) (sym e) (go (cmp k (me .key)))
+  each-homed : (d : ℕ) → Cmp d here → d < size (m .root .originals) (t .inv .ghost .live) → (k : ℕ) → hasKey k (ghost-then .records d) ≡ true
+      → hash (m .root .originals) (localLevel (m .root .originals) (t .inv .ghost .live) d) k ≡ d
+  each-homed d (diff n) l k h = t .inv .pages-ok .homed d l k (rw (changed-elsewhere (t .inv .ghost .records) here after d n) at h)
+  each-homed d (same e) l k h = subst (λ (c : ℕ). hash (m .root .originals) (localLevel (m .root .originals) (t .inv .ghost .live) c) k ≡ c) (sym e) (go (cmp k (me t .key)))
     where
       has-then : hasKey k after ≡ true
-      has-then = ap (hasKey k) (sym (changed-here (i .ghost .records) here after d e)) ∙ h
+      has-then = ap (hasKey k) (sym (changed-here (t .inv .ghost .records) here after d e)) ∙ h
 
-      go : Cmp k (me .key) → hash (m .root .originals) level k ≡ here
+      go : Cmp k (me t .key) → hash (m .root .originals) level k ≡ here
       go (same s) =
-          ap (λ (x : ℕ). hash (m .root .originals) level x) s ∙ ap (λ (x : ℕ). hash (m .root .originals) x (me .key)) (sym (facts .at-home .exact)) ∙ facts .at-home .heads .there
-      go (diff n) = i .pages-ok .homed here live-here k (sym (change .keys none k ∙ (rw (eqb-diff k (me .key) n))) ∙ has-then)
+          ap (λ (x : ℕ). hash (m .root .originals) level x) s ∙ ap (λ (x : ℕ). hash (m .root .originals) x (me t .key)) (sym (facts .at-home .exact)) ∙ facts .at-home .heads .there
+      go (diff n) = t .inv .pages-ok .homed here live-here k (sym (change .keys none k ∙ (rw (eqb-diff k (me t .key) n))) ∙ has-then)
 
   unused-before : (d : ℕ) → ((j : ℕ) → uses (partyAt (set (m .parties) q then-party) j) d ≡ false) → (j : ℕ) → Cmp j q → uses (partyAt (m .parties) j) d ≡ false
-  unused-before d u j (same e) = rw e (used-at me is-eleven d)
+  unused-before d u j (same e) = rw e (uses-none t refl d)
   unused-before d u j (diff n) = rw (row-other (m .parties) q j then-party n) at (u j)
 
   pages-ok-then : PagesOk (m .root) (set (m .parties) q then-party) pages-then ghost-then
   pages-ok-then =
-      let ok = i .pages-ok in
+      let ok = t .inv .pages-ok in
       record {
         owned = owned-anew (ok .owned) here q (facts .nothing-old .no-old);
         kinds = λ x. kinds-anew (ok .owned) here q x (ok .kinds x);
         beyond = λ d l. other-chain d (omega (arith, live-here)) ∙ ok .beyond d l;
         head-is = ok .head-is ∙ ap linkToFirst (sym free-then);
         free-count = ok .free-count ∙ ap length (sym free-then);
-        free-pages = rw free-then (free-beside m b i here fits scratch whole);
+        free-pages = rw free-then (free-beside m b (t .inv) here fits scratch whole);
         chain = λ d l. each-chain d (cmp d here) l;
         ascends = λ d l. ascends-then d l (cmp d here);
         homed = λ d l. each-homed d (cmp d here) l;
         dead = λ d far r u. off d (omega (arith, live-here)) ∙ ok .dead d far r (λ j. unused-before d u j (cmp j q));
       }
     where
-      ascends-then : (d : ℕ) → d < size (m .root .originals) (i .ghost .live) → Cmp d here → ascending (ghost-then .records d) ≡ true
-      ascends-then d l (same e) = rw (changed-here (i .ghost .records) here after d e) (change .ascends (i .pages-ok .ascends here live-here))
-      ascends-then d l (diff n) = rw (changed-elsewhere (i .ghost .records) here after d n) (i .pages-ok .ascends d l)
+      ascends-then : (d : ℕ) → d < size (m .root .originals) (t .inv .ghost .live) → Cmp d here → ascending (ghost-then .records d) ≡ true
+      ascends-then d l (same e) = rw (changed-here (t .inv .ghost .records) here after d e) (change .ascends (t .inv .pages-ok .ascends here live-here))
+      ascends-then d l (diff n) = rw (changed-elsewhere (t .inv .ghost .records) here after d n) (t .inv .pages-ok .ascends d l)
 
   -- ---- The book
 
   home : ℕ → ℕ
-  home k = addressOf (m .root .originals) (i .ghost .live .level) (i .ghost .live .next) k
+  home k = addressOf (m .root .originals) (t .inv .ghost .live .level) (t .inv .ghost .live .next) k
 
-  home-here : home (me .key) ≡ here
+  home-here : home (me t .key) ≡ here
   unfolding home
   home-here =
-      home-is (m .root .originals) (i .ghost .live) here (me .lev) (me .key) (i .limits .some-original) (omega (arith, i .extents-ok .live-next)) (facts .at-home .heads) (facts .at-home .exact)
+      home-is (m .root .originals) (t .inv .ghost .live) here (me t .lev) (me t .key) (t .inv .limits .some-original) (omega (arith, t .inv .extents-ok .live-next)) (facts .at-home .heads) (facts .at-home .exact)
 
   book-ok-then : BookOk (m .root) ghost-then book-then
   unfolding home
@@ -269,88 +245,79 @@ module _ (m : Memory) (b : Book) (i : Inv m b) (q : ℕ) (in-row : q < m .root .
     where
       go : (k : ℕ) → Cmp k (entered .key) → Cmp (home k) here → isIn (book-then .contents k) ≡ hasKey k (ghost-then .records (home k))
       go k (same e) h =
-          let mine : k ≡ me .key = e ∙ at-eleven .busy .same-key in
+          let mine : k ≡ me t .key = e ∙ t .busy .same-key in
           let there : home k ≡ here = ap home mine ∙ home-here in
-          rw (changed-here (b .contents) (entered .key) _ k e, changed-here (i .ghost .records) here after (home k) there, change .keys (b .contents (entered .key)) k, eqb-same k (me .key) mine) refl
+          rw (changed-here (b .contents) (entered .key) _ k e, changed-here (t .inv .ghost .records) here after (home k) there, change .keys (b .contents (entered .key)) k, eqb-same k (me t .key) mine) refl
       go k (diff n) (same h) =
-          rw (changed-elsewhere (b .contents) (entered .key) _ k n, changed-here (i .ghost .records) here after (home k) h)
-          (i .book-ok .same k ∙ ap (λ (c : ℕ). hasKey k (i .ghost .records c)) h
-          ∙ sym (change .keys none k ∙ (rw (eqb-diff k (me .key) (λ e. n (e ∙ sym (at-eleven .busy .same-key)))))))
+          rw (changed-elsewhere (b .contents) (entered .key) _ k n, changed-here (t .inv .ghost .records) here after (home k) h)
+          (t .inv .book-ok .same k ∙ ap (λ (c : ℕ). hasKey k (t .inv .ghost .records c)) h
+          ∙ sym (change .keys none k ∙ (rw (eqb-diff k (me t .key) (λ e. n (e ∙ sym (t .busy .same-key)))))))
       go k (diff n) (diff h) =
-          rw (changed-elsewhere (b .contents) (entered .key) _ k n, changed-elsewhere (i .ghost .records) here after (home k) h) (i .book-ok .same k)
+          rw (changed-elsewhere (b .contents) (entered .key) _ k n, changed-elsewhere (t .inv .ghost .records) here after (home k) h) (t .inv .book-ok .same k)
 
   -- The note is the answer: the key was in exactly where it was on the chain.
-  noted-then : entry-then .note ≡ some (answerOf (me .answer))
+  noted-then : entry-then .note ≡ some (answerOf (me t .answer))
   unfolding home
   noted-then = ap some (ap (noteAtEleven (entered .operation)) there ∙ change .noted)
     where
-      there : was-in ≡ hasKey (me .key) (i .ghost .records here)
+      there : was-in ≡ hasKey (me t .key) (t .inv .ghost .records here)
       there =
-          ap (λ (k : ℕ). isIn (b .contents k)) (at-eleven .busy .same-key) ∙ i .book-ok .same (me .key)
-          ∙ ap (λ (c : ℕ). hasKey (me .key) (i .ghost .records c)) home-here
+          ap (λ (k : ℕ). isIn (b .contents k)) (t .busy .same-key) ∙ t .inv .book-ok .same (me t .key)
+          ∙ ap (λ (c : ℕ). hasKey (me t .key) (t .inv .ghost .records c)) home-here
 
   -- ---- The party at 12
 
   leaving-then : Leaving then-scene q then-party entry-then
   leaving-then = record {
     noted = noted-then;
-    made = change .made ∙ ap (λ (n : ℕ). cond (eqb n 2) 1 3) (at-eleven .busy .same-operation);
+    made = change .made ∙ ap (λ (n : ℕ). cond (eqb n 2) 1 3) (t .busy .same-operation);
     trash = record {
-      link = facts .keeps-link ∙ ap linkToFirst (sym (anew-old (i .ghost .held) here q));
-      linked = rw (anew-old (i .ghost .held) here q) (old-linked m b i here fits scratch whole live-here);
+      link = facts .keeps-link ∙ ap linkToFirst (sym (anew-old (t .inv .ghost .held) here q));
+      linked = rw (anew-old (t .inv .ghost .held) here q) (old-linked m b (t .inv) here fits scratch whole live-here);
     };
     no-partner = own-kept (partnerOf q) refl refl refl ∙ facts .nothing-old .no-partner;
-    nothing-built = record { no-built = anew-built (i .ghost .held) here q; no-new = own-kept (newBy q) refl refl refl ∙ facts .no-new };
+    nothing-built = record { no-built = anew-built (t .inv .ghost .held) here q; no-new = own-kept (newBy q) refl refl refl ∙ facts .no-new };
   }
     where
-      own-kept : (o : Owner) → eqb (o .kind) 2 ≡ false → eqb (o .kind) 3 ≡ false → eqb (o .kind) 5 ≡ false → ghost-then .held o ≡ i .ghost .held o
+      own-kept : (o : Owner) → eqb (o .kind) 2 ≡ false → eqb (o .kind) 3 ≡ false → eqb (o .kind) 5 ≡ false → ghost-then .held o ≡ t .inv .ghost .held o
       own-kept o a d e = held-kept o (kinds-apart o (inChain here) a) (kinds-apart o (oldOf q) d) (kinds-apart o (builtBy q) e)
 
   self-then : PartyOk then-scene q then-party
   unfolding hasStep
   self-then =
-      let k = at-eleven .busy in
-      let has : hasStep (me .operation) 11 ≡ true = subst (λ (n : ℕ). hasStep (me .operation) n ≡ true) is-eleven (k .step-fits) in
+      let k = t .busy in
       working entry-then
       (record {
         entry = changed-here (b .entries) q (some entry-then) q refl;
         same-operation = k .same-operation;
         same-key = k .same-key;
-        step-fits = has;
+        step-fits = has-step t;
         lev-fits = k .lev-fits;
         owed-fits = k .owed-fits;
         answer-fits = k .answer-fits;
-        answer-set = λ _ z. some-answer (eqb (me .operation) 2) (sym (leaving-then .made) ∙ z);
+        answer-set = λ _ z. some-answer (eqb (me t .operation) 2) (sym (leaving-then .made) ∙ z);
         chain-fits = k .chain-fits;
         other-fits = k .other-fits;
       })
-      (made-change leaving-then (rw (facts .owed-is) (owed-may (me .operation) _ _ after has)))
+      (made-change leaving-then (rw (facts .owed-is) (owed-may (me t .operation) _ _ after (has-step t))))
     where
-      some-answer : (t : Bool) → cond {A = ℕ} t 1 3 ≢ 0
+      some-answer : (x : Bool) → cond {A = ℕ} x 1 3 ≢ 0
       some-answer true e = omega arith
       some-answer false e = omega arith
 
-  written-inv : Inv (record { root = m .root; parties = set (m .parties) q then-party; locks = m .locks; pages = pages-then }) book-then
-  unfolding restructures
-  written-inv = assemble m b i q in-row (m .root) (m .locks) pages-then then-party book-then ghost-then (record {
+  parts-then : Parts m b (t .inv) q (m .root) (m .locks) pages-then then-party book-then ghost-then
+  unfolding restructures claims modeOf
+  parts-then = record {
     sizes = same-limits (m .root);
-    pages-many = primary-long m b i here fits scratch whole;
-    extents =
-        extents-move (m .root) (m .root) (same-sizes (m .root)) (m .parties) (i .ghost) ghost-then refl refl q then-party row-long (sym (rests-at me is-eleven))
-        (λ e. absurd (false≢true e)) (λ e. absurd (false≢true e)) (i .extents-ok);
-    locks = locks-stay (m .root) (m .parties) q then-party row-long (claims-alike (m .root) me is-eleven) (i .locks-ok);
+    pages-many = primary-long m b (t .inv) here fits scratch whole;
+    extents = extents-rest t (record { sizes = same-sizes (m .root); live= = refl; low= = refl }) then-party refl refl;
+    locks = locks-stay (m .root) (m .parties) q then-party (row-long t) (sym (its-claims t)) (t .inv .locks-ok);
     pages = pages-ok-then;
     book = book-ok-then;
     self = self-then;
     others = keeps-others;
-  })
+  }
 
   pub step11-kept : Kept m b q (step11 (viewOf m q))
-  unfolding step11 primaryWritten refusalNumber agreesWith afterReply noteFor noteStep
-  step11-kept =
-      rw scratch-sound
-      (record {
-        allowed = refl;
-        right = refl;
-        inv = rw (at-eleven .busy .entry, is-eleven) written-inv;
-      })
+  unfolding step11 primaryWritten noteFor noteStep
+  step11-kept = rw scratch-sound (moved-kept t (rw (t .busy .entry, t .is-at) refl) parts-then)

@@ -1,53 +1,50 @@
 -- Each of the thirty steps on its view and on the page memory beside it.
 -- Main statement: step-reads (of every step number).
-use mathlib.Core.Path.{_≡_, refl, sym, ap, _∙_}
-use mathlib.Core.Bool.{Bool, true, false, cond, not, _&&_, false≢true}
+use mathlib.Core.Path.{_≡_, refl, _∙_}
+use mathlib.Core.Bool.{Bool, true, false, not, _&&_, false≢true}
 use mathlib.Core.List.{List, [], _∷_, _++_, map-append}
-use Prim.Native.Nat.{ℕ, _+_, _-_, _≤_, _<_}
+use Prim.Native.Nat.{ℕ, _+_, _-_}
 use native.Mathlib.Omega.{arith}
 use lib.ListN.{length, take, drop}
 use lib.Dec.{eqb, leb, ltb}
-use Rattle.model.specs.declared.Root.{Root}
-use Rattle.model.specs.declared.Party.{Party}
 use Rattle.model.specs.declared.OperationAnswer.{OperationAnswer}
 use Rattle.model.specs.declared.OperationAnswer.the-variants as OperationAnswer
 use Rattle.model.specs.declared.Restructuring.the-variants as Restructuring
 use Rattle.model.specs.Records.{withOwed}
-use Rattle.model.specs.Answers.{answerNumber, isMoved, performs}
-use Rattle.model.specs.LockWords.{Claim}
 use Rattle.model.specs.Addresses.{splitBarred, countOfChains}
-use Rattle.model.specs.Entries.{Entry, hasKey, sharesKey}
-use Rattle.model.specs.Pages.{pageOf, withPage, levelOf, linkOf, entriesOf, zeroPage, withLocalLevel, pageSound, linkSound, namesOverflow, primaryPage, scratchPage, linkedPage}
-use Rattle.model.specs.Chains.{Checked, damaged, sound, Chain, chainOf, listFrom}
-use Rattle.model.specs.Filling.{pagesFor, primaryOf, overflowWritten}
-use Rattle.model.specs.FreeList.{tooFew, Taken, pagesTaken, givenBack, rootAfterTaking, roomToGiveBack, pagesGivenBack}
-use Rattle.model.specs.Outcome.{View, Outcome, withParty, withPages, moved, guarded, checked}
-use Rattle.model.specs.ScratchPages.{withScratch, scratchOf, primaryWritten}
-use Rattle.model.specs.LockRequests.{isGranted, withHold, request, isHeld, heldAll, withoutHold, givenUp, release, chainLock, chainSelective, chainExclusive, rootSelective, rootExclusive}
-use Rattle.model.specs.Links.{Follow, pagesIn, pagesListed, chainPages, listPages, readNow, walkedFrom, traceNine, traceFourteen, traceTwentyNine, traceOf}
+use Rattle.model.specs.Entries.{hasKey, sharesKey}
+use Rattle.model.specs.Pages.{pageOf, levelOf, linkOf, entriesOf, zeroPage, withLocalLevel, pageSound, linkSound, namesOverflow, primaryPage, scratchPage, linkedPage}
+use Rattle.model.specs.Chains.{damaged, sound, Chain, chainOf, listFrom}
+use Rattle.model.specs.Filling.{pagesFor, primaryOf}
+use Rattle.model.specs.FreeList.{tooFew, givenBack, rootAfterTaking, roomToGiveBack, pagesGivenBack}
+use Rattle.model.specs.Outcome.{View, Outcome, withParty, withPages}
+use Rattle.model.specs.ScratchPages.{scratchOf}
+use Rattle.model.specs.LockRequests.{isHeld, heldAll, withoutHold, givenUp, chainLock, chainSelective, chainExclusive, rootSelective, rootExclusive}
+use Rattle.model.specs.Links.{Follow, chainPages, listPages, readNow, walkedFrom, traceNine, traceFourteen, traceTwentyNine, traceOf}
+use Rattle.model.specs.Answers.{isMoved, performs}
 use Rattle.model.specs.Reads.{pagesFollowed}
 use Rattle.model.specs.Steps.Locate.{located, step01, step02, step03, step04, step05}
-use Rattle.model.specs.Steps.Chase.{chaseOf, arrived, chasing, step06, step07, step08}
+use Rattle.model.specs.Steps.Chase.{chaseOf, step06, step07, step08}
 use Rattle.model.specs.Steps.Find.{answered, lookedOn, step09}
 use Rattle.model.specs.Steps.Rebuild.{Change, kept, changed, changeOf, changesNothing, changing, rebuilt, rebuildWith, step10}
-use Rattle.model.specs.Endings.{finished, onward, oldPagesFirst}
 use Rattle.model.specs.Steps.Write.{isChange, step11, step12}
 use Rattle.model.specs.Steps.OldPages.{oldGivenBack, step13, step14}
-use Rattle.model.specs.Steps.SplitLocks.{nextSelective, splitting, step15, step16, step19, step22}
 use Rattle.model.specs.Steps.SplitBuild.{Halves, halvesOf, halvesNeed, halvesWritten, divided, divideWith, step17}
+use Rattle.model.specs.Steps.SplitLocks.{step15, step16, step19, step22}
 use Rattle.model.specs.Steps.SplitWrite.{step18, step20, step21}
-use Rattle.model.specs.Steps.MergeLocks.{mergeStops, mergeLocks, step23, step24, step25, step30}
+use Rattle.model.specs.Steps.MergeLocks.{mergeStops, step23, step24, step25, step30}
 use Rattle.model.specs.Steps.MergeBuild.{Pair, pairOf, joinedEntries, mergeGoes, combined, combineWith, step26}
-use Rattle.model.specs.Steps.MergeWrite.{rootMovedBack, mergedAway, partnerCleared, step27, step28, step29}
+use Rattle.model.specs.Steps.MergeWrite.{mergedAway, partnerCleared, step27, step28, step29}
 use Rattle.model.specs.Steps.Dispatch.{noStep, stepTable, stepOf}
-use Rattle.model.proofs.Laws.Lists.{cond-ind, and-both, not-true, All, _▸_, Numbered, numbered-at, all-append, all-left as all-first, all-right as all-second, all-from, all-in, among-take, among-drop}
+use Rattle.model.proofs.Laws.Lists.{cond-ind, not-true, All, _▸_, Numbered, numbered-at, all-left as all-first, all-right as all-second, all-from, all-in, among-take, among-drop}
 use Rattle.model.proofs.Laws.Pages.{length-pageOf, length-zeroPage, length-withLocalLevel}
 use Rattle.model.proofs.Laws.Filling.{IsOverflow, length-primaryOf}
-use Rattle.model.proofs.Theorems.Scratches.{IfSound, if-then, has-page, list-overflow, names-page, names-linked, sound-link}
+use Rattle.model.proofs.Theorems.Scratches.{IfSound, has-page, list-overflow, names-page, names-linked, sound-link}
+use Rattle.model.proofs.Theorems.Meanings.{chain-followed, list-followed}
 use Rattle.model.proofs.Theorems.Traces.{names-sound, all-taken, all-left, merged-overflow}
 use Rattle.model.proofs.Theorems.Reads.Readings.{if-known, then-known, from-sound, ListRead, ChainRead, PairRead, MergedRead, list-alike, chain-alike, pair-alike, merged-alike}
 use Rattle.model.proofs.Theorems.Reads.Writings.{Beside, Alike, Open, open-same, alike-start, alike-overflow, alike-given, head-alike}
-use Rattle.model.proofs.Theorems.Reads.Outcomes.{Licence, Same, Reads, guarded-reads, tested-reads, checked-reads, cond-reads, same-reads, moved-same, moved-reads, scratch-same, primary-same, scratch-written, primary-written, request-reads, done-reads, release-reads, ended-reads, finished-reads, onward-reads, old-reads, scratch-long, over-reads, taking-reads, built-alike, given-up-beside, held-beside}
+use Rattle.model.proofs.Theorems.Reads.Outcomes.{Reads, guarded-reads, tested-reads, checked-reads, cond-reads, moved-same, moved-reads, scratch-same, primary-same, scratch-written, primary-written, request-reads, done-reads, release-reads, ended-reads, finished-reads, onward-reads, old-reads, scratch-long, over-reads, taking-reads, built-alike}
 
 -- Step number n, with whatever page memory beside its view.
 abbrev pub ReadsAt : ℕ → (View → Outcome) → Type 0
@@ -138,21 +135,12 @@ reads-09 v ps′ opens b =
 
 -- ---- 10 to 14
 
--- The pages of a chain that was looked through, and of a list that was walked, are those of the trace.
-pages-found : (v : View) (opens : ℕ → Bool) (c : ℕ) (h : Chain) → chainOf (v .root) (v .pages) c ≡ sound h → Open opens (chainPages v c) → Open opens (h .pages)
-unfolding pagesIn
-pages-found v opens c h e o = rw e at o
-
-pages-listed : (v : View) (opens : ℕ → Bool) (l : ℕ) (xs : List ℕ) → listFrom (v .root) (v .pages) l ≡ sound xs → Open opens (listPages v l) → Open opens xs
-unfolding pagesListed
-pages-listed v opens l xs e o = rw e at o
-
 chain-read : (v : View) (ps′ : List ℕ) (opens : ℕ → Bool) → Beside v ps′ opens → (h : Chain) → chainOf (v .root) (v .pages) (v .party .chain) ≡ sound h
     → Open opens (chainPages v (v .party .chain)) → chainOf (v .root) ps′ (v .party .chain) ≡ sound h
 chain-read v ps′ opens b h e o =
     from-sound (ChainRead (v .root) (v .pages) ps′ (v .party .chain)) (chainOf (v .root) (v .pages) (v .party .chain))
     (chain-alike (v .root) (v .pages) ps′ (v .party .chain) (primary-same 0 v ps′ opens b (v .party .chain) (b .ready .chain-fits))) h e
-    (open-same v ps′ opens b (h .pages) (pages-found v opens (v .party .chain) h e o))
+    (open-same v ps′ opens b (h .pages) (rw (chain-followed v (v .party .chain) h e) at o))
 
 rebuild-reads : (v : View) (ps′ : List ℕ) (opens : ℕ → Bool) → Beside v ps′ opens → (c : Chain) (x : Change) → Reads 10 v ps′ opens (rebuildWith v c x) (rebuildWith (withPages ps′ v) c x)
 unfolding rebuildWith rebuilt rootAfterTaking changing changesNothing
@@ -212,7 +200,7 @@ reads-14 v ps′ opens b =
     }))
   where
     opened : (xs : List ℕ) → listFrom (v .root) (v .pages) (v .party .old) ≡ sound xs → Open opens (pagesFollowed (walkedFrom 0 0 (listPages v (v .party .old)))) → Open opens xs
-    opened xs e o = pages-listed v opens (v .party .old) xs e (rw (walked-pages 0 0 (listPages v (v .party .old))) at o)
+    opened xs e o = rw (walked-pages 0 0 (listPages v (v .party .old)), list-followed v (v .party .old) xs e) at o
 
 -- ---- 15 to 22
 
@@ -318,11 +306,11 @@ abbrev PairFound : View → ℕ → ℕ → Pair → Type 0
 PairFound v c o m = (chainPages v c ≡ m .target .pages) × (chainPages v o ≡ m .partner .pages)
 
 pair-found : (v : View) (c o : ℕ) → IfSound (PairFound v c o) (pairOf (v .root) (v .pages) c o)
-unfolding pairOf pagesIn
+unfolding pairOf
 pair-found v c o =
     then-known (PairFound v c o) (chainOf (v .root) (v .pages) c) _
     (λ t e. then-known (PairFound v c o) (chainOf (v .root) (v .pages) o) _
-    (λ u f. if-known (PairFound v c o) (not (sharesKey (t .entries) (u .entries))) (record { target = t; partner = u }) (λ _. (ap pagesIn e, ap pagesIn f))))
+    (λ u f. if-known (PairFound v c o) (not (sharesKey (t .entries) (u .entries))) (record { target = t; partner = u }) (λ _. (chain-followed v c t e, chain-followed v o u f))))
 
 reads-26 : ReadsAt 26 step26
 unfolding step26 traceOf
@@ -358,20 +346,20 @@ reads-28 v ps′ opens b =
     (length-withLocalLevel (levelOf s - 1) s (scratch-long 28 v ps′ opens b)))))
 
 -- The pages to give back at 29 are the two lists of the trace.
-abbrev otherLink : View → ℕ
+abbrev pub otherLink : View → ℕ
 otherLink v = linkOf (pageOf (v .pages) (primaryPage (v .party .other)))
 
 abbrev MergedFound : View → List ℕ → Type 0
 MergedFound v xs = listPages v (v .party .old) ++ listPages v (otherLink v) ≡ xs
 
 merged-found : (v : View) → IfSound (MergedFound v) (mergedAway (v .root) (v .pages) (v .party))
-unfolding mergedAway pagesListed
+unfolding mergedAway
 merged-found v =
     let l = v .party .old in
     cond-ind (IfSound (MergedFound v)) (linkSound (v .root) l && pageSound (v .root) (pageOf (v .pages) (primaryPage (v .party .other)))) _ damaged
     (λ _. then-known (MergedFound v) (listFrom (v .root) (v .pages) l) _
     (λ xs e. then-known (MergedFound v) (listFrom (v .root) (v .pages) (otherLink v)) _
-    (λ ys f. if-known (MergedFound v) (roomToGiveBack (v .root) (length (xs ++ ys))) (xs ++ ys) (λ _. rw (e, f)))))
+    (λ ys f. if-known (MergedFound v) (roomToGiveBack (v .root) (length (xs ++ ys))) (xs ++ ys) (λ _. rw (list-followed v l xs e, list-followed v (otherLink v) ys f)))))
     (λ _. tt)
 
 cleared-reads : (v : View) (ps′ : List ℕ) (opens : ℕ → Bool) → Beside v ps′ opens → (xs : List ℕ) → Open opens xs → All (IsOverflow (v .root)) xs

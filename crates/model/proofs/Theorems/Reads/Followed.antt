@@ -1,18 +1,19 @@
--- WHAT A STEP FOLLOWS IS WHAT IT READS: a call of step that moves or is done goes, of the overflow pages, by those that its trace follows and the free pages that it takes, and by no other.
--- It holds of every memory, sound or not. So the link rule (specs/Links.antt) speaks of every overflow page that a step reads, but for free pages that it takes.
+-- WHAT A STEP FOLLOWS IS WHAT IT READS: of the overflow pages, a call of step that is not refused goes by those that its trace follows and the free pages that it takes, and by no other; nor does it
+-- write any other. It holds of every memory, sound or not. So the link rule (specs/Links.antt) speaks of every overflow page that a step reads, but for the free pages that it takes.
 -- Main statements: reads-what-it-follows; its readings page by page, alike-stays and unlike-kept; followed-any-clock (the pages followed go by no clock); same-words (pages say all words).
 use mathlib.Core.Path.{_≡_, refl, sym, ap, _∙_}
 use mathlib.Core.Logic.{_≢_}
-use mathlib.Core.Bool.{Bool, true, false, cond, not, _&&_, _||_, false≢true}
-use mathlib.Core.List.{List, [], _∷_, _++_}
+use mathlib.Core.Bool.{Bool, true, false, cond, not, false≢true}
+use mathlib.Core.List.{List, _++_}
 use Prim.Native.Nat.{ℕ, _+_, _-_, _*_, _/_, _%_, _≤_, _<_}
 use native.Mathlib.Nat.{div-add-mod', mod-lt}
 use native.Mathlib.Omega.{arith}
 use lib.ListN.{length, getD, drop}
 use lib.Seq.{ext-getD, getD-take, getD-drop}
-use lib.Dec.{eqb, leb, ltb}
+use lib.Dec.{eqb, leb}
 use Rattle.model.specs.declared.Root.{Root}
 use Rattle.model.specs.declared.StepAnswer.{StepAnswer}
+use Rattle.model.specs.declared.StepAnswer.the-variants as StepAnswer
 use Rattle.model.specs.Sizes.{pageWords}
 use Rattle.model.specs.Pages.{pageOf, linkOf, primaryPage}
 use Rattle.model.specs.FreeList.{isAmong}
@@ -22,18 +23,20 @@ use Rattle.model.specs.Refusals.{firstCause, lengthsFit, stepRows}
 use Rattle.model.specs.Calls.{Called, called, stepped, stepCall}
 use Rattle.model.specs.Links.{Trace, chainPages, listPages, traceNine, traceFourteen, traceTwentyNine, traceOf, Clock, clockStart, traceOfStep}
 use Rattle.model.specs.Answers.{isMoved, performs}
-use Rattle.model.specs.Reads.{pagesFollowed, followedBy, takenBy, readBy, isOverflowPage, isOpen, DiffersOutside, stepAfter, ReadAlike}
-use Rattle.model.specs.Steps.Dispatch.{stepOf}
-use Rattle.model.proofs.Laws.Lists.{Told, holds, fails, tell, All, all-from, left-or, right-or, left-fails, right-fails, among-append, lt-leb, le-ltb}
+use Rattle.model.specs.Reads.{isAccepted, pagesFollowed, followedBy, takenBy, readBy, isOverflowPage, isOpen, DiffersOutside, stepAfter, ReadAlike}
+use Rattle.model.specs.Steps.Dispatch.{stepOf, wants}
+use Rattle.model.proofs.Laws.Lists.{Told, holds, fails, tell, all-from, left-or, right-or, right-fails, among-append, lt-leb, le-ltb}
 use Rattle.model.proofs.Theorems.RefusalOrder.{step-accepted}
 use Rattle.model.proofs.Theorems.Gate.{ready}
-use Rattle.model.proofs.Theorems.Alters.{Tested, turned-away, let-through, tested}
+use Rattle.model.proofs.Theorems.Alters.{Tested, turned-away, let-through, tested, nothing-altered, waits-for-lock}
 use Rattle.model.proofs.Theorems.Reads.Writings.{Beside, Open}
 use Rattle.model.proofs.Theorems.Reads.Outcomes.{Licence, Same}
 use Rattle.model.proofs.Theorems.Reads.EachStep.{now-pages, walked-pages, both-pages, step-reads}
+use Rattle.model.proofs.Theorems.Reads.Waiting.{isWaiting, isSome, waits-beside}
 
 -- ---- The pages followed go by no clock
 
+-- Two traces follow the same pages.
 abbrev SamePages : Trace → Trace → Type 0
 SamePages x y = pagesFollowed (x .follows) ≡ pagesFollowed (y .follows)
 
@@ -92,7 +95,15 @@ taken-open m q =
 
 -- ---- The call
 
+is-waiting : (a : StepAnswer) → isWaiting a ≡ true → a ≡ StepAnswer.Waiting
+unfolding isWaiting
+is-waiting StepAnswer.Waiting h = refl
+is-waiting StepAnswer.Moved h = absurd (false≢true h)
+is-waiting (StepAnswer.Done a s) h = absurd (false≢true h)
+is-waiting (StepAnswer.Refused n) h = absurd (false≢true h)
+
 module _ (m m′ : Memory) (q : ℕ) (d : DiffersOutside (readBy m q) m m′) where
+  -- What the step meets, and the pages open to it.
   abbrev view : View
   view = viewOf m q
 
@@ -164,20 +175,52 @@ module _ (m m′ : Memory) (q : ℕ) (d : DiffersOutside (readBy m q) m m′) wh
             shut-kept′ = λ x h. rw e′ (k .kept′ x h);
           }
 
-pub reads-what-it-follows : (m m′ : Memory) (q : ℕ) → performs (stepCall m q .answer) ≡ true → DiffersOutside (readBy m q) m m′ → ReadAlike (readBy m q) m m′ q
-unfolding performs
-reads-what-it-follows m m′ q performed d = go (tested m q)
+    -- A call that waits: nothing is altered, and beside it nothing either.
+    module _ (waiting : stepCall m q .answer ≡ StepAnswer.Waiting) where
+      wanting : isSome (wants (m .root) (partyAt (m .parties) q)) ≡ true
+      unfolding isSome
+      wanting = ap isSome (waits-for-lock m q waiting .wanted)
+
+      step-waits : isWaiting (stepOf number (withPages (m′ .pages) view) .answer) ≡ true
+      unfolding isWaiting
+      step-waits = waits-beside view (m′ .pages) wanting .go (ap (λ (c : Called StepAnswer). isWaiting (c .answer)) (sym now) ∙ ap isWaiting waiting)
+
+      waits-too : stepCall m′ q .answer ≡ StepAnswer.Waiting
+      waits-too = ap (λ (c : Called StepAnswer). c .answer) (step-accepted m′ q (ap firstCause same-rows ∙ none) ∙ stepped-beside) ∙ is-waiting _ step-waits
+
+      waiting-alike : ReadAlike (readBy m q) m m′ q
+      unfolding performs
+      waiting-alike =
+          let e = nothing-altered m q (ap performs waiting) in
+          let e′ = nothing-altered m′ q (ap performs waits-too) in
+          record {
+            answer= = waits-too ∙ sym waiting;
+            root= = rw (e′, e) (d .root=);
+            parties= = rw (e′, e) (d .parties=);
+            locks= = rw (e′, e) (d .locks=);
+            length= = rw (e′, e) (d .length=);
+            open= = λ x h. rw (e′, e) (d .open= x h);
+            shut-kept = λ x h. rw e refl;
+            shut-kept′ = λ x h. rw e′ refl;
+          }
+
+pub reads-what-it-follows : (m m′ : Memory) (q : ℕ) → isAccepted (stepCall m q .answer) ≡ true → DiffersOutside (readBy m q) m m′ → ReadAlike (readBy m q) m m′ q
+unfolding isAccepted performs
+reads-what-it-follows m m′ q accepted d = go (tested m q) (stepCall m q .answer) refl
   where
-    go : Tested m q → ReadAlike (readBy m q) m m′ q
-    go (turned-away c e) = absurd (false≢true (sym (ap (λ (c : Called StepAnswer). performs (c .answer)) e) ∙ performed))
-    go (let-through z e) = call-alike m m′ q d z performed
+    go : Tested m q → (a : StepAnswer) → stepCall m q .answer ≡ a → ReadAlike (readBy m q) m m′ q
+    go (turned-away c e) a f = absurd (false≢true (sym (ap (λ (c : Called StepAnswer). isAccepted (c .answer)) e) ∙ accepted))
+    go (let-through z e) StepAnswer.Waiting f = waiting-alike m m′ q d z f
+    go (let-through z e) StepAnswer.Moved f = call-alike m m′ q d z (ap performs f)
+    go (let-through z e) (StepAnswer.Done a s) f = call-alike m m′ q d z (ap performs f)
+    go (let-through z e) (StepAnswer.Refused n) f = absurd (false≢true (sym (ap isAccepted f) ∙ accepted))
 
 -- ---- Page by page
 
-module _ (m m′ : Memory) (q : ℕ) (performed : performs (stepCall m q .answer) ≡ true) (d : DiffersOutside (readBy m q) m m′) where
+module _ (m m′ : Memory) (q : ℕ) (accepted : isAccepted (stepCall m q .answer) ≡ true) (d : DiffersOutside (readBy m q) m m′) where
   -- A page on which the memories agree is the same in both afterwards.
   pub alike-stays : (x : ℕ) → pageOf (m′ .pages) x ≡ pageOf (m .pages) x → pageOf (stepAfter m′ q .pages) x ≡ pageOf (stepAfter m q .pages) x
-  alike-stays x e = go (tell (isOpen (m .root) (readBy m q) x)) (reads-what-it-follows m m′ q performed d)
+  alike-stays x e = go (tell (isOpen (m .root) (readBy m q) x)) (reads-what-it-follows m m′ q accepted d)
     where
       go : Told (isOpen (m .root) (readBy m q) x) → ReadAlike (readBy m q) m m′ q → pageOf (stepAfter m′ q .pages) x ≡ pageOf (stepAfter m q .pages) x
       go (holds h) a = a .open= x h
@@ -186,7 +229,7 @@ module _ (m m′ : Memory) (q : ℕ) (performed : performs (stepCall m q .answer
   -- A page on which they differ is as it was, in both.
   pub unlike-kept : (x : ℕ) → pageOf (m′ .pages) x ≢ pageOf (m .pages) x
       → (pageOf (stepAfter m q .pages) x ≡ pageOf (m .pages) x) × (pageOf (stepAfter m′ q .pages) x ≡ pageOf (m′ .pages) x)
-  unlike-kept x n = go (tell (isOpen (m .root) (readBy m q) x)) (reads-what-it-follows m m′ q performed d)
+  unlike-kept x n = go (tell (isOpen (m .root) (readBy m q) x)) (reads-what-it-follows m m′ q accepted d)
     where
       go : Told (isOpen (m .root) (readBy m q) x) → ReadAlike (readBy m q) m m′ q
           → (pageOf (stepAfter m q .pages) x ≡ pageOf (m .pages) x) × (pageOf (stepAfter m′ q .pages) x ≡ pageOf (m′ .pages) x)

@@ -1,10 +1,10 @@
 -- A step on its view and on the page memory beside it: one outcome but for the pages, which are alike, if the pages that it follows and takes are open.
 -- Main definitions: Licence (those pages are open), Same (the outcome beside), Reads (a step that performs, with its licence). Main statements: the ways in which steps are put together, each
 -- on both page memories (guarded-reads, checked-reads, request-reads, release-reads, ended-reads, onward-reads, taking-reads, built-alike, ...).
-use mathlib.Core.Path.{_≡_, refl, sym, ap, _∙_}
+use mathlib.Core.Path.{_≡_, refl}
 use mathlib.Core.Bool.{Bool, true, false, cond, false≢true}
 use mathlib.Core.List.{List, [], _∷_}
-use Prim.Native.Nat.{ℕ, _+_, _-_, _≤_, _<_}
+use Prim.Native.Nat.{ℕ, _-_, _<_}
 use native.Mathlib.Omega.{arith}
 use lib.ListN.{length}
 use lib.Dec.{eqb}
@@ -19,7 +19,7 @@ use Rattle.model.specs.Pages.{pageOf, withPage, zeroPage, pageSound, pri
 use Rattle.model.specs.Chains.{Checked, damaged, sound}
 use Rattle.model.specs.Filling.{primaryOf, overflowWritten}
 use Rattle.model.specs.FreeList.{tooFew, Taken, pagesTaken}
-use Rattle.model.specs.Outcome.{View, Outcome, outcome, withParty, withPages, moved, waits, guarded, checked}
+use Rattle.model.specs.Outcome.{View, Outcome, outcome, withParty, withPages, moved, guarded, checked}
 use Rattle.model.specs.ScratchPages.{scratchOf, primaryWritten}
 use Rattle.model.specs.Endings.{done, finished, onward, oldPagesFirst, endedWith}
 use Rattle.model.specs.LockRequests.{isGranted, withHold, request, isHeld, heldAll, withoutHold, givenUp, release}

@@ -1,7 +1,7 @@
 -- A reading goes by the pages that it lists: what was read of one page memory is read of every other that agrees with it on those pages.
 -- Main statements: if-known, then-known, from-sound (readings that met no damage); list-alike, chain-alike, pair-alike, merged-alike (links followed), taken-alike (free pages taken).
-use mathlib.Core.Path.{_≡_, refl, sym, ap, _∙_}
-use mathlib.Core.Bool.{Bool, true, false, not, cond, _&&_}
+use mathlib.Core.Path.{_≡_, refl}
+use mathlib.Core.Bool.{Bool, true, false, not, _&&_}
 use mathlib.Core.List.{List, [], _∷_, _++_}
 use Prim.Native.Nat.{ℕ, zero, suc}
 use lib.ListN.{length}
@@ -14,7 +14,7 @@ use Rattle.model.specs.Chains.{Checked, damaged, sound, soundIf, andThen
 use Rattle.model.specs.FreeList.{isAmong, Taken, alsoTaken, takenFrom, pagesTaken, roomToGiveBack}
 use Rattle.model.specs.Steps.MergeBuild.{Pair, pairOf}
 use Rattle.model.specs.Steps.MergeWrite.{mergedAway}
-use Rattle.model.proofs.Laws.Lists.{cond-ind, and-both}
+use Rattle.model.proofs.Laws.Lists.{cond-ind}
 use Rattle.model.proofs.Laws.Structure.{SameOn}
 use Rattle.model.proofs.Theorems.Scratches.{IfSound, if-then}
 
@@ -74,6 +74,7 @@ module _ (r : Root) (ps qs : List ℕ) where
   abbrev pub TakenRead : ℕ → Taken → Type 0
   TakenRead k t = SameOn ps qs (t .pages) → pagesTaken r qs k ≡ sound t
 
+  -- A walk of at most n pages.
   abbrev WalkRead : ℕ → ℕ → List ℕ → Type 0
   WalkRead n l xs = SameOn ps qs xs → overflowFrom r qs n l ≡ sound xs
 
@@ -129,6 +130,7 @@ module _ (r : Root) (ps qs : List ℕ) where
 
   -- ---- Free pages taken
 
+  -- Pages taken from a link on.
   abbrev FromRead : ℕ → ℕ → List ℕ → Taken → Type 0
   FromRead k l before t = SameOn ps qs (t .pages) → takenFrom r qs k l before ≡ sound t
 

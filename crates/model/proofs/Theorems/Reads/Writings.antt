@@ -1,6 +1,6 @@
 -- The same words written on two page memories: open pages stay the same in both, and shut pages stay as each had them.
 -- Main definitions: Beside (a page memory beside a step's view), Alike (what came of both). Main statements: alike-start, alike-written, alike-filled, alike-given.
-use mathlib.Core.Path.{_≡_, refl, sym, ap, _∙_}
+use mathlib.Core.Path.{_≡_, refl, sym, _∙_}
 use mathlib.Core.Logic.{_≢_}
 use mathlib.Core.Bool.{Bool, true, false}
 use mathlib.Core.List.{List, [], _∷_}
@@ -16,8 +16,8 @@ use Rattle.model.specs.Outcome.{View}
 use Rattle.model.specs.Ready.{Ready}
 use Rattle.model.proofs.Laws.Lists.{Cmp, same, diff, cmp, not-both, All}
 use Rattle.model.proofs.Laws.Structure.{SameOn}
-use Rattle.model.proofs.Laws.Pages.{Has, length-withPage, page-same, page-other, length-filledPage, length-freePage}
-use Rattle.model.proofs.Laws.Filling.{IsOverflow, length-primaryOf}
+use Rattle.model.proofs.Laws.Pages.{length-withPage, page-same, page-other, length-filledPage, length-freePage}
+use Rattle.model.proofs.Laws.Filling.{IsOverflow}
 use Rattle.model.proofs.Theorems.Scratches.{has-page}
 
 -- The page memory ps′ beside the view v: the same on open pages. Primary pages and scratch pages are open.

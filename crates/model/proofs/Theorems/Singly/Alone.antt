@@ -31,11 +31,11 @@ use Rattle.model.specs.Endings.{done}
 use Rattle.model.specs.LockRequests.{isGranted, withHold, request, heldAll, givenUp, release}
 use Rattle.model.specs.Memory.{Memory, partyAt, viewOf, afterStep}
 use Rattle.model.specs.Calls.{Called, called, stepCall, stepped}
+use Rattle.model.specs.Runs.{Reply, toStep, replyTo, afterCall, eventOf, events, finalMemory}
 use Rattle.model.specs.Book.{Book, Entered, Value, isIn, withEntry, noteFor, noteStep, noteAtSix, notedIfFind, afterReply, agreesWith, isNote, isNoteOf}
 use Rattle.model.specs.Ready.{viewing}
-use Rattle.model.specs.Progress.{underWay}
-use Rattle.model.specs.Demands.{AtRest}
-use Rattle.model.specs.Sequential.{File, Finished, finishes, recordsAt, pagesInUse, fileOf, runAlone}
+use Rattle.model.specs.Sequential.{File, Finished, finishes, recordsAt, pagesInUse, fileOf}
+use Rattle.model.specs.Singly.{stepsOf, repliesOf, movesThen, doneBy}
 use Rattle.model.specs.Steps.Dispatch.{stepOf}
 use Rattle.model.proofs.Laws.Lists.{All, Told, holds, fails, tell, Cmp, same, diff, cmp, cond-ind, and-both, both-and, left-or, or-either, or-neither, not-both, not-true, eqb-true, eqb-diff, leb-true, le-leb}
 use Rattle.model.proofs.Invariant.Ghost.{Extent, rootExtent, inChain, size}
@@ -277,50 +277,45 @@ module _ (m : Memory) (b : Book) (q : ℕ) (p : Party) (f : File) (out : ℕ) (a
 
 -- ---- A run that ends
 
--- Party q, run alone from memory m, never waits, ends with this answer and restructuring and leaves this file; then nobody is under way, and the invariant holds.
-pub record Ends (m : Memory) (q : ℕ) (x : Finished) : Type 0 where
-  pub calls : ℕ
-  pub ends : runAlone calls m q .answer ≡ StepAnswer.Done (x .answer) (x .restructuring)
-  pub leaves : fileOf (runAlone calls m q .memory) ≡ x .file
-  pub rests : AtRest (runAlone calls m q .memory)
-  pub book : Book
-  pub inv : Inv (runAlone calls m q .memory) book
-  pub whole : Whole (runAlone calls m q .memory)
+-- The memory after n moves of party q and one step more.
+abbrev pub leftBy : Memory → ℕ → ℕ → Memory
+leftBy m q n = finalMemory m (stepsOf q (suc n))
 
-run-more : (n : ℕ) (m t : Memory) (q : ℕ) → stepCall m q ≡ called StepAnswer.Moved t → runAlone (suc n) m q ≡ runAlone n t q
-unfolding runAlone
-run-more n m t q e = rw (e, runAlone) (ap (λ (c : Called StepAnswer). runAlone n (c .memory) q) e)
+-- Party q, run alone from memory m, never waits, ends with this answer and restructuring and leaves this file; then every record is the zero record.
+pub record Ends (m : Memory) (q : ℕ) (x : Finished) : Type 0 where
+  pub moves : ℕ
+  pub replies : repliesOf (events m (stepsOf q (suc moves))) ≡ movesThen moves (doneBy x)
+  pub leaves : fileOf (leftBy m q moves .root) (leftBy m q moves) ≡ x .file
+  pub rests : (j : ℕ) → partyAt (leftBy m q moves .parties) j ≡ idle
+  pub whole : Whole (leftBy m q moves)
 
 -- One step more at the start.
 pub goes-on : (m t : Memory) (q : ℕ) (x : Finished) → stepCall m q ≡ called StepAnswer.Moved t → Ends t q x → Ends m q x
+unfolding stepsOf events eventOf replyTo afterCall repliesOf movesThen finalMemory
 goes-on m t q x e h =
-    let s = sym (run-more (h .calls) m t q e) in
+    let more = stepsOf q (suc (h .moves)) in
     record {
-      calls = suc (h .calls);
-      ends = ap (λ (c : Called StepAnswer). c .answer) (sym s) ∙ h .ends;
-      leaves = ap (λ (c : Called StepAnswer). fileOf (c .memory)) (sym s) ∙ h .leaves;
-      rests = subst (λ (c : Called StepAnswer). AtRest (c .memory)) s (h .rests);
-      book = h .book;
-      inv = subst (λ (c : Called StepAnswer). Inv (c .memory) (h .book)) s (h .inv);
-      whole = subst (λ (c : Called StepAnswer). Whole (c .memory)) s (h .whole);
+      moves = suc (h .moves);
+      replies = ap (λ (c : Called StepAnswer). toStep (c .answer) ∷ repliesOf (events (c .memory) more)) e ∙ ap (λ (l : List Reply). toStep StepAnswer.Moved ∷ l) (h .replies);
+      leaves = ap (λ (c : Called StepAnswer). fileOf (finalMemory (c .memory) more .root) (finalMemory (c .memory) more)) e ∙ h .leaves;
+      rests = λ j. ap (λ (c : Called StepAnswer). partyAt (finalMemory (c .memory) more .parties) j) e ∙ h .rests j;
+      whole = subst (λ (c : Called StepAnswer). Whole (finalMemory (c .memory) more)) (sym e) (h .whole);
     }
 
 -- The last step.
-last : (m t : Memory) (q : ℕ) (x : Finished) (c : Book) → stepCall m q ≡ called (StepAnswer.Done (x .answer) (x .restructuring)) t → fileOf t ≡ x .file → AtRest t → Inv t c → Whole t → Ends m q x
-unfolding runAlone
-last m t q x c e l r i w = record {
-  calls = zero;
-  ends = ap (λ (y : Called StepAnswer). y .answer) e;
-  leaves = ap (λ (y : Called StepAnswer). fileOf (y .memory)) e ∙ l;
-  rests = subst (λ (y : Called StepAnswer). AtRest (y .memory)) (sym e) r;
-  book = c;
-  inv = subst (λ (y : Called StepAnswer). Inv (y .memory) c) (sym e) i;
-  whole = subst (λ (y : Called StepAnswer). Whole (y .memory)) (sym e) w;
+last : (m t : Memory) (q : ℕ) (x : Finished) → stepCall m q ≡ called (doneBy x) t → fileOf (t .root) t ≡ x .file → ((j : ℕ) → partyAt (t .parties) j ≡ idle) → Whole t → Ends m q x
+unfolding stepsOf events eventOf replyTo afterCall repliesOf movesThen finalMemory
+last m t q x e l r w = record {
+  moves = zero;
+  replies = ap (λ (c : Called StepAnswer). toStep (c .answer) ∷ []) e;
+  leaves = ap (λ (c : Called StepAnswer). fileOf (c .memory .root) (c .memory)) e ∙ l;
+  rests = λ j. ap (λ (c : Called StepAnswer). partyAt (c .memory .parties) j) e ∙ r j;
+  whole = subst (λ (c : Called StepAnswer). Whole (c .memory)) (sym e) w;
 }
 
 -- Where everybody is idle the file read is the one that holds the book's set.
 rests-with : (m : Memory) (b : Book) (f : File) → Inv m b → ((q : ℕ) → partyAt (m .parties) q ≡ idle) → extentOf f ≡ rootExtent (m .root)
-    → Holding (m .root .originals) f (λ k. isIn (b .contents k)) → fileOf m ≡ f
+    → Holding (m .root .originals) f (λ k. isIn (b .contents k)) → fileOf (m .root) m ≡ f
 unfolding liveFile
 rests-with m b f i idles e h =
     file-read m b i live ∙ same-file (m .root .originals) (liveFile (m .root .originals) (i .ghost)) f _ (live-holding m b i) h (live ∙ sym e)
@@ -333,11 +328,11 @@ module _ (m : Memory) (b : Book) (q : ℕ) (p : Party) (f : File) (out : ℕ) (a
   pub comes-to-end : (t : Root) (x : Party) (ls ps : List ℕ) (g : File) (y : OperationAnswer) (s : Restructuring) → SameLimits (m .root) t
       → Performed m b q (done y s (viewing t x q ls ps)) → p .step ≢ 11 → extentOf g ≡ rootExtent t → Holding (m .root .originals) g (λ k. isIn (b .contents k))
       → t .free + pagesInUse (m .root .capacity) (g .chains) ≡ m .root .overflow → Ends m q (finishes y s g)
-  unfolding afterReply underWay
+  unfolding afterReply
   comes-to-end t x ls ps g y s z k d e h w =
-      last m m-then q (finishes y s g) b-then (k .call) file-then (λ j. rw (idles j (cmp j q)) refl) inv-then
+      last m m-then q (finishes y s g) (k .call) file-then (λ j. idles j (cmp j q))
       (record {
-        all-pages = ap (λ (n : ℕ). t .free + pagesInUse n (fileOf m-then .chains)) (z .capacity=) ∙ ap (λ (l : File). t .free + pagesInUse (m .root .capacity) (l .chains)) file-then ∙ w
+        all-pages = ap (λ (n : ℕ). t .free + pagesInUse n (fileOf t m-then .chains)) (z .capacity=) ∙ ap (λ (l : File). t .free + pagesInUse (m .root .capacity) (l .chains)) file-then ∙ w
             ∙ sym (z .overflow=);
       })
     where
@@ -354,7 +349,7 @@ module _ (m : Memory) (b : Book) (q : ℕ) (p : Party) (f : File) (out : ℕ) (a
       idles j (same u) = rw u (mine-then m b q p f out a idle)
       idles j (diff u) = others-then m b q p f out a idle j u
 
-      file-then : fileOf m-then ≡ g
+      file-then : fileOf t m-then ≡ g
       file-then =
           rests-with m-then b-then g inv-then (λ j. idles j (cmp j q)) e
           (rw (z .originals=) (subst (λ (u : ℕ → Option Value). Holding (m .root .originals) g (λ j. isIn (u j))) (sym (contents-kept b q (b .entries q) (p .step) d)) h))
@@ -374,7 +369,7 @@ named-back OperationAnswer.Present = refl
 named-back OperationAnswer.Deleted = refl
 named-back OperationAnswer.NoPage = refl
 
-answer-same : (x y : OperationAnswer) → answerNumber x ≡ answerNumber y → x ≡ y
+pub answer-same : (x y : OperationAnswer) → answerNumber x ≡ answerNumber y → x ≡ y
 answer-same x y e = sym (named-back x) ∙ ap answerNamed e ∙ named-back y
 
 -- It is the book's note.

@@ -105,7 +105,7 @@ module _ (m : Memory) (b : Book) (i : Inv m b) where
   chains-read zero c s = refl
   chains-read (suc x) c s = rw (chain-found m b i c (omega arith), chains-read x (c + 1) (omega arith)) refl
 
-  pub file-read : i .ghost .live ≡ rootExtent (m .root) → fileOf m ≡ liveFile (m .root .originals) (i .ghost)
+  pub file-read : i .ghost .live ≡ rootExtent (m .root) → fileOf (m .root) m ≡ liveFile (m .root .originals) (i .ghost)
   unfolding fileOf liveFile
   file-read s =
       let r = m .root in
@@ -117,7 +117,7 @@ module _ (m : Memory) (b : Book) (i : Inv m b) where
 
 -- Every overflow page is free or counted by the file: what the yardstick takes for granted.
 pub record Whole (m : Memory) : Type 0 where
-  pub all-pages : m .root .free + pagesInUse (m .root .capacity) (fileOf m .chains) ≡ m .root .overflow
+  pub all-pages : m .root .free + pagesInUse (m .root .capacity) (fileOf (m .root) m .chains) ≡ m .root .overflow
 
 -- One chain's records replaced: its pages are counted anew.
 pub use-set : (k : ℕ) (l : List (List Entry)) (c : ℕ) (es : List Entry) → c < length l

@@ -15,7 +15,7 @@ use Rattle.model.specs.declared.Operation.{Operation}
 use Rattle.model.specs.declared.OperationAnswer.{OperationAnswer}
 use Rattle.model.specs.declared.OperationAnswer.the-variants as OperationAnswer
 use Rattle.model.specs.declared.Restructuring.the-variants as Restructuring
-use Rattle.model.specs.Records.{rootOfSizes, atStep, withOld, withAnswer, withFreeList}
+use Rattle.model.specs.Records.{atStep, withOld, withAnswer, withFreeList}
 use Rattle.model.specs.Answers.{operationNumber, answerNumber, answerOf, restructuringOf}
 use Rattle.model.specs.Entries.{Entry, hasKey, insertedInto, removedFrom, entryOf}
 use Rattle.model.specs.Pages.{pageOf, withPage, pageSound, primaryPage, scratchPage, linkToFirst}
@@ -48,6 +48,7 @@ use Rattle.model.proofs.Effects.GiveUps.{given-up-rest}
 use Rattle.model.proofs.Effects.BuiltChain.{chain-found}
 use Rattle.model.proofs.Theorems.Calls.{StepsKept}
 use Rattle.model.proofs.Theorems.Singly.Files.{extentOf, home, Holding, holding-keys, holding-changed}
+use Rattle.model.proofs.Theorems.SizesStay.{sizes-same}
 use Rattle.model.proofs.Theorems.Singly.AtRest.{use-set}
 use Rattle.model.proofs.Theorems.Singly.Alone.{Alone, leftAt, bookOn, live-alone, records-alone, limits-free, scratch-long, many-alone, written-linked, at-alone, Performed, performs-as, performed, guarded-open, checked-open, alone-after, alone-moves, Ends, goes-on, plain, live-plain, root-extent, moves-on, ends-there}
 use Rattle.model.proofs.Theorems.Singly.Locate.{Arrival}
@@ -109,19 +110,13 @@ delete-is r f k = go (hasKey k es)
 
 -- ---- The yardstick goes by the sizes alone
 
-abbrev sizesOf : Root → Root
-sizesOf r = rootOfSizes (r .originals) (r .capacity) (r .primaries) (r .overflow) (r .parties)
-
-sizes-path : (r t : Root) → SameLimits r t → sizesOf t ≡ sizesOf r
-sizes-path r t z = λ i. rootOfSizes (z .originals= i) (z .capacity= i) (z .primaries= i) (z .overflow= i) (z .parties= i)
-
 split-sizes : (r t : Root) → SameLimits r t → (g : File) (y : OperationAnswer) → splitFile t g y ≡ splitFile r g y
 unfolding splitFile shortOf freeIn chainsIn parted
-split-sizes r t z g y = ap (λ (u : Root). splitFile u g y) (sizes-path r t z)
+split-sizes r t z g y = ap (λ (u : Root). splitFile u g y) (sizes-same r t z)
 
 merge-sizes : (r t : Root) → SameLimits r t → (g : File) (y : OperationAnswer) → mergeFile t g y ≡ mergeFile r g y
 unfolding mergeFile shortOf freeIn chainsIn rejoined
-merge-sizes r t z g y = ap (λ (u : Root). mergeFile u g y) (sizes-path r t z)
+merge-sizes r t z g y = ap (λ (u : Root). mergeFile u g y) (sizes-same r t z)
 
 -- What is asked of the run once the chain is left, met by the split and the merge run alone.
 onward-met : StepsKept → (r : Root) (q : ℕ) (p : Party) (g : File) → Onward r q p g (onwardFile r g (answerOf (p .answer)) (p .owed))

@@ -1,60 +1,60 @@
--- Demand 2, run singly: from every reachable memory in which nobody is under way, an operation run from begin to done alone never waits, ends, answers as the sequential yardstick does and
--- leaves level, next and every chain's records as one operation of the yardstick leaves them.
--- Main statements: begins-alone; run-ends; find-singly, insert-singly, delete-singly, run-singly (under the invariant); singly-right (of every reachable memory at rest);
--- Singly, EachSingly, each-singly and lists-right (operations run singly, one after the other, from formatted memory: after each the memory is again at rest and reachable).
+-- Demand 2, run singly: after every list of calls that leaves nobody under way, an operation run from begin to done alone never waits, ends, answers as the sequential yardstick and as a plain set do
+-- and leaves level, next and every chain's records as one operation of the yardstick leaves them; and so a list of operations from formatted memory.
+-- Main statements: begins-alone; find-run, insert-run, delete-run, run-ends (under the invariant); run-singly (one operation), list-singly (a list of them).
 use mathlib.Core.Path.{_≡_, refl, sym, ap, _∙_, subst}
-use mathlib.Core.Bool.{not}
-use mathlib.Core.List.{List, [], _∷_, _++_}
-use Prim.Native.Nat.{ℕ, zero, suc, _<_}
+use mathlib.Core.Bool.{true, false}
+use mathlib.Core.List.{List, [], _∷_, _++_, append-nil, append-assoc}
+use Prim.Native.Nat.{ℕ, suc, _<_}
 use native.Mathlib.Omega.{arith}
-use lib.ListN.{length, getD, replicate}
-use Rattle.model.specs.declared.Party.{Party}
+use lib.ListN.{length}
+use lib.Dec.{ltb}
 use Rattle.model.specs.declared.Operation.{Operation}
 use Rattle.model.specs.declared.Operation.the-variants as Operation
-use Rattle.model.specs.declared.StepAnswer.{StepAnswer}
-use Rattle.model.specs.declared.StepAnswer.the-variants as StepAnswer
 use Rattle.model.specs.declared.BeginAnswer.{BeginAnswer}
 use Rattle.model.specs.declared.BeginAnswer.the-variants as BeginAnswer
-use Rattle.model.specs.Records.{idle, begun}
+use Rattle.model.specs.Records.{begun}
 use Rattle.model.specs.Answers.{operationNumber}
-use Rattle.model.specs.Outcome.{View, Outcome}
-use Rattle.model.specs.Memory.{Memory, partyAt, viewOf, formatted, formattedRoot}
-use Rattle.model.specs.Refusals.{firstCause, isIdle, beginRows, stepRows}
-use Rattle.model.specs.Calls.{Called, called, withBegun, beginCall, stepped, stepCall}
-use Rattle.model.specs.Runs.{Call, beginFor, stepFor, afterCall, finalMemory}
+use Rattle.model.specs.Memory.{Memory, partyAt}
+use Rattle.model.specs.Calls.{Called, called, withBegun, beginCall}
+use Rattle.model.specs.Runs.{Call, Reply, toBegin, replyTo, afterCall, eventOf, events, finalMemory}
 use Rattle.model.specs.Book.{Book, isIn, enter}
-use Rattle.model.specs.Progress.{underWay}
-use Rattle.model.specs.Sequential.{File, fileOf, performedOn, runAlone}
-use Rattle.model.specs.Steps.Dispatch.{stepOf}
-use Rattle.model.specs.Demands.{Sizes, start, AtRest, RunSingly}
-use Rattle.model.proofs.Laws.Lists.{Cmp, same, diff, cmp, All, all-map}
+use Rattle.model.specs.PlainSet.{emptySet}
+use Rattle.model.specs.Sequential.{File, fileOf, performedOn, setIn, startFile}
+use Rattle.model.specs.Singly.{Wanted, partiesFit, stepsOf, callsAlone, repliesOf, repliesAlone, doneBy, callsSingly, repliesSingly, performedAll}
+use Rattle.model.specs.Demands.{Sizes, sizesOf, start, Reached, bookReached, AtRest, fileReached, yardstick, RunSingly, ListSingly}
+use Rattle.model.proofs.Laws.Lists.{and-both, ltb-true}
 use Rattle.model.proofs.Invariant.Statement.{Inv}
+use Rattle.model.proofs.Invariant.Frame.{SameLimits}
 use Rattle.model.proofs.Effects.Kept.{row-same, row-other}
 use Rattle.model.proofs.Theorems.Calls.{StepsKept, within-limits, lengths-fit, begun-inv}
-use Rattle.model.proofs.Theorems.RefusalOrder.{begin-order, begin-refused, begin-accepted, step-refused, step-accepted}
-use Rattle.model.proofs.Theorems.Gate.{ready}
-use Rattle.model.proofs.Theorems.Traces.{Traced, stays, goes, step-traced}
-use Rattle.model.proofs.Theorems.Singly.Files.{Holding}
+use Rattle.model.proofs.Theorems.RefusalOrder.{begin-order}
+use Rattle.model.proofs.Theorems.AllSteps.{steps-kept}
+use Rattle.model.proofs.Theorems.Reached.{reached-inv}
+use Rattle.model.proofs.Theorems.SizesStay.{reached-limits}
+use Rattle.model.proofs.Theorems.UnderWay.{idle-unentered}
+use Rattle.model.proofs.Theorems.Singly.Files.{Holding, holding-keys}
 use Rattle.model.proofs.Theorems.Singly.AtRest.{live-holding, file-read}
 use Rattle.model.proofs.Theorems.Singly.Whole.{idle-at-rest, no-pages-at-rest, live-at-rest, whole-at-rest}
-use Rattle.model.proofs.Theorems.Singly.Alone.{Alone, Ends, plain, live-plain}
+use Rattle.model.proofs.Theorems.Singly.Sets.{set-held, holding-set, AsSet, performed-as-set, all-as-set}
+use Rattle.model.proofs.Theorems.Singly.Given.{file-given, performed-given, reached-holding, reached-set, reached-reads, start-rests, some-original, start-held, start-file}
+use Rattle.model.proofs.Theorems.Singly.Alone.{Alone, leftBy, Ends, plain, live-plain}
 use Rattle.model.proofs.Theorems.Singly.Locate.{locates}
 use Rattle.model.proofs.Theorems.Singly.Find.{find-ends}
 use Rattle.model.proofs.Theorems.Singly.Change.{insert-ends, delete-ends}
 
 -- ---- An operation begun at rest
 
-module _ (m : Memory) (b : Book) (i : Inv m b) (rest : AtRest m) (q : ℕ) (in-row : q < m .root .parties) (o : Operation) (k : ℕ) where
+module _ (m : Memory) (b : Book) (i : Inv m b) (rest : AtRest b) (q : ℕ) (in-row : q < m .root .parties) (o : Operation) (k : ℕ) where
   pub begins : beginCall m q o k ≡ called BeginAnswer.Begun (withBegun m q o k)
   begins = begin-order m q o k .none (within-limits (m .root) (i .limits)) (lengths-fit m b i) in-row (rw (idle-at-rest m b i rest q) refl)
 
   row-long : q < length (m .parties)
   row-long = omega (arith, i .parties-many)
 
-  holding-now : Holding (m .root .originals) (fileOf m) (λ j. isIn (b .contents j))
+  holding-now : Holding (m .root .originals) (fileOf (m .root) m) (λ j. isIn (b .contents j))
   holding-now = subst (λ (f : File). Holding (m .root .originals) f (λ j. isIn (b .contents j))) (sym (file-read m b i (live-at-rest m b i rest))) (live-holding m b i)
 
-  pub begins-alone : Alone (withBegun m q o k) (enter b q o k) q (begun (operationNumber o) k) (fileOf m) 0
+  pub begins-alone : Alone (withBegun m q o k) (enter b q o k) q (begun (operationNumber o) k) (fileOf (m .root) m) 0
   unfolding withBegun enter fileOf plain
   begins-alone = record {
     inv = begun-inv m b i q o k in-row (idle-at-rest m b i rest q) (no-pages-at-rest m b i rest q);
@@ -68,177 +68,176 @@ module _ (m : Memory) (b : Book) (i : Inv m b) (rest : AtRest m) (q : ℕ) (in-r
 
 -- ---- Each operation
 
-module _ (steps : StepsKept) (m : Memory) (b : Book) (i : Inv m b) (rest : AtRest m) (q : ℕ) (in-row : q < m .root .parties) (k : ℕ) where
-  find-run : Ends (withBegun m q Operation.Find k) q (performedOn (m .root) (fileOf m) Operation.Find k)
+module _ (steps : StepsKept) (m : Memory) (b : Book) (i : Inv m b) (rest : AtRest b) (q : ℕ) (in-row : q < m .root .parties) (k : ℕ) where
+  find-run : Ends (withBegun m q Operation.Find k) q (performedOn (m .root) (fileOf (m .root) m) Operation.Find k)
   unfolding performedOn operationNumber withBegun plain
   find-run =
-      let f = fileOf m in
+      let f = fileOf (m .root) m in
       let y = performedOn (m .root) f Operation.Find k in
       locates steps q f y 9 refl (withBegun m q Operation.Find k) (enter b q Operation.Find k) (begun 1 k) (begins-alone m b i rest q in-row Operation.Find k) refl refl
       (λ x. find-ends steps (m .root) q k f x)
 
-  insert-run : Ends (withBegun m q Operation.Insert k) q (performedOn (m .root) (fileOf m) Operation.Insert k)
+  insert-run : Ends (withBegun m q Operation.Insert k) q (performedOn (m .root) (fileOf (m .root) m) Operation.Insert k)
   unfolding performedOn operationNumber withBegun plain
   insert-run =
-      let f = fileOf m in
+      let f = fileOf (m .root) m in
       let y = performedOn (m .root) f Operation.Insert k in
       locates steps q f y 10 refl (withBegun m q Operation.Insert k) (enter b q Operation.Insert k) (begun 2 k) (begins-alone m b i rest q in-row Operation.Insert k) refl refl
       (λ x. insert-ends steps (m .root) q k f x)
 
-  delete-run : Ends (withBegun m q Operation.Delete k) q (performedOn (m .root) (fileOf m) Operation.Delete k)
+  delete-run : Ends (withBegun m q Operation.Delete k) q (performedOn (m .root) (fileOf (m .root) m) Operation.Delete k)
   unfolding performedOn operationNumber withBegun plain
   delete-run =
-      let f = fileOf m in
+      let f = fileOf (m .root) m in
       let y = performedOn (m .root) f Operation.Delete k in
       locates steps q f y 10 refl (withBegun m q Operation.Delete k) (enter b q Operation.Delete k) (begun 3 k) (begins-alone m b i rest q in-row Operation.Delete k) refl refl
       (λ x. delete-ends steps (m .root) q k f x)
 
--- ---- Run singly
+-- ---- Lists of calls, one after the other
 
-pub run-ends : StepsKept → (m : Memory) (b : Book) → Inv m b → AtRest m → (q : ℕ) → q < m .root .parties → (o : Operation) (k : ℕ)
-    → Ends (beginCall m q o k .memory) q (performedOn (m .root) (fileOf m) o k)
-run-ends steps m b i rest q in-row o k =
-    subst (λ (c : Called BeginAnswer). Ends (c .memory) q (performedOn (m .root) (fileOf m) o k)) (sym (begins m b i rest q in-row o k)) (by o)
-  where
-    by : (x : Operation) → Ends (withBegun m q x k) q (performedOn (m .root) (fileOf m) x k)
-    by Operation.Find = find-run steps m b i rest q in-row k
-    by Operation.Insert = insert-run steps m b i rest q in-row k
-    by Operation.Delete = delete-run steps m b i rest q in-row k
+final-append : (m : Memory) (cs ds : List Call) → finalMemory m (cs ++ ds) ≡ finalMemory (finalMemory m cs) ds
+unfolding finalMemory
+final-append m [] ds = refl
+final-append m (c ∷ cs) ds = final-append (afterCall m c) cs ds
 
-pub run-singly : StepsKept → (m : Memory) (b : Book) → Inv m b → AtRest m → (q : ℕ) → q < m .root .parties → (o : Operation) (k : ℕ) → RunSingly m q o k
-run-singly steps m b i rest q in-row o k =
-    let e = run-ends steps m b i rest q in-row o k in
+replies-append : (m : Memory) (cs ds : List Call) → repliesOf (events m (cs ++ ds)) ≡ repliesOf (events m cs) ++ repliesOf (events (finalMemory m cs) ds)
+unfolding finalMemory events eventOf repliesOf
+replies-append m [] ds = refl
+replies-append m (c ∷ cs) ds = ap (λ (l : List Reply). replyTo m c ∷ l) (replies-append (afterCall m c) cs ds)
+
+-- ---- One operation
+
+pub run-ends : StepsKept → (m : Memory) (b : Book) → Inv m b → AtRest b → (q : ℕ) → q < m .root .parties → (o : Operation) (k : ℕ)
+    → Ends (withBegun m q o k) q (performedOn (m .root) (fileOf (m .root) m) o k)
+run-ends steps m b i rest q in-row Operation.Find k = find-run steps m b i rest q in-row k
+run-ends steps m b i rest q in-row Operation.Insert k = insert-run steps m b i rest q in-row k
+run-ends steps m b i rest q in-row Operation.Delete k = delete-run steps m b i rest q in-row k
+
+module _ (s : Sizes) (cs : List Call) (rest : AtRest (bookReached s cs)) (x : Wanted) (fits : x .party < s .parties) where
+  abbrev m : Memory
+  m = Reached s cs
+
+  abbrev q : ℕ
+  q = x .party
+
+  abbrev o : Operation
+  o = x .operation
+
+  abbrev k : ℕ
+  k = x .key
+
+  limits : SameLimits (sizesOf s) (Reached s cs .root)
+  limits = reached-limits s cs
+
+  in-row : x .party < Reached s cs .root .parties
+  in-row = omega (arith, limits .parties=)
+
+  begins-then : beginCall (Reached s cs) (x .party) (x .operation) (x .key) ≡ called BeginAnswer.Begun (withBegun (Reached s cs) (x .party) (x .operation) (x .key))
+  begins-then = begins m (bookReached s cs) (reached-inv s cs) rest q in-row o k
+
+  -- The yardstick by the root's sizes is that by the sizes given.
+  yardstick-is : performedOn (Reached s cs .root) (fileOf (Reached s cs .root) (Reached s cs)) (x .operation) (x .key) ≡ yardstick s cs x
+  yardstick-is =
+      ap (λ (f : File). performedOn (m .root) f o k) (sym (file-given (sizesOf s) m limits))
+      ∙ performed-given (sizesOf s) (m .root) limits (fileReached s cs) o k
+
+  e : Ends (withBegun (Reached s cs) (x .party) (x .operation) (x .key)) (x .party) (yardstick s cs x)
+  e = subst (Ends (withBegun m q o k) q) yardstick-is (run-ends steps-kept m (bookReached s cs) (reached-inv s cs) rest q in-row o k)
+
+  abbrev then : List Call
+  then = cs ++ callsAlone x (e .moves)
+
+  replies-are : repliesOf (events (Reached s cs) (callsAlone x (e .moves))) ≡ repliesAlone (e .moves) (doneBy (yardstick s cs x))
+  unfolding callsAlone repliesAlone events eventOf replyTo afterCall repliesOf
+  replies-are =
+      ap (λ (c : Called BeginAnswer). toBegin (c .answer) ∷ repliesOf (events (c .memory) (stepsOf q (suc (e .moves))))) begins-then
+      ∙ ap (λ (l : List Reply). toBegin BeginAnswer.Begun ∷ l) (e .replies)
+
+  memory-is : Reached s (cs ++ callsAlone x (e .moves)) ≡ leftBy (withBegun (Reached s cs) (x .party) (x .operation) (x .key)) (x .party) (e .moves)
+  unfolding callsAlone finalMemory afterCall
+  memory-is =
+      final-append (start s) cs (callsAlone x (e .moves))
+      ∙ ap (λ (c : Called BeginAnswer). finalMemory (c .memory) (stepsOf q (suc (e .moves)))) begins-then
+
+  leaves-file : fileReached s (cs ++ callsAlone x (e .moves)) ≡ yardstick s cs x .file
+  leaves-file =
+      file-given (sizesOf s) (Reached s then) (reached-limits s then)
+      ∙ ap (λ (t : Memory). fileOf (t .root) t) memory-is ∙ e .leaves
+
+  rests-then : AtRest (bookReached s (cs ++ callsAlone x (e .moves)))
+  rests-then =
+      idle-unentered (Reached s then) (bookReached s then) (reached-inv s then)
+      (λ j. ap (λ (t : Memory). partyAt (t .parties) j) memory-is ∙ e .rests j)
+
+  -- The file that the yardstick takes holds the set that it holds.
+  as-set-is : AsSet (s .originals) (setIn (sizesOf s) (fileReached s cs)) (x .operation) (x .key) (yardstick s cs x)
+  as-set-is =
+      performed-as-set (sizesOf s) (some-original s) (fileReached s cs) (setIn (sizesOf s) (fileReached s cs))
+      (holding-set (sizesOf s) (fileReached s cs) (λ j. isIn (bookReached s cs .contents j)) (reached-holding s cs rest)) k o
+
+  -- DEMAND 2, one operation run singly.
+  pub run-singly : RunSingly s cs x
+  run-singly = record {
+    moves = e .moves;
+    replies = replies-are;
+    leaves = leaves-file;
+    rests = rests-then;
+    reads = reached-reads s cs rest;
+    reads-after = reached-reads s then rests-then;
+    set = reached-set s cs rest;
+    set-after = reached-set s then rests-then;
+    as-set = as-set-is .as-set;
+    leaves-set = λ j. ap (λ (f : File). setIn (sizesOf s) f j) leaves-file ∙ set-held (sizesOf s) (yardstick s cs x .file) _ (as-set-is .holding) j;
+  }
+
+-- ---- A list of operations
+
+-- What is owed of a list of operations run singly after a list of calls.
+record ListFrom (s : Sizes) (cs : List Call) (xs : List Wanted) : Type 0 where
+  pub moves : List ℕ
+  pub replies : repliesOf (events (Reached s cs) (callsSingly xs moves)) ≡ repliesSingly (performedAll (sizesOf s) (fileReached s cs) xs .answers) moves
+  pub leaves : fileReached s (cs ++ callsSingly xs moves) ≡ performedAll (sizesOf s) (fileReached s cs) xs .file
+  pub rests : AtRest (bookReached s (cs ++ callsSingly xs moves))
+
+list-from : (s : Sizes) (cs : List Call) → AtRest (bookReached s cs) → (xs : List Wanted) → partiesFit (s .parties) xs ≡ true → ListFrom s cs xs
+unfolding callsSingly repliesSingly performedAll partiesFit events repliesOf
+list-from s cs rest [] f = record {
+  moves = [];
+  replies = refl;
+  leaves = ap (fileReached s) (append-nil cs);
+  rests = subst (λ (l : List Call). AtRest (bookReached s l)) (sym (append-nil cs)) rest;
+}
+list-from s cs rest (x ∷ xs) f =
+    let h = and-both (ltb (x .party) (s .parties)) (partiesFit (s .parties) xs) f in
+    let one = run-singly s cs rest x (ltb-true (x .party) (s .parties) (h .0)) in
+    let mine = callsAlone x (one .moves) in
+    let more = list-from s (cs ++ mine) (one .rests) xs (h .1) in
+    let others = callsSingly xs (more .moves) in
+    let y = yardstick s cs x in
+    let seam = append-assoc cs mine others in
     record {
-      begins = ap (λ (c : Called BeginAnswer). c .answer) (begins m b i rest q in-row o k);
-      calls = e .calls;
-      ends = e .ends;
-      leaves = e .leaves;
+      moves = one .moves ∷ more .moves;
+      replies =
+          replies-append (Reached s cs) mine others
+          ∙ ap (λ (l : List Reply). l ++ repliesOf (events (finalMemory (Reached s cs) mine) others)) (one .replies)
+          ∙ ap (λ (t : Memory). repliesAlone (one .moves) (doneBy y) ++ repliesOf (events t others)) (sym (final-append (start s) cs mine))
+          ∙ ap (λ (l : List Reply). repliesAlone (one .moves) (doneBy y) ++ l) (more .replies)
+          ∙ ap (λ (t : File). repliesAlone (one .moves) (doneBy y) ++ repliesSingly (performedAll (sizesOf s) t xs .answers) (more .moves)) (one .leaves);
+      leaves = ap (fileReached s) (sym seam) ∙ more .leaves ∙ ap (λ (t : File). performedAll (sizesOf s) t xs .file) (one .leaves);
+      rests = subst (λ (l : List Call). AtRest (bookReached s l)) seam (more .rests);
     }
 
-pub find-singly : StepsKept → (m : Memory) (b : Book) → Inv m b → AtRest m → (q : ℕ) → q < m .root .parties → (k : ℕ) → RunSingly m q Operation.Find k
-find-singly steps m b i rest q in-row k = run-singly steps m b i rest q in-row Operation.Find k
-
-pub insert-singly : StepsKept → (m : Memory) (b : Book) → Inv m b → AtRest m → (q : ℕ) → q < m .root .parties → (k : ℕ) → RunSingly m q Operation.Insert k
-insert-singly steps m b i rest q in-row k = run-singly steps m b i rest q in-row Operation.Insert k
-
-pub delete-singly : StepsKept → (m : Memory) (b : Book) → Inv m b → AtRest m → (q : ℕ) → q < m .root .parties → (k : ℕ) → RunSingly m q Operation.Delete k
-delete-singly steps m b i rest q in-row k = run-singly steps m b i rest q in-row Operation.Delete k
-
--- ---- Operations run singly, one after the other
-
-final-nil : (m : Memory) (cs : List Call) → finalMemory m cs ≡ finalMemory (finalMemory m []) cs
-unfolding finalMemory
-final-nil m cs = refl
-
-final-cons : (m : Memory) (c : Call) (cs : List Call) → finalMemory m (c ∷ cs) ≡ finalMemory (afterCall m c) cs
-unfolding finalMemory
-final-cons m c cs = refl
-
--- No call changes the number of parties.
-step-parties : (m : Memory) (q : ℕ) → stepCall m q .memory .root .parties ≡ m .root .parties
-unfolding stepped
-step-parties m q = go (cmp (firstCause (stepRows m q)) 0)
-  where
-    traced : (o : Outcome) → Traced (partyAt (m .parties) q .step) (viewOf m q) o → o .after .root .parties ≡ m .root .parties
-    traced o (stays _ e) = ap (λ (v : View). v .root .parties) e
-    traced o (goes _ l _) = l .sizes .parties=
-
-    go : Cmp (firstCause (stepRows m q)) 0 → stepCall m q .memory .root .parties ≡ m .root .parties
-    go (same e) =
-        ap (λ (c : Called StepAnswer). c .memory .root .parties) (step-accepted m q e)
-        ∙ traced (stepOf (partyAt (m .parties) q .step) (viewOf m q)) (step-traced (viewOf m q) (ready m q e))
-    go (diff d) = ap (λ (c : Called StepAnswer). c .memory .root .parties) (step-refused m (firstCause (stepRows m q)) (omega arith) q refl)
-
-begin-parties : (m : Memory) (q : ℕ) (o : Operation) (k : ℕ) → beginCall m q o k .memory .root .parties ≡ m .root .parties
-unfolding withBegun
-begin-parties m q o k = go (cmp (firstCause (beginRows m q)) 0)
-  where
-    go : Cmp (firstCause (beginRows m q)) 0 → beginCall m q o k .memory .root .parties ≡ m .root .parties
-    go (same e) = ap (λ (c : Called BeginAnswer). c .memory .root .parties) (begin-accepted m q o k e)
-    go (diff d) = ap (λ (c : Called BeginAnswer). c .memory .root .parties) (begin-refused m (firstCause (beginRows m q)) (omega arith) q o k refl)
-
--- What holds after one step, and after the run from there, holds after the run.
-run-one : (P : Memory → Type 0) (n : ℕ) (m : Memory) (q : ℕ) → P (stepCall m q .memory) → P (runAlone n (stepCall m q .memory) q .memory) → P (runAlone (suc n) m q .memory)
-unfolding runAlone
-run-one P n m q once more = go (stepCall m q .answer)
-  where
-    go : (a : StepAnswer) → P ((elim a as (λ x. Called StepAnswer) [ StepAnswer.Waiting ↦ stepCall m q | StepAnswer.Moved ↦ runAlone n (stepCall m q .memory) q | StepAnswer.Done y s ↦ stepCall m q | StepAnswer.Refused k ↦ stepCall m q ]) .memory)
-    go StepAnswer.Waiting = once
-    go StepAnswer.Moved = more
-    go (StepAnswer.Done y s) = once
-    go (StepAnswer.Refused k) = once
-
-run-parties : (n : ℕ) (m : Memory) (q : ℕ) → runAlone n m q .memory .root .parties ≡ m .root .parties
-unfolding runAlone
-run-parties zero m q = step-parties m q
-run-parties (suc n) m q = run-one (λ (t : Memory). t .root .parties ≡ m .root .parties) n m q (step-parties m q) (run-parties n (stepCall m q .memory) q ∙ step-parties m q)
-
--- A memory that a list of calls leads to from memory m.
-pub record LedTo (m t : Memory) : Type 0 where
-  pub list : List Call
-  pub leads : t ≡ finalMemory m list
-
-led-on : (m t u : Memory) → LedTo m t → LedTo t u → LedTo m u
-led-on m t u a c = record { list = a .list ++ c .list; leads = c .leads ∙ ap (λ (x : Memory). finalMemory x (c .list)) (a .leads) ∙ sym (joins m (a .list)) }
-  where
-    joins : (x : Memory) (xs : List Call) → finalMemory x (xs ++ c .list) ≡ finalMemory (finalMemory x xs) (c .list)
-    joins x [] = final-nil x (c .list)
-    joins x (y ∷ ys) = final-cons x y (ys ++ c .list) ∙ joins (afterCall x y) ys ∙ ap (λ (z : Memory). finalMemory z (c .list)) (sym (final-cons x y ys))
-
-step-led : (m : Memory) (q : ℕ) → LedTo m (stepCall m q .memory)
-unfolding finalMemory afterCall
-step-led m q = record { list = stepFor q ∷ []; leads = refl }
-
-begin-led : (m : Memory) (q : ℕ) (o : Operation) (k : ℕ) → LedTo m (beginCall m q o k .memory)
-unfolding finalMemory afterCall
-begin-led m q o k = record { list = beginFor q o k ∷ []; leads = refl }
-
-run-led : (n : ℕ) (m : Memory) (q : ℕ) → LedTo m (runAlone n m q .memory)
-unfolding runAlone
-run-led zero m q = step-led m q
-run-led (suc n) m q = run-one (LedTo m) n m q (step-led m q) (led-on m (stepCall m q .memory) (runAlone n (stepCall m q .memory) q .memory) (step-led m q) (run-led n (stepCall m q .memory) q))
-
--- An operation that a party is to run, and what is owed of a list of them run singly, one after the other.
-pub record Wanted : Type 0 where
-  pub party : ℕ
-  pub operation : Operation
-  pub key : ℕ
-
--- The memory after an operation run alone with so many calls.
-abbrev pub afterAlone : Memory → Wanted → ℕ → Memory
-afterAlone m x n = runAlone n (beginCall m (x .party) (x .operation) (x .key) .memory) (x .party) .memory
-
--- Each runs as the yardstick says; then nobody is under way, and the memory is one that calls lead to.
-pub record Singly (m : Memory) (x : Wanted) : Type 0 where
-  pub run : RunSingly m (x .party) (x .operation) (x .key)
-  pub rests : AtRest (afterAlone m x (run .calls))
-  pub led : LedTo m (afterAlone m x (run .calls))
-
-abbrev pub EachSingly : Memory → List Wanted → Type 0
-EachSingly m [] = Unit {0}
-EachSingly m (x ∷ xs) = (s : Singly m x) × EachSingly (afterAlone m x (s .run .calls)) xs
-
-pub each-singly : StepsKept → (m : Memory) (b : Book) → Inv m b → AtRest m → (xs : List Wanted) → All (λ x. x .party < m .root .parties) xs → EachSingly m xs
-unfolding run-singly
-each-singly steps m b i rest [] f = tt
-each-singly steps m b i rest (x ∷ xs) f =
-    let e = run-ends steps m b i rest (x .party) (f .0) (x .operation) (x .key) in
-    let begun-memory = beginCall m (x .party) (x .operation) (x .key) .memory in
-    let same-parties = run-parties (e .calls) begun-memory (x .party) ∙ begin-parties m (x .party) (x .operation) (x .key) in (
-      record {
-        run = run-singly steps m b i rest (x .party) (f .0) (x .operation) (x .key);
-        rests = e .rests;
-        led = led-on m begun-memory (afterAlone m x (e .calls)) (begin-led m (x .party) (x .operation) (x .key)) (run-led (e .calls) begun-memory (x .party));
-      },
-      each-singly steps (afterAlone m x (e .calls)) (e .book) (e .inv) (e .rests) xs (all-map xs (λ y l. subst (λ (n : ℕ). y .party < n) (sym same-parties) l) (f .1)),
-    )
-
--- Nobody is under way in formatted memory.
-pub start-rests : (s : Sizes) → AtRest (start s)
-unfolding formatted formattedRoot underWay
-start-rests s q = ap (λ (p : Party). not (isIdle p)) (idles (s .parties) q)
-  where
-    idles : (n j : ℕ) → getD (replicate n idle) j idle ≡ idle
-    idles zero j = refl
-    idles (suc n) zero = refl
-    idles (suc n) (suc j) = idles n j
+-- DEMAND 2, a list of operations run singly from formatted memory.
+pub list-singly : (s : Sizes) (xs : List Wanted) → partiesFit (s .parties) xs ≡ true → ListSingly s xs
+unfolding finalMemory emptySet
+list-singly s xs f =
+    let all = list-from s [] (start-rests s) xs f in
+    let z = sizesOf s in
+    record {
+      starts = start-file s;
+      moves = all .moves;
+      replies = all .replies ∙ ap (λ (t : File). repliesSingly (performedAll z t xs .answers) (all .moves)) (start-file s);
+      leaves = all .leaves ∙ ap (λ (t : File). performedAll z t xs .file) (start-file s);
+      rests = all .rests;
+      as-set = all-as-set z (some-original s) (startFile z) emptySet (holding-keys (s .originals) (startFile z) (λ k. false) emptySet (λ k. refl) (start-held s)) xs;
+    }

@@ -15,12 +15,12 @@ use Rattle.model.specs.PagePlaces.{count, freeList, chainedFrom, handIf,
 use Rattle.model.specs.Progress.{underWay}
 use Rattle.model.specs.Demands.{AtRest}
 use Rattle.model.specs.Sequential.{File, pagesInUse}
-use Rattle.model.proofs.Laws.Lists.{Cmp, same, diff, cmp, Ord, lt, ge, ord, All, all-from, among-count, not-false, eqb-true, eqb-same, eqb-diff, count-append, count-nil, count-cons}
+use Rattle.model.proofs.Laws.Lists.{Cmp, same, diff, cmp, All, all-from, among-count, not-both, eqb-same, eqb-diff, count-append, count-nil, count-cons}
 use Rattle.model.proofs.Laws.Filling.{IsOverflow}
 use Rattle.model.proofs.Laws.Reading.{length-overflow}
 use Rattle.model.proofs.Invariant.Ghost.{rootExtent, size}
-use Rattle.model.proofs.Invariant.Statement.{restructures, NoPages, PartyOk, resting, working, Inv, sceneOf}
-use Rattle.model.proofs.Theorems.Calls.{operation-some}
+use Rattle.model.proofs.Invariant.Statement.{restructures, NoPages, Inv, sceneOf}
+use Rattle.model.proofs.Theorems.UnderWay.{entered-under, Met, no-party, nothing-begun, under-way, meets}
 use Rattle.model.proofs.Theorems.Places.{free-listed, chain-listed, pages-placed}
 use Rattle.model.proofs.Theorems.Singly.AtRest.{listed, liveFile, file-read, live-pages, Whole}
 
@@ -67,24 +67,21 @@ sum-many p (suc v) xs f = omega (arith, f (p + v) (omega arith) (omega arith), s
 
 -- ---- At rest
 
-module _ (m : Memory) (b : Book) (i : Inv m b) (rest : AtRest m) where
+module _ (m : Memory) (b : Book) (i : Inv m b) (rest : AtRest b) where
   -- Every record is the zero record, and no party has pages.
-  party-rests : (q : ℕ) → Ord q (m .root .parties) → (partyAt (m .parties) q ≡ idle) × NoPages (sceneOf m (i .ghost) b) q
-  unfolding underWay
-  party-rests q (ge h _) = (List·getD-eq-default (m .parties) idle (omega (arith, i .parties-many)), i .strangers q h .1)
-  party-rests q (lt h _) = go (i .parties-ok q h)
+  party-rests : (q : ℕ) → (partyAt (m .parties) q ≡ idle) × NoPages (sceneOf m (i .ghost) b) q
+  party-rests q = go (meets m b i q)
     where
-      go : PartyOk (sceneOf m (i .ghost) b) q (partyAt (m .parties) q) → (partyAt (m .parties) q ≡ idle) × NoPages (sceneOf m (i .ghost) b) q
-      go (resting e _ none-held _) = (e, none-held)
-      go (working e k f) =
-          absurd (operation-some (e .operation) (partyAt (m .parties) q .operation) (k .same-operation)
-          (eqb-true (partyAt (m .parties) q .operation) 0 (not-false _ (rest q))))
+      go : Met m b i q → (partyAt (m .parties) q ≡ idle) × NoPages (sceneOf m (i .ghost) b) q
+      go (no-party h _ n _) = (List·getD-eq-default (m .parties) idle (omega (arith, i .parties-many)), n)
+      go (nothing-begun _ e _ n _) = (e, n)
+      go (under-way _ e k _ _) = absurd (not-both (underWay b q) (entered-under b q e (k .entry)) (rest q))
 
   pub idle-at-rest : (q : ℕ) → partyAt (m .parties) q ≡ idle
-  idle-at-rest q = party-rests q (ord q (m .root .parties)) .0
+  idle-at-rest q = party-rests q .0
 
   pub no-pages-at-rest : (q : ℕ) → NoPages (sceneOf m (i .ghost) b) q
-  no-pages-at-rest q = party-rests q (ord q (m .root .parties)) .1
+  no-pages-at-rest q = party-rests q .1
 
   pub live-at-rest : i .ghost .live ≡ rootExtent (m .root)
   unfolding restructures

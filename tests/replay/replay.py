@@ -18,8 +18,9 @@ BOUND = 500_000
 CHECKS = [
     "Book.bookAgrees Book.emptyBook (Runs.events m calls)",
     "Links.linksFresh Links.clockStart m calls",
-    "Progress.alwaysProgresses m calls",
-    "Holds.grantsRight [] m calls",
+    "Progress.alwaysProgresses (m .root .parties) Book.emptyBook m calls",
+    "Holds.grantsRight (m .root) Book.emptyBook [] m calls",
+    "NoPage.noPageKept NoPage.noneWrote (Runs.events m calls)",
 ]
 
 # The fields of a root record and of a party's record, in the order of the words in a file of single calls.
