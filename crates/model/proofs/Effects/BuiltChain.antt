@@ -1,5 +1,7 @@
--- A live chain looked through whole, and one chain built beside the file in pages taken from the free list, its primary page in scratch (steps 10 and 26).
--- Main statements: chain-found; taken-one (the free list gives the pages); building-then, kept-by, none-new (what the party then has), Onward and built-parts (the parts of the invariant after such a step).
+-- A live chain looked through whole, and one chain built beside the file in pages taken from the free list, its
+-- primary page in scratch (steps 10 and 26).
+-- Main statements: chain-found; taken-one (the free list gives the pages); building-then, kept-by, none-new (what the
+-- party then has), Onward and built-parts (the parts of the invariant after such a step).
 use mathlib.Core.Path.{_≡_, refl, sym, ap, _∙_, subst}
 use mathlib.Core.Logic.{_≢_}
 use mathlib.Core.Bool.{true, false, false≢true}

@@ -1,5 +1,7 @@
--- Steps that end an operation: the party gives up all it holds, its record and scratch page are zeroed, and its answer is the book's note.
--- Main statements: claims-claimed (every lock of a list is claimed by it); Ends (what such a step owes), held-listed (its locks are found held), done-kept, ended-kept.
+-- Steps that end an operation: the party gives up all it holds, its record and scratch page are zeroed, and its answer
+-- is the book's note.
+-- Main statements: claims-claimed (every lock of a list is claimed by it); Ends (what such a step owes), held-listed
+-- (its locks are found held), done-kept, ended-kept.
 use mathlib.Core.Path.{_≡_, refl, sym, _∙_, subst}
 use mathlib.Core.Bool.{true}
 use mathlib.Core.List.{List, [], _∷_}

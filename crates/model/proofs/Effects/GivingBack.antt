@@ -1,6 +1,8 @@
--- Pages given back to the free list (steps 14 and 29): those that the party's old link leads to and, after a merge, those of the partner.
--- Main statements: no-reader (of a chain held exclusively); given-room (the free count stays within V), given-long, given-sizes; old-given, partner-given, given-kept, no-pages-given (who has what then);
--- GivesBack (what else such a step leaves), giving-parts (the parts of the invariant after it).
+-- Pages given back to the free list (steps 14 and 29): those that the party's old link leads to and, after a merge,
+-- those of the partner.
+-- Main statements: no-reader (of a chain held exclusively); given-room (the free count stays within V), given-long,
+-- given-sizes; old-given, partner-given, given-kept, no-pages-given (who has what then); GivesBack (what else such a
+-- step leaves), giving-parts (the parts of the invariant after it).
 use mathlib.Core.Path.{_≡_, refl, sym, ap, _∙_, subst}
 use mathlib.Core.Logic.{_≢_, _⊎_, inl, inr}
 use mathlib.Core.Bool.{true, false}

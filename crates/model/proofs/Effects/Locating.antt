@@ -1,4 +1,5 @@
--- A party that locates, at 1 to 8 but not at 6, moves on: what it then owes, whether it requests a lock, keeps the locks it has, or gives one up.
+-- A party that locates, at 1 to 8 but not at 6, moves on: what it then owes, whether it requests a lock, keeps the
+-- locks it has, or gives one up.
 -- Main statements: Locates (what it knows), locating (what it owes then).
 use mathlib.Core.Path.{_≡_, refl}
 use mathlib.Core.Bool.{true, false}
@@ -16,17 +17,19 @@ use Rattle.model.proofs.Invariant.Turn.{Plain, Turn, after, before, me,
 use Rattle.model.proofs.Effects.OwnRecord.{Moves}
 use Rattle.model.proofs.Effects.Moves.{extents-rest, same-file}
 
+-- Up to 8 a party does not restructure.
 early-rests : (n : ℕ) → n ≤ 8 → restructuresAt n ≡ false
 early-rests n h = rw (lt-leb 16 n (omega arith), lt-leb 24 n (omega arith)) refl
 
--- Step numbers up to 8 and not 6, at which the book notes nothing and the party neither restructures nor uses a page outside the live file.
+-- At a step number up to 8 and not 6 the book notes nothing, and the party neither restructures nor uses a page outside the live file.
 early-plain : (k : ℕ) → k ≤ 8 → k ≢ 6 → Plain k × (restructuresAt k ≡ false)
 early-plain k h n = (
   rw (eqb-diff k 6 n, eqb-diff k 10 (omega arith), eqb-diff k 11 (omega arith), eqb-diff k 18 (omega arith), eqb-diff k 29 (omega arith)) refl,
   early-rests k h,
 )
 
--- Party q moves on from step number k to step number n with this lev and chain; nothing is owed yet, and `knows` is what it must know besides.
+-- Party q moves on from step number k to step number n with this lev and chain.
+-- Nothing is owed yet, and `knows` is what it must know besides.
 pub record Locates {m : Memory} {b : Book} {q k : ℕ} (t : Turn m b q k) (n lev chain : ℕ) : Type 0 where
   pub numbers : (k ≤ 8) × (k ≢ 6) × (n ≤ 8)
   pub has-next : hasStep (me t .operation) n ≡ true

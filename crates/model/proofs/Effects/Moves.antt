@@ -1,7 +1,8 @@
 -- A party that goes on to another step number while root, pages and ghost stay: what it knew holds of its new record.
--- Main statements: at-its-step; busy-onto, busy-to, busy-chains, busy-owed (bounds); leaving-to, settled-to (facts); no-pages-left, settled-left, names-old
--- (where no old pages are left, and where some are); split-owed, merge-owed (whose operation it is); SameFile, extents-rest, extents-keep, extents-stop
--- (a party that does not restructure, goes on to, or stops).
+-- Main statements: at-its-step; busy-onto, busy-to, busy-chains, busy-owed (bounds); leaving-to, settled-to (facts);
+-- no-pages-left, settled-left, names-old (where no old pages are left, and where some are); split-owed, merge-owed
+-- (whose operation it is); SameFile, extents-rest, extents-keep, extents-stop (a party that does not restructure, goes
+-- on to, or stops).
 use mathlib.Core.Path.{_≡_, refl, sym, ap, _∙_}
 use mathlib.Core.Bool.{Bool, true, false, _&&_, _||_, false≢true}
 use Prim.Native.Nat.{ℕ, _≤_, _<_}

@@ -1,5 +1,6 @@
 -- Steps that change the party's record and lock words alone: root, pages and ghost stay.
--- Main statements: OwnChange (what such a step owes), pages-row, own-parts (the parts of the invariant after it); Moves (what one owes that moves and that the book does not note), own-kept, keeping-kept.
+-- Main statements: OwnChange (what such a step owes), pages-row, own-parts (the parts of the invariant after it);
+-- Moves (what one owes that moves and that the book does not note), own-kept, keeping-kept.
 use mathlib.Core.Path.{_≡_, refl, sym, ap, _∙_}
 use mathlib.Core.Logic.{_≢_}
 use mathlib.Core.Bool.{false}
@@ -41,7 +42,8 @@ protected-row s t q p own= row= l stays c x (in-old j e n) = in-old j (rw own= e
         rw (row=, i, row-same (s .parties) q p l) (stays x mine ∙ ap (λ (k : ℕ). partyAt (s .parties) k .chain) (sym i) ∙ n)
     go (diff d) = rw (row=, row-other (s .parties) q j p d) n
 
--- What such a step owes, that leaves the record p, the book c and the lock words ls. The pages are ps: where it writes pages too, none that another party or a live chain notices.
+-- What such a step owes, that leaves the record p, the book c and the lock words ls.
+-- The pages are ps: where it writes pages too, none that another party or a live chain notices.
 pub record OwnChange (m : Memory) (b : Book) (i : Inv m b) (q : ℕ) (ps : List ℕ) (p : Party) (c : Book) (ls : List ℕ) : Type 0 where
   pub entries= : (j : ℕ) → j ≢ q → c .entries j ≡ b .entries j
   pub contents= : c .contents ≡ b .contents
@@ -51,7 +53,7 @@ pub record OwnChange (m : Memory) (b : Book) (i : Inv m b) (q : ℕ) (ps : List 
   pub locks : LocksOk (lockWords (m .root)) ls (claimed (m .root) (set (m .parties) q p))
   pub self : PartyOk (record { root = m .root; parties = set (m .parties) q p; pages = ps; ghost = i .ghost; entries = c .entries }) q p
 
--- The primary pages outside the live file.
+-- The pages are in order as before, where the party frees no primary page outside the live file.
 pub pages-row : (m : Memory) (b : Book) (i : Inv m b) (q : ℕ) → q < length (m .parties) → (p : Party) → ((d : ℕ) → uses p d ≡ false → uses (partyAt (m .parties) q) d ≡ false)
     → PagesOk (m .root) (set (m .parties) q p) (m .pages) (i .ghost)
 pages-row m b i q row-long p frees =

@@ -1,6 +1,6 @@
 -- Steps that give up a lock: the lock is found held, and the words then say what the party's new record says.
--- Main statements: lock-held (a claimed lock is held); Holds (a lock of the party), holds-it, held-one, release-locks; Releases (what a step owes that gives up one lock and moves on),
--- given-up-kept, release-kept.
+-- Main statements: lock-held (a claimed lock is held); Holds (a lock of the party), holds-it, held-one, release-locks;
+-- Releases (what a step owes that gives up one lock and moves on), given-up-kept, release-kept.
 use mathlib.Core.Path.{_≡_, refl, sym, _∙_, ap}
 use mathlib.Core.Logic.{_≢_}
 use mathlib.Core.Bool.{Bool, true, false, cond, not, _&&_, _||_, and-true, and-false, or-false}

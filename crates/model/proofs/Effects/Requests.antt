@@ -1,5 +1,6 @@
 -- Steps that request a lock: granted by Table I, the party holds it and its record moves on; else it waits.
--- Main statements: claim-more, claim-among (one lock more in a list, at its front or anywhere); Requests (what a requesting step owes), request-kept.
+-- Main statements: claim-more, claim-among (one lock more in a list, at its front or anywhere); Requests (what a
+-- requesting step owes), request-kept.
 use mathlib.Core.Path.{_≡_, refl, sym, ap, _∙_}
 use mathlib.Core.Bool.{Bool, true, cond, _&&_, _||_, or-comm, or-assoc, or-false, and-true, and-false}
 use mathlib.Core.List.{List, [], _∷_, _++_, append-nil}

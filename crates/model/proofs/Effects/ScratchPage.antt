@@ -1,5 +1,7 @@
--- Steps that write the party's own scratch page and no other: no other party and no live chain notices. Root and ghost stay.
--- Main statements: protected-bounds; scratch-same, scratch-off (the page written); scratch-parts (the parts of the invariant after such a step); copied-walks (a page copied there by a find).
+-- Steps that write the party's own scratch page and no other: no other party and no live chain notices. Root and ghost
+-- stay.
+-- Main statements: protected-bounds; scratch-same, scratch-off (the page written); scratch-parts (the parts of the
+-- invariant after such a step); copied-walks (a page copied there by a find).
 use mathlib.Core.Path.{_≡_, refl, sym, ap, _∙_}
 use mathlib.Core.Logic.{_≢_, _⊎_, inl, inr}
 use mathlib.Core.Bool.{true, false, cond, false≢true}
@@ -122,7 +124,8 @@ module _ {m : Memory} {b : Book} {q k : ℕ} (t : Turn m b q k) (w : List ℕ) (
 
 -- ---- A page copied to scratch
 
--- The page w, for a find whose record is p and whose entry is e: it leads to the pages of rest, and the note says whether the key is on one of them.
+-- The page w, for a find whose record is p and whose entry is e: it leads to the pages of rest,
+-- and the note says whether the key is on one of them.
 pub record Leads (s : Scene) (q : ℕ) (p : Party) (e : Entered) (w rest : List ℕ) : Type 0 where
   pub sound : pageSound (s .root) w ≡ true
   pub link : linkOf w ≡ linkToFirst rest

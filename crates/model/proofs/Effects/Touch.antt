@@ -1,5 +1,6 @@
 -- Steps that write pages: which pages they touch, and why no other party and no live chain notices.
--- Main statements: Touch (the kinds of page that a step may write), Touches; keeps-touched (every other party keeps what it relies on), chain-untouched (every live chain stays).
+-- Main statements: Touch (the kinds of page that a step may write), Touches; keeps-touched (every other party keeps
+-- what it relies on), chain-untouched (every live chain stays).
 use mathlib.Core.Path.{_≡_, refl, sym, ap, _∙_, subst, subst₃}
 use mathlib.Core.Logic.{_≢_}
 use mathlib.Core.Bool.{true, false, false≢true}

@@ -1,7 +1,9 @@
--- One party's turn: the invariant holds, the party is in the row, and its step number is known. Every step lemma begins here.
--- Main statements: Turn, turn-at; me, before, after; row-long, party-small; its-claims, has-step, restructures-now, uses-none, note-still, owns-no-old (what goes by the step number);
--- live-now, low-now (how far the file extends while the party restructures).
-use mathlib.Core.Path.{_≡_, refl, sym, ap, _∙_, subst}
+-- One party's turn: the invariant holds, the party is in the row, and its step number is known. Every step lemma
+-- begins here.
+-- Main statements: Turn, turn-at; me, before, after; row-long, party-small; its-claims, has-step, restructures-now,
+-- uses-none, note-still, owns-no-old (what goes by the step number); live-now, low-now (how far the file extends while
+-- the party restructures).
+use mathlib.Core.Path.{_≡_, refl, ap, _∙_, subst}
 use mathlib.Core.Bool.{Bool, true, false, _||_}
 use mathlib.Core.List.{List}
 use Prim.Native.Nat.{ℕ, suc, _<_}
@@ -32,6 +34,7 @@ pub record Turn (m : Memory) (b : Book) (q k : ℕ) : Type 0 where
   pub busy : Busy (sceneOf m (inv .ghost) b) q (partyAt (m .parties) q) entered
   pub facts : factsAt k (sceneOf m (inv .ghost) b) q (partyAt (m .parties) q) entered
 
+-- The turn of a party whose step number is n + 1.
 abbrev pub turn-at : (m : Memory) (b : Book) → Inv m b → (q : ℕ) → q < m .root .parties → (n : ℕ) → partyAt (m .parties) q .step ≡ suc n → Turn m b q (suc n)
 turn-at m b i q in-row n e =
     let now = facts-at n (sceneOf m (i .ghost) b) q (partyAt (m .parties) q) e (i .parties-ok q in-row) in
@@ -72,12 +75,15 @@ module _ {m : Memory} {b : Book} {q k : ℕ} (t : Turn m b q k) where
   abbrev pub after : Party → Scene
   after p = record { root = m .root; parties = set (m .parties) q p; pages = m .pages; ghost = t .inv .ghost; entries = b .entries }
 
+  -- The row has it, and there are at most 16.
   pub row-long : q < length (m .parties)
   row-long = omega (arith, t .in-row, t .inv .parties-many)
 
   pub party-small : q < 16
   party-small = omega (arith, t .in-row, t .inv .limits .parties-fit)
 
+  -- What goes by the step number: its record and its locks, that its operation has the step, whether it restructures, that it uses no page
+  -- outside the live file, and that the book stays as it is.
   pub its-record : partyAt (m .parties) q ≡ atStep k (partyAt (m .parties) q)
   its-record = ap (λ (n : ℕ). atStep n me) (t .is-at)
 
@@ -100,6 +106,7 @@ module _ {m : Memory} {b : Book} {q k : ℕ} (t : Turn m b q k) where
       let y = or-neither (eqb k 6) (eqb k 10) (x .0) in
       ap (noteFor b q (b .entries q)) (t .is-at) ∙ still-noted b q (b .entries q) k (eqb-false k 6 (y .0)) (eqb-false k 10 (y .1)) (eqb-false k 11 (x .1))
 
+  -- A party without pages owns none that is to be given back.
   pub owns-no-old : NoPages before q → (x : ℕ) → t .inv .ghost .own x ≡ oldOf q → ⊥
   owns-no-old none x e = owns-nothing (t .inv .pages-ok .owned) (oldOf q) x (kinds-apart (oldOf q) nobody refl) (none .nothing-old .no-old) e
 

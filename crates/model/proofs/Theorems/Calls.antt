@@ -29,17 +29,17 @@ use Rattle.model.specs.Runs.{Call, beginFor, stepFor, Reply, toBegin, to
 use Rattle.model.specs.Book.{Book, Entered, changedAt, enter, bookAfter, afterReply, afterBegin, agrees, agreesWith, bookAgrees, bookAtEnd}
 use Rattle.model.specs.Steps.Dispatch.{hasStep, stepOf}
 use Rattle.model.proofs.Laws.Lists.{Ord, lt, ge, ord, both-and, eqb-same, eqb-diff, le-leb, lt-ltb}
-use Rattle.model.proofs.Laws.Reading.{held-length}
 use Rattle.model.proofs.Invariant.Ghost.{nobody, oldOf, free, rootExtent, size}
 use Rattle.model.proofs.Invariant.Owners.{owns-nothing, kinds-apart}
 use Rattle.model.proofs.Invariant.Claims.{claims}
 use Rattle.model.proofs.Invariant.LockMoves.{locks-stay}
+use Rattle.model.proofs.Effects.OwnRecord.{same-sizes, own-parts}
 use Rattle.model.proofs.Invariant.Facts.{no-pages-held}
 use Rattle.model.proofs.Invariant.Extents.{level-fits}
-use Rattle.model.proofs.Invariant.Statement.{Limits, restructures, uses, NoPages, Busy, PartyOk, resting, working, Inv, sceneOf}
-use Rattle.model.proofs.Effects.OwnRecord.{same-sizes, own-parts}
-use Rattle.model.proofs.Effects.Kept.{Kept, extents-move, assemble}
+use Rattle.model.proofs.Laws.Reading.{held-length}
 use Rattle.model.proofs.Theorems.RefusalOrder.{begin-order, step-order}
+use Rattle.model.proofs.Invariant.Statement.{Limits, restructures, uses, NoPages, Busy, PartyOk, resting, working, Inv, sceneOf}
+use Rattle.model.proofs.Effects.Kept.{Kept, extents-move, assemble}
 
 -- Every step of a party under way is not refused, agrees with the book and keeps the invariant.
 abbrev pub StepsKept : Type 0

@@ -46,9 +46,9 @@ use Rattle.model.proofs.Effects.Kept.{row-same}
 use Rattle.model.proofs.Effects.Releases.{lock-held}
 use Rattle.model.proofs.Effects.ScratchPage.{protected-bounds}
 use Rattle.model.proofs.Effects.BuiltChain.{chain-found}
+use Rattle.model.proofs.Steps.Chase.Copy.{step06-moves, stayed-home}
 use Rattle.model.proofs.Theorems.Alters.{Tested, turned-away, let-through, tested}
 use Rattle.model.proofs.Theorems.Reached.{reached-inv}
-use Rattle.model.proofs.Steps.Chase.Copy.{step06-moves, stayed-home}
 
 -- ---- How far the live file extends, by Ellis's x
 
