@@ -25,7 +25,7 @@ use Rattle.model.proofs.Invariant.Claims.{claims, isClaimed, claimed}
 use Rattle.model.proofs.Invariant.Statement.{ExtentsOk, NoPages, resting, Inv}
 use Rattle.model.proofs.Invariant.Frame.{named, later}
 use Rattle.model.proofs.Invariant.Facts.{no-pages-held}
-use Rattle.model.proofs.Invariant.Turn.{Plain, Turn, before, claimsAt, its-claims, me, note-still, notesAt, owns-no-old, party-small, row-long, uses-none, usesAt}
+use Rattle.model.proofs.Invariant.Turn.{Plain, Turn, before, claimsAt, its-claims, me, note-still, notesAt, owns-no-old, uses-none, usesAt}
 use Rattle.model.proofs.Effects.Kept.{Kept, assemble}
 use Rattle.model.proofs.Effects.ScratchPage.{scratch-same, scratch-parts}
 use Rattle.model.proofs.Effects.GiveUps.{Apart, given-up-rest, held-all, release-all}
@@ -70,7 +70,7 @@ module _ {m : Memory} {b : Book} {q k : ℕ} (t : Turn m b q k) {a : OperationAn
         stays = λ y o. absurd (owns-no-old t (x .no-pages) y o);
         frees = λ d _. uses-none t (or-neither (notesAt k) (usesAt k) (x .plain) .1) d;
         extents = x .extents;
-        locks = release-all (m .root) (m .parties) (viewOf m q) (t .inv .locks-ok) (row-long t) (party-small t) idle refl cs has (x .apart) (x .fit) claimed-all;
+        locks = release-all t idle refl cs has (x .apart) (x .fit) claimed-all;
         self = resting refl (rw (eqb-same q q refl) refl) (no-pages-held _ _ q refl (x .no-pages)) (scratch-same m b (t .inv) q (t .in-row) zeroPage length-zeroPage);
       }))
 

@@ -5,20 +5,22 @@ use mathlib.Core.Logic.{_≢_}
 use mathlib.Core.Bool.{Bool, true, false, cond, not, _&&_, _||_, and-true, and-false, and-not-self, or-false}
 use mathlib.Core.List.{List, [], _∷_}
 use Prim.Native.Nat.{ℕ, _<_}
-use lib.ListN.{length, set}
+use lib.ListN.{set}
 use lib.Dec.{eqb}
-use Rattle.model.specs.declared.Root.{Root}
 use Rattle.model.specs.declared.Party.{Party}
 use Rattle.model.specs.declared.Mode.{Mode}
 use Rattle.model.specs.LockWords.{Claim}
 use Rattle.model.specs.Outcome.{View, withLocks}
 use Rattle.model.specs.LockRequests.{isHeld, heldAll, withoutHold, givenUp}
-use Rattle.model.specs.Memory.{partyAt}
+use Rattle.model.specs.Memory.{Memory, viewOf}
 use Rattle.model.specs.Holds.{sameMode}
 use Rattle.model.proofs.Laws.Lists.{Cmp, same, diff, cmp, All, all-zip, eqb-same, eqb-diff}
 use Rattle.model.proofs.Invariant.Claims.{claims, isClaimed, claimed, LocksOk}
 use Rattle.model.proofs.Invariant.LockMoves.{held-true, locks-released, locks-same, locks-move}
 use Rattle.model.proofs.Effects.Requests.{claim-more}
+use Rattle.model.specs.Book.{Book}
+use Rattle.model.proofs.Invariant.Turn.{Turn, me, party-small, row-long}
+use Rattle.model.specs.Sizes.{lockWords}
 
 -- No two locks of the list are of one word.
 abbrev pub Apart : List Claim → Type 0
@@ -69,14 +71,14 @@ given-up-locks {h = h} (c ∷ cs) v ok l d f a =
     (all-zip cs (λ e n y. rw (eqb-diff (e .word) (c .word) n) (and-true _ ∙ y)) (d .0) (a .1)))
 
 -- A party that gives up all it holds, and whose new record claims nothing.
-pub release-all : {n : ℕ} (r : Root) (ps : List Party) (v : View) → LocksOk n (v .locks) (claimed r ps) → v .number < length ps → v .number < 16 → (p : Party)
-    → claims r p ≡ [] → (cs : List Claim) → claims r (partyAt ps (v .number)) ≡ cs → Apart cs → All (λ c. c .word < n) cs
-    → All (λ c. claimed r ps (c .word) (v .number) (c .mode) ≡ true) cs → LocksOk n (givenUp cs v .locks) (claimed r (set ps (v .number) p))
+pub release-all : {m : Memory} {b : Book} {q k : ℕ} (t : Turn m b q k) (p : Party) → claims (m .root) p ≡ [] → (cs : List Claim) → claims (m .root) (me t) ≡ cs → Apart cs
+    → All (λ c. c .word < lockWords (m .root)) cs → All (λ c. claimed (m .root) (m .parties) (c .word) q (c .mode) ≡ true) cs
+    → LocksOk (lockWords (m .root)) (givenUp cs (viewOf m q) .locks) (claimed (m .root) (set (m .parties) q p))
 unfolding without isClaimed
-release-all r ps v ok in-row small p none cs has d f a =
-    locks-move r ps (v .number) p in-row (given-up-locks cs v ok small d f a) (λ i k o. go i k o (cmp k (v .number)))
+release-all {m} {b} {q} t p none cs has d f a =
+    locks-move (m .root) (m .parties) q p (row-long t) (given-up-locks cs (viewOf m q) (t .inv .locks-ok) (party-small t) d f a) (λ i j o. go i j o (cmp j q))
   where
-    go : (i k : ℕ) (o : Mode) → Cmp k (v .number) → (claimed r ps i k o && not (eqb k (v .number) && isClaimed cs i o))
-        ≡ cond (eqb k (v .number)) (isClaimed (claims r p) i o) (claimed r ps i k o)
-    go i k o (same e) = rw (e, eqb-same (v .number) (v .number) refl, none, has) (and-not-self (isClaimed cs i o))
-    go i k o (diff n) = rw (eqb-diff k (v .number) n) (and-true (claimed r ps i k o))
+    go : (i j : ℕ) (o : Mode) → Cmp j q → (claimed (m .root) (m .parties) i j o && not (eqb j q && isClaimed cs i o))
+        ≡ cond (eqb j q) (isClaimed (claims (m .root) p) i o) (claimed (m .root) (m .parties) i j o)
+    go i j o (same e) = rw (e, eqb-same q q refl, none, has) (and-not-self (isClaimed cs i o))
+    go i j o (diff n) = rw (eqb-diff j q n) (and-true (claimed (m .root) (m .parties) i j o))
