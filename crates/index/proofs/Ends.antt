@@ -1,0 +1,97 @@
+-- What the walks of this crate cite that is no step of the machine: what each callee says, and that the contract's equation follows on each way.
+-- Main statements: format-made, format-refused; begin-inside, begin-past; step-inside, step-past.
+use mathlib.Core.Path.{_≡_, refl, sym, _∙_, ap, ap₂, subst}
+use mathlib.Core.Bool.{Bool, true, false, not}
+use mathlib.Core.List.{List, [], _∷_}
+use Prim.Native.Nat.{ℕ, zero, suc, _<_, _≤_, _*_, _^_}
+use native.Mathlib.Omega.{arith}
+use lib.Dec.{T}
+use lib.ListN.{length, set, replicate}
+use Rattle.model.specs.declared.Root.{Root}
+use Rattle.model.specs.declared.Party.{Party}
+use Rattle.model.specs.declared.Operation.{Operation}
+use Rattle.model.specs.declared.FileSizes.{FileSizes}
+use Rattle.model.specs.declared.FormatAnswer.{FormatAnswer}
+use Rattle.model.specs.declared.FormatAnswer.the-variants as FormatAnswer
+use Rattle.model.specs.declared.Stepped.{Stepped}
+use Rattle.model.specs.Records as Records
+use Rattle.model.specs.Memory.{Memory, partyAt}
+use Rattle.model.specs.Calls.{Called, called, formatCall, beginCall, stepCall}
+use Rattle.calls.specs.declared.Formatted.{Formatted}
+use Rattle.calls.specs.declared.Begun.{Begun}
+use Rattle.calls.specs.Lent.{lent, rowAfter, leftByFormat, leftByBegin, leftByStep}
+use Rattle.index.specs.Answered.{isFormatted}
+
+-- The place of a record of 36 bytes does not wrap.
+pub place-fits : (i n : ℕ) → i < n → n * 36 < 2 ^ 63 → i * 36 < 2 ^ 64
+place-fits i n l r = omega (arith, l, r)
+
+-- A word fits an index.
+pub wide-fits : (i : ℕ) → i < 2 ^ 32 → i < 2 ^ 64
+wide-fits i l = omega (arith, l)
+
+-- A store past a list's end changes nothing.
+set-past : {X : Type 0} (xs : List X) (i : ℕ) (x : X) → length xs ≤ i → set xs i x ≡ xs
+set-past [] i x l = refl
+set-past (y ∷ xs) zero x l = absurd (omega (arith, l))
+set-past {X} (y ∷ xs) (suc i) x l = ap (λ (t : List X). y ∷ t) (set-past xs i x (omega (arith, l)))
+
+-- ---- What the calls over values say
+
+-- Format's call with sizes given as one struct.
+abbrev pub formatWith : Memory → FileSizes → Called FormatAnswer
+formatWith m z = formatCall m (z .originals) (z .capacity) (z .primaries) (z .overflow) (z .parties)
+
+-- Format with the sizes z.
+abbrev pub FormatSaid : Root → FileSizes → ℕ → List ℕ → List ℕ → Formatted → List ℕ → List ℕ → Type 0
+FormatSaid r z parties ls gs x ls′ gs′ = (row : List Party) → length row ≡ parties → leftByFormat x row ls′ gs′ ≡ formatWith (lent r row ls gs) z
+
+-- Begin for party q, one of `parties`, whose record is p.
+abbrev pub BeginSaid : Root → Party → ℕ → ℕ → ℕ → ℕ → Operation → ℕ → Begun → Type 0
+BeginSaid r p parties locks pages q o k x =
+    (row : List Party) (ls gs : List ℕ) → length row ≡ parties → length ls ≡ locks → length gs ≡ pages → (q < parties → partyAt row q ≡ p) → leftByBegin x r row q ls gs ≡ beginCall (lent r row ls gs) q o k
+
+-- A step of it.
+abbrev pub StepSaid : Root → Party → ℕ → ℕ → List ℕ → List ℕ → Stepped → List ℕ → List ℕ → Type 0
+StepSaid r p parties q ls gs x ls′ gs′ = (row : List Party) → length row ≡ parties → (q < parties → partyAt row q ≡ p) → leftByStep x row q ls′ gs′ ≡ stepCall (lent r row ls gs) q
+
+-- ---- The row that format leaves
+
+made-row : (a : FormatAnswer) → T (isFormatted a) → (row : List Party) → rowAfter a row ≡ replicate (length row) Records.idle
+made-row FormatAnswer.Formatted t row = refl
+made-row (FormatAnswer.Refused n) t row = absurd t
+
+kept-row : (a : FormatAnswer) → T (not (isFormatted a)) → (row : List Party) → rowAfter a row ≡ row
+kept-row FormatAnswer.Formatted t row = absurd t
+kept-row (FormatAnswer.Refused n) t row = refl
+
+module _ (r : Root) (ps : List Party) (ls gs : List ℕ) where
+  module _ (z : FileSizes) (x : Formatted) (ls′ gs′ : List ℕ) (t : Bool) (told : t ≡ isFormatted (x .answer)) where
+    pub format-made : T t → (ps′ : List Party) (y : Party) → y ≡ Records.idle → ps′ ≡ replicate (length ps) y → FormatSaid r z (length ps) ls gs x ls′ gs′
+        → called (x .answer) (lent (x .root) ps′ ls′ gs′) ≡ formatWith (lent r ps ls gs) z
+    format-made made ps′ y is-idle all said =
+        ap (λ (row : List Party). called (x .answer) (lent (x .root) row ls′ gs′)) (all ∙ ap (replicate (length ps)) is-idle ∙ sym (made-row (x .answer) (subst T told made) ps)) ∙ said ps refl
+
+    pub format-refused : T (not t) → FormatSaid r z (length ps) ls gs x ls′ gs′ → called (x .answer) (lent (x .root) ps ls′ gs′) ≡ formatWith (lent r ps ls gs) z
+    format-refused refused said =
+        ap (λ (row : List Party). called (x .answer) (lent (x .root) row ls′ gs′)) (sym (kept-row (x .answer) (subst (λ (u : Bool). T (not u)) told refused) ps)) ∙ said ps refl
+
+  module _ (q : ℕ) (o : Operation) (k : ℕ) where
+    pub begin-inside : (x : Begun) → BeginSaid r (partyAt ps q) (length ps) (length ls) (length gs) q o k x
+        → called (x .answer) (lent r (set ps q (x .party)) ls gs) ≡ beginCall (lent r ps ls gs) q o k
+    begin-inside x said = said ps ls gs refl refl refl (λ _. refl)
+
+    pub begin-past : (p : Party) (x : Begun) → length ps ≤ q → BeginSaid r p (length ps) (length ls) (length gs) q o k x
+        → called (x .answer) (lent r ps ls gs) ≡ beginCall (lent r ps ls gs) q o k
+    begin-past p x past said =
+        ap (λ (row : List Party). called (x .answer) (lent r row ls gs)) (sym (set-past ps q (x .party) past)) ∙ said ps ls gs refl refl refl (λ h. absurd (omega (arith, h, past)))
+
+  module _ (q : ℕ) where
+    pub step-inside : (x : Stepped) (ls′ gs′ : List ℕ) → StepSaid r (partyAt ps q) (length ps) q ls gs x ls′ gs′
+        → called (x .answer) (lent (x .root) (set ps q (x .party)) ls′ gs′) ≡ stepCall (lent r ps ls gs) q
+    step-inside x ls′ gs′ said = said ps refl (λ _. refl)
+
+    pub step-past : (p : Party) (x : Stepped) (ls′ gs′ : List ℕ) → length ps ≤ q → StepSaid r p (length ps) q ls gs x ls′ gs′
+        → called (x .answer) (lent (x .root) ps ls′ gs′) ≡ stepCall (lent r ps ls gs) q
+    step-past p x ls′ gs′ past said =
+        ap (λ (row : List Party). called (x .answer) (lent (x .root) row ls′ gs′)) (sym (set-past ps q (x .party) past)) ∙ said ps refl (λ h. absurd (omega (arith, h, past)))

@@ -1,0 +1,125 @@
+// The public calls in the forms that document 01 names: format, begin and step, lent the root record, the row of party records, the lock words and the page words.
+// They are thin: the work is that of `calls`, which takes the root and one party's record by value. Here a record is taken out of the row, and what comes back is written where it came from;
+// past the row's end the zero record is handed on, and every call is refused.
+// Main statements: each call answers, and leaves in every lent word, what the model's formatCall, beginCall and stepCall say, for all words and all lengths; there is nothing that a caller must see to.
+
+ghost use mathlib.Core.Path.{_≡_};
+ghost use lib.ListN.{length, replicate};
+ghost use Rattle.model.specs.Calls.{called, formatCall, beginCall, stepCall};
+ghost use Rattle.calls.specs.Lent.{lent};
+ghost use Rattle.index.specs.Answered.{isFormatted};
+use model::BeginAnswer;
+use model::FileSizes;
+use model::FormatAnswer;
+use model::Operation;
+use model::Party;
+use model::Root;
+use model::StepAnswer;
+
+// Every record of the row becomes `p`.
+fn fill(parties: &mut [Party], p: Party)
+    ensures { λ _. ⌜ now (parties .exit) ≡ replicate (length (now (parties .entry))) p ⌝ }
+{
+    let mut i: usize = 0;
+    while i < parties.len() {
+        parties[i] = p;
+        i += 1;
+    }
+}
+
+// Whether format did its work.
+fn is_formatted(answer: FormatAnswer) -> bool
+    ensures { λ r. ⌜ r ≡ isFormatted answer ⌝ }
+{
+    match answer {
+        FormatAnswer::Formatted => true,
+        FormatAnswer::Refused(_) => false,
+    }
+}
+
+// Format with these sizes, N b P V Q.
+pub fn format(
+    root: &mut Root,
+    parties: &mut [Party],
+    locks: &mut [u32],
+    pages: &mut [u32],
+    sizes: FileSizes,
+) -> FormatAnswer
+    ensures { λ r. ⌜ called r (lent (now (root .exit)) (now (parties .exit)) (now (locks .exit)) (now (pages .exit))) ≡ formatCall (lent (now (root .entry)) (now (parties .entry)) (now (locks .entry)) (now (pages .entry))) (sizes .originals) (sizes .capacity) (sizes .primaries) (sizes .overflow) (sizes .parties) ⌝ }
+{
+    let former = *root;
+    let made = calls::format(former, sizes, parties.len(), locks, pages);
+    *root = made.root;
+    if is_formatted(made.answer) {
+        fill(parties, records::idle());
+        return made.answer;
+    } else {
+        return made.answer;
+    }
+}
+
+// Begin an operation for party q.
+pub fn begin(
+    root: &Root,
+    parties: &mut [Party],
+    locks: &[u32],
+    pages: &[u32],
+    q: u32,
+    operation: Operation,
+    key: u32,
+) -> BeginAnswer
+    ensures { λ r. ⌜ called r (lent (now (root .entry)) (now (parties .exit)) (now (locks .entry)) (now (pages .entry))) ≡ beginCall (lent (now (root .entry)) (now (parties .entry)) (now (locks .entry)) (now (pages .entry))) q operation key ⌝ }
+{
+    let former = *root;
+    let at = q as usize;
+    if at < parties.len() {
+        let begun = calls::begin(
+            former,
+            parties[at],
+            parties.len(),
+            locks.len(),
+            pages.len(),
+            q,
+            operation,
+            key,
+        );
+        parties[at] = begun.party;
+        return begun.answer;
+    } else {
+        let refused = calls::begin(
+            former,
+            records::idle(),
+            parties.len(),
+            locks.len(),
+            pages.len(),
+            q,
+            operation,
+            key,
+        );
+        return refused.answer;
+    }
+}
+
+// One step for party q.
+pub fn step(
+    root: &mut Root,
+    parties: &mut [Party],
+    locks: &mut [u32],
+    pages: &mut [u32],
+    q: u32,
+) -> StepAnswer
+    ensures { λ r. ⌜ called r (lent (now (root .exit)) (now (parties .exit)) (now (locks .exit)) (now (pages .exit))) ≡ stepCall (lent (now (root .entry)) (now (parties .entry)) (now (locks .entry)) (now (pages .entry))) q ⌝ }
+{
+    let former = *root;
+    let at = q as usize;
+    if at < parties.len() {
+        let stepped = calls::step(former, parties[at], parties.len(), q, locks, pages);
+        parties[at] = stepped.party;
+        *root = stepped.root;
+        return stepped.answer;
+    } else {
+        let refused = calls::step(former, records::idle(), parties.len(), q, locks, pages);
+        *root = refused.root;
+        return refused.answer;
+    }
+}
