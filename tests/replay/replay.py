@@ -247,16 +247,23 @@ class CheckerTrouble(Exception):
     pass
 
 
-# The names that the definitions export, as Module.name, and those of them that a proof may unfold.
-def exported_names(specs):
-    names, unfoldable = set(), []
-    for file in sorted(specs.rglob("*.antt")):
-        module = ".".join(file.relative_to(specs).with_suffix("").parts)
-        for mark, name in re.findall(r"^ *(unfoldable )?(?:abbrev )?pub (\S+)(?: \{[^}]*\})? :", file.read_text(encoding="utf-8"), re.M):
-            names.add(f"{module}.{name}")
-            if mark:
-                unfoldable.append(f"Rattle.model.specs.{module}.{name}")
-    return names, unfoldable
+# The crates that hold the definitions.
+DEFINED_IN = ("model", "theory")
+
+
+# The names that the definitions export, as Module.name, those of them that a proof may unfold, and the crate of each module.
+def exported_names(crates):
+    names, unfoldable, homes = set(), [], {}
+    for crate in DEFINED_IN:
+        specs = crates / crate / "specs"
+        for file in sorted(specs.rglob("*.antt")):
+            module = ".".join(file.relative_to(specs).with_suffix("").parts)
+            homes[module] = crate
+            for mark, name in re.findall(r"^ *(unfoldable )?(?:abbrev )?pub (\S+)(?: \{[^}]*\})? :", file.read_text(encoding="utf-8"), re.M):
+                names.add(f"{module}.{name}")
+                if mark:
+                    unfoldable.append(f"Rattle.{crate}.specs.{module}.{name}")
+    return names, unfoldable, homes
 
 
 # The names of the definitions that a check uses, as Module.name.
@@ -266,23 +273,24 @@ def names_in(check):
 
 # A scratch repository in the folder given: the definitions without their proofs, and the crate `replay` of claims.
 class Scratch:
-    def __init__(self, folder, model):
+    def __init__(self, folder, crates):
         self.folder = folder
         self.replay = folder / "crates/replay"
         for part in ("src", "specs"):
-            shutil.copytree(model / part, folder / "crates/model" / part)
+            for crate in DEFINED_IN:
+                shutil.copytree(crates / crate / part, folder / "crates" / crate / part)
             (self.replay / part).mkdir(parents=True)
-        (folder / "crates.txt").write_text("model:\nreplay: model\n")
+        (folder / "crates.txt").write_text("model:\ntheory: model\nreplay: model theory\n")
         (self.replay / "src/lib.rt").write_text("// Claims about the definitions. There is no code.\n")
         (self.replay / "specs/Lib.antt").write_text("pub mod Claims\n")
-        names, self.unfoldable = exported_names(model / "specs")
+        names, self.unfoldable, self.homes = exported_names(crates)
         known = [check for check in CHECKS if names.issuperset(names_in(check))]
         self.checks = {f"check-{i}": check for i, check in enumerate(known)}
 
     # What stands above the claims. `opened` unfolds every definition where it is named.
     def preamble(self):
         modules = MODULES + [name.split(".")[0] for check in self.checks.values() for name in names_in(check)]
-        uses = [f"use Rattle.model.specs.{module}" for module in dict.fromkeys(modules)]
+        uses = [f"use Rattle.{self.homes[module]}.specs.{module}" for module in dict.fromkeys(modules)]
         uses += [f"use Rattle.model.specs.declared.{name}.{{{name}}}" for name in TYPES]
         uses += [f"use Rattle.model.specs.declared.{name}.the-variants as {name}" for name in ENUMS]
         parts = [HEADER, "\n".join(uses), "\n", HARNESS, record_maker("rootOf", "Root", ROOT_FIELDS), record_maker("partyOf", "Party", PARTY_FIELDS)]

@@ -21,10 +21,10 @@ use Rattle.model.specs.Calls.{Called, called, formatCall, beginCall, stepCall}
 use Rattle.model.specs.Runs.{Call, Reply, toBegin, toStep, callerOf, Event, replyTo, afterCall, eventOf, events, finalMemory}
 use Rattle.model.specs.Book.{emptyBook, bookAgrees, bookAtEnd}
 use Rattle.model.specs.Progress.{progresses}
-use Rattle.model.specs.Demands.{Sizes, sizesOf, start, Reached}
+use Rattle.theory.specs.Demands.{Sizes, sizesOf, start, Reached}
 use Rattle.model.proofs.Theorems.RefusalOrder.{FormatOrder, format-order}
-use Rattle.model.proofs.Theorems.Linearization.{linearizable}
-use Rattle.model.proofs.Demands.{schedule-right, granted-right, singly-right, lists-right}
+use Rattle.theory.proofs.Linearization.{linearizable}
+use Rattle.theory.proofs.Demands.{schedule-right, granted-right, singly-right, lists-right}
 use Rattle.index.specs.TheIndex.{Formatted, Made, begun, stepped, happened, Ran, ended, next, StartRight, IndexRight}
 
 -- ---- The functions did what the definitions say

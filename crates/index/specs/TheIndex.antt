@@ -16,9 +16,9 @@ use Rattle.model.specs.Calls.{called, formatCall, beginCall, stepCall}
 use Rattle.model.specs.Runs.{Call, beginFor, stepFor, Reply, toBegin, toStep, callerOf, Event, events}
 use Rattle.model.specs.Book.{emptyBook, bookAgrees, bookAtEnd}
 use Rattle.model.specs.Progress.{progresses}
-use Rattle.model.specs.Singly.{Wanted, partiesFit}
-use Rattle.model.specs.Demands.{Sizes, sizesOf, start, Reached, bookReached, ScheduleRight, GrantsRight, AtRest, RunSingly, ListSingly}
-use Rattle.model.specs.Linearization.{Linearization}
+use Rattle.theory.specs.Singly.{Wanted, partiesFit}
+use Rattle.theory.specs.Demands.{Sizes, sizesOf, start, Reached, bookReached, ScheduleRight, GrantsRight, AtRest, RunSingly, ListSingly}
+use Rattle.theory.specs.Linearization.{Linearization}
 
 -- ---- Calls of the functions
 

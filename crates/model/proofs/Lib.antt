@@ -1,7 +1,6 @@
--- From below: laws of the definitions; the invariant; steps grouped by what they write; a lemma for each step; the theorems; the demands.
+-- From below: laws of the definitions; the invariant; steps grouped by what they write; a lemma for each step; every call keeps the invariant.
 pub mod Laws
 pub mod Invariant
 pub mod Effects
 pub mod Steps
 pub mod Theorems
-pub mod Demands

@@ -1,28 +1,7 @@
--- From the thirty steps to calls and whole lists of calls: answers, links, progress, grants, effects; refusals in their order; the worked cases.
+-- From the thirty steps to calls: each call keeps the invariant and feeds the book; refusals in their order; the worked cases; what single definitions mean.
 pub mod Cases
 pub mod RefusalOrder
 pub mod Gate
 pub mod Calls
 pub mod AllSteps
-pub mod Reached
-pub mod Scratches
-pub mod Traces
-pub mod SizesStay
-pub mod LinkRule
-pub mod Answering
-pub mod LockOrder
-pub mod UnderWay
-pub mod NoDeadlock
-pub mod Ledger
-pub mod LockTrades
-pub mod Grants
-pub mod Alters
-pub mod Later
-pub mod NoPage
-pub mod BookFed
 pub mod Meanings
-pub mod Consistency
-pub mod Places
-pub mod Reads
-pub mod Singly
-pub mod Linearization

@@ -65,3 +65,12 @@ chainOf r ps c =
     let w = pageOf ps (primaryPage c) in
     let walked = andThen (listFrom r ps (linkOf w)) (λ xs. ascendingChain (readChain ps c xs)) in
     cond (pageSound r w) walked damaged
+
+-- The overflow pages of a chain that reads as sound, and of a list.
+unfoldable pub pagesIn : Checked Chain → List ℕ
+pagesIn damaged = []
+pagesIn (sound c) = c .pages
+
+unfoldable pub pagesListed : Checked (List ℕ) → List ℕ
+pagesListed damaged = []
+pagesListed (sound xs) = xs

@@ -9,11 +9,10 @@ use lib.Dec.{eqb}
 use Rattle.model.specs.declared.Party.{Party}
 use Rattle.model.specs.Sizes.{within}
 use Rattle.model.specs.Pages.{pageOf, linkOf, primaryPage}
-use Rattle.model.specs.Chains.{Checked, damaged, sound, chainOf, listFrom}
+use Rattle.model.specs.Chains.{Checked, damaged, sound, chainOf, listFrom, pagesIn, pagesListed}
 use Rattle.model.specs.FreeList.{Taken, pagesTaken}
 use Rattle.model.specs.Steps.Write.{isChange}
 use Rattle.model.specs.Memory.{Memory, partyAt}
-use Rattle.model.specs.Links.{pagesIn, pagesListed}
 use Rattle.model.specs.Effects.{scratchLink}
 
 -- How often x is in the list.

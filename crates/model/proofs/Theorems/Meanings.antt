@@ -1,6 +1,6 @@
 -- Definitions that the demands could lose unseen, said once more in other words: parts of the book and of the link rule that only forbid, what steps and yardstick share, the record's words,
 -- and numbers of answers.
--- Main statements: unentered-refused, unnoted-refused (the book); chain-followed, list-followed (the link rule); grown-owes, not-grown-owes-none, emptied-owes (what is owed); idle-zero, begun-zeroes, update-alone (a party's record); begin-number,
+-- Main statements: unentered-refused, unnoted-refused (the book); grown-owes, not-grown-owes-none, emptied-owes (what is owed); idle-zero, begun-zeroes, update-alone (a party's record); begin-number,
 -- format-number, restructurings-in-order (numbers of answers).
 use mathlib.Core.Path.{_≡_, refl, sym}
 use mathlib.Core.Bool.{true, false}
@@ -18,14 +18,11 @@ use Rattle.model.specs.declared.Restructuring.the-variants as Restructur
 use Rattle.model.specs.Records.{rootOfSizes, idle, begun, atStep, withLev, withChain, withOther, withOld, withOwed, withAnswer}
 use Rattle.model.specs.Answers.{restructuringNumber, beginRefusal, formatRefusal}
 use Rattle.model.specs.Entries.{Entry, isEmpty}
-use Rattle.model.specs.Chains.{sound, Chain, chainOf, listFrom}
-use Rattle.model.specs.Outcome.{View}
 use Rattle.model.specs.Steps.Rebuild.{splitOwed, mergeOwed}
 use Rattle.model.specs.Memory.{Memory}
 use Rattle.model.specs.Refusals.{firstCause, formatRows, beginRows}
 use Rattle.model.specs.Calls.{formatCall, beginCall}
 use Rattle.model.specs.Book.{isNote, isNoteOf}
-use Rattle.model.specs.Links.{pagesIn, pagesListed, chainPages, listPages}
 use Rattle.model.proofs.Laws.Lists.{Cmp, same, diff, cmp, Numbered, _▸_}
 
 -- An answer to an operation that was not entered, or that has no note yet, does not agree.
@@ -36,15 +33,6 @@ unentered-refused a = refl
 pub unnoted-refused : (a : OperationAnswer) → isNote a none ≡ false
 unfolding isNote
 unnoted-refused a = refl
-
--- The links that a step follows are those of the chain, or of the list, as the step's own memory has it.
-pub chain-followed : (v : View) (c : ℕ) (d : Chain) → chainOf (v .root) (v .pages) c ≡ sound d → chainPages v c ≡ d .pages
-unfolding pagesIn
-chain-followed v c d e = rw e refl
-
-pub list-followed : (v : View) (l : ℕ) (xs : List ℕ) → listFrom (v .root) (v .pages) l ≡ sound xs → listPages v l ≡ xs
-unfolding pagesListed
-list-followed v l xs e = rw e refl
 
 -- A split is owed exactly where there are more overflow pages than before.
 pub grown-owes : (before after : ℕ) → before < after → splitOwed before after ≡ true

@@ -1,0 +1,197 @@
+-- Demand 2, grants and refusals: over every list of calls from formatted memory a requesting step is granted exactly where Table I permits it against the locks held, else it waits,
+-- a step that requests nothing never waits, no step of an operation under way is refused, and every other call is refused or accepted as the table of refusals says.
+-- Which locks are held and who is under way is derived from the calls (specs/Holds.antt).
+-- Main statements: call-grants (one call, and the ledger after it); run-grants (a list from any memory with the invariant);
+-- grants-right (from formatted memory).
+use mathlib.Core.Path.{_≡_, refl, sym, ap, _∙_, subst}
+use mathlib.Core.Bool.{Bool, true, false, cond, not}
+use mathlib.Core.List.{List, [], _∷_}
+use mathlib.Core.Option.{Option, none, some}
+use Prim.Native.Nat.{ℕ, _+_, _-_, _≤_, _<_}
+use native.Mathlib.Omega.{arith}
+use lib.ListN.{length, set}
+use Rattle.model.specs.declared.Root.{Root}
+use Rattle.model.specs.declared.Party.{Party}
+use Rattle.model.specs.declared.Operation.{Operation}
+use Rattle.model.specs.declared.StepAnswer.{StepAnswer}
+use Rattle.model.specs.declared.StepAnswer.the-variants as StepAnswer
+use Rattle.model.specs.declared.BeginAnswer.{BeginAnswer}
+use Rattle.model.specs.Sizes.{withinLimits, lockWords}
+use Rattle.model.specs.Records.{begun}
+use Rattle.model.specs.Answers.{operationNumber, refusalNumber, isMoved}
+use Rattle.model.specs.LockWords.{Claim}
+use Rattle.model.specs.Outcome.{View, Outcome, damage}
+use Rattle.model.specs.LockRequests.{isGranted}
+use Rattle.model.specs.Memory.{Memory, partyAt, viewOf, formatted}
+use Rattle.model.specs.Calls.{Called, called, stepped, stepCall, withBegun, beginCall}
+use Rattle.model.specs.Runs.{Call, beginFor, stepFor, eventOf, afterCall}
+use Rattle.model.specs.Book.{Book, Entered, emptyBook}
+use Rattle.model.specs.Progress.{underWay, bookAfterCall}
+use Rattle.model.specs.Holds.{Hold, permitted, withoutAll, givesUp, requested, withHeld, wantedBy, holdsAfterStep, holdsAfter, neverWaits, grantRight, answerRight, refusedWith, beginRefusedWith, isBegun, idleRight, beginRight, stepRight, callRight, grantsRight}
+use Rattle.theory.specs.Demands.{Sizes, sizesOf, start, GrantsRight}
+use Rattle.model.specs.Steps.Dispatch.{wants}
+use Rattle.model.proofs.Laws.Lists.{both-and, eqb-true, le-leb, lt-leb}
+use Rattle.model.proofs.Invariant.Claims.{claims}
+use Rattle.model.proofs.Invariant.Statement.{factsAt, Busy, Inv, sceneOf}
+use Rattle.model.proofs.Invariant.Frame.{SameLimits}
+use Rattle.model.proofs.Invariant.Start.{party-idle, start-inv}
+use Rattle.model.proofs.Theorems.RefusalOrder.{begin-order}
+use Rattle.model.proofs.Theorems.Calls.{StepsKept, within-limits, operation-some, lengths-fit, call-kept}
+use Rattle.theory.proofs.SizesStay.{limits-on, call-limits, start-limits, sized-root}
+use Rattle.theory.proofs.UnderWay.{inv-fits, entered-under, unentered-under, Met, no-party, nothing-begun, under-way, meets}
+use Rattle.theory.proofs.Answering.{unasked, asked, fairly, step-fair}
+use Rattle.theory.proofs.LockOrder.{WantedHigher, wanted-higher}
+use Rattle.theory.proofs.Ledger.{holdCount, claimCount, countFor, count-none, count-own, count-other, count-without-all, count-with, listed, LedgerOk, ledger-set, permitted-is}
+use Rattle.theory.proofs.LockTrades.{gained, Trades, step-trades}
+
+-- ---- The ledger after a step
+
+-- What specs/Holds.antt makes of the ledger, by the answer.
+abbrev ledgerAfter : List Hold → ℕ → ℕ → Party → Option Claim → StepAnswer → List Hold
+ledgerAfter hs q k p w a =
+    let left = withoutAll hs q (givesUp k p a) in
+    cond (isMoved a) (withHeld left q (requested k w)) left
+
+count-after : (hs : List Hold) (q k : ℕ) (p : Party) (w : Option Claim) (a : StepAnswer) (j : ℕ) (d : Claim)
+    → holdCount (ledgerAfter hs q k p w a) j d ≡ holdCount hs j d - countFor q (givesUp k p a) j d + countFor q (gained k w a) j d
+unfolding gained
+count-after hs q k p w a j d = go (isMoved a)
+  where
+    left : List Hold
+    left = withoutAll hs q (givesUp k p a)
+
+    go : (t : Bool)
+        → holdCount (cond t (withHeld left q (requested k w)) left) j d ≡ holdCount hs j d - countFor q (givesUp k p a) j d + countFor q (cond t (listed (requested k w)) []) j d
+    go true = omega (arith, count-with left q (requested k w) j d, count-without-all hs q (givesUp k p a) j d)
+    go false = omega (arith, count-none q j d, count-without-all hs q (givesUp k p a) j d)
+
+module _ (m : Memory) (hs : List Hold) (ok : LedgerOk (m .root) (m .parties) hs) (q : ℕ) (in-row : q < length (m .parties)) where
+  abbrev me : Party
+  me = partyAt (m .parties) q
+
+  -- A step's outcome keeps the ledger and the records in step.
+  ledger-kept : (o : Outcome) → Trades (viewOf m q) (me .step) o
+      → LedgerOk (o .after .root) (set (m .parties) (o .after .number) (o .after .party)) (ledgerAfter hs q (me .step) me (wants (m .root) me) (o .answer))
+  unfolding wants claims
+  ledger-kept o f =
+      let up = givesUp (me .step) me (o .answer) in
+      let got = gained (me .step) (wants (m .root) me) (o .answer) in
+      rw (f .number=)
+      (ledger-set (m .root) (o .after .root) (m .parties) q (o .after .party) hs _ in-row ok
+      (λ d. count-after hs q (me .step) me (wants (m .root) me) (o .answer) q d ∙ omega (arith, count-own q up d, count-own q got d, ok .agrees q d, f .trade .counts d))
+      (λ j d n. count-after hs q (me .step) me (wants (m .root) me) (o .answer) j d ∙ omega (arith, count-other q up j d n, count-other q got j d n)))
+
+-- ---- One call
+
+-- What is owed of a call: its answer is right by the ledger, and the ledger stays right.
+pub record CallGrants (z : Root) (b : Book) (hs : List Hold) (m : Memory) (c : Call) : Type 0 where
+  pub right : callRight z b hs m c ≡ true
+  pub ledger : LedgerOk (afterCall m c .root) (afterCall m c .parties) (holdsAfter z hs m c)
+
+-- An answer that goes with the request by the lock word, and is no refusal, goes with it by the ledger, where the two permit the same locks of the file.
+module _ (hs : List Hold) (v : View) (held : List Claim) (agree : (c : Claim) → c .word < lockWords (v .root) → permitted hs c ≡ isGranted v c) where
+  answer-right : (w : Option Claim) (a : StepAnswer) → WantedHigher (v .root) held w → refusalNumber a ≡ 0 → fairly v w a ≡ true → answerRight hs w a ≡ true
+  unfolding answerRight neverWaits grantRight refusalNumber fairly unasked asked
+  answer-right none StepAnswer.Waiting x r f = f
+  answer-right none StepAnswer.Moved x r f = refl
+  answer-right none (StepAnswer.Done a s) x r f = refl
+  answer-right none (StepAnswer.Refused n) x r f = absurd (omega (arith, r, eqb-true n damage f))
+  answer-right (some c) StepAnswer.Waiting x r f = ap not (agree c (x .inside)) ∙ f
+  answer-right (some c) StepAnswer.Moved x r f = agree c (x .inside) ∙ f
+  answer-right (some c) (StepAnswer.Done a s) x r f = f
+  answer-right (some c) (StepAnswer.Refused n) x r f = absurd (omega (arith, r, eqb-true n damage f))
+
+-- A step refused with the number that stands for its party.
+no-party-right : (n q : ℕ) → n ≤ q → idleRight n q (StepAnswer.Refused 3) ≡ true
+unfolding idleRight refusedWith
+no-party-right n q h = rw (le-leb n q h) refl
+
+idle-party-right : (n q : ℕ) → q < n → idleRight n q (StepAnswer.Refused 5) ≡ true
+unfolding idleRight refusedWith
+idle-party-right n q h = rw (lt-leb n q h) refl
+
+module _ (kept : StepsKept) (z : Root) (m : Memory) (b : Book) (i : Inv m b) (l : SameLimits z (m .root)) (hs : List Hold) (ok : LedgerOk (m .root) (m .parties) hs) where
+  -- By the sizes given a party wants what it wants by the root record.
+  want= : (q : ℕ) → wantedBy z m q ≡ wants (m .root) (partyAt (m .parties) q)
+  want= q = ap (λ (r : Root). wants r (partyAt (m .parties) q)) (sized-root z (m .root) l)
+
+  abbrev StepGrants : ℕ → Called StepAnswer → Type 0
+  StepGrants q c = (cond (underWay b q) (answerRight hs (wantedBy z m q) (c .answer)) (idleRight (z .parties) q (c .answer)) ≡ true)
+      × LedgerOk (c .memory .root) (c .memory .parties) (ledgerAfter hs q (partyAt (m .parties) q .step) (partyAt (m .parties) q) (wantedBy z m q) (c .answer))
+
+  performed-grants : (q : ℕ) → q < m .root .parties → (e : Entered) → Busy (sceneOf m (i .ghost) b) q (partyAt (m .parties) q) e
+      → factsAt (partyAt (m .parties) q .step) (sceneOf m (i .ghost) b) q (partyAt (m .parties) q) e → StepGrants q (stepped m q)
+  unfolding stepped isGranted
+  performed-grants q in-row e k x =
+      let v = viewOf m q in
+      let wanted = wanted-higher (sceneOf m (i .ghost) b) q (v .party) e (inv-fits m b i) k x in (
+        rw (entered-under b q e (k .entry), want= q)
+            (answer-right hs v _ (permitted-is (m .root) (m .parties) hs ok (i .locks-ok)) (wants (m .root) (v .party)) _ wanted (kept m b i q in-row (k .step-fits) .allowed) (step-fair v .fair)),
+        rw (want= q) (ledger-kept m hs ok q (omega (arith, i .parties-many)) _ (step-trades (v .party .step) v refl (k .step-fits))),
+      )
+
+  refused-grants : (q n : ℕ) → b .entries q ≡ none → idleRight (z .parties) q (StepAnswer.Refused n) ≡ true → StepGrants q (called (StepAnswer.Refused n) m)
+  unfolding isMoved givesUp withoutAll
+  refused-grants q n u h = (rw (unentered-under b q u) h, ok)
+
+  step-grants : (q : ℕ) → StepGrants q (stepCall m q)
+  step-grants q = go (meets m b i q)
+    where
+      go : Met m b i q → StepGrants q (stepCall m q)
+      go (no-party h u _ e) = subst (StepGrants q) (sym e) (refused-grants q 3 u (no-party-right (z .parties) q (omega (arith, l .parties=))))
+      go (nothing-begun h _ u _ e) = subst (StepGrants q) (sym e) (refused-grants q 5 u (idle-party-right (z .parties) q (omega (arith, l .parties=))))
+      go (under-way h e k x c) = subst (StepGrants q) (sym c) (performed-grants q h e k x)
+
+  -- ---- Begin
+
+  abbrev BeginGrants : ℕ → Called BeginAnswer → Type 0
+  BeginGrants q c = (beginRight (z .parties) q (underWay b q) (c .answer) ≡ true) × LedgerOk (c .memory .root) (c .memory .parties) hs
+
+  begin-grants : (q : ℕ) (o : Operation) (k : ℕ) → BeginGrants q (beginCall m q o k)
+  unfolding beginRight beginRefusedWith isBegun withBegun claims
+  begin-grants q o k = go (meets m b i q)
+    where
+      fits : withinLimits (m .root) ≡ true
+      fits = within-limits (m .root) (i .limits)
+
+      go : Met m b i q → BeginGrants q (beginCall m q o k)
+      go (no-party h u _ _) =
+          subst (BeginGrants q) (sym (begin-order m q o k .party fits (lengths-fit m b i) h)) (rw (le-leb (z .parties) q (omega (arith, l .parties=))) refl, ok)
+      go (nothing-begun h e u _ _) =
+          subst (BeginGrants q) (sym (begin-order m q o k .none fits (lengths-fit m b i) h (ap (λ (p : Party). p .operation) e))) (
+            rw (lt-leb (z .parties) q (omega (arith, l .parties=)), unentered-under b q u) refl,
+            ledger-set (m .root) (m .root) (m .parties) q (begun (operationNumber o) k) hs hs (omega (arith, i .parties-many)) ok
+                (λ d. ok .agrees q d ∙ ap (λ (p : Party). claimCount (claims (m .root) p) d) e) (λ j d n. refl),
+          )
+      go (under-way h e c x _) =
+          subst (BeginGrants q)
+          (sym (begin-order m q o k .busy fits (lengths-fit m b i) h (operation-some (e .operation) (partyAt (m .parties) q .operation) (c .same-operation))))
+          (rw (lt-leb (z .parties) q (omega (arith, l .parties=)), entered-under b q e (c .entry)) refl, ok)
+
+  pub call-grants : (c : Call) → CallGrants z b hs m c
+  unfolding callRight stepRight afterCall holdsAfter holdsAfterStep
+  call-grants (beginFor q o k) = let g = begin-grants q o k in record { right = g .0; ledger = g .1 }
+  call-grants (stepFor q) = let g = step-grants q in record { right = g .0; ledger = g .1 }
+
+-- ---- A list of calls
+
+pub run-grants : StepsKept → (z : Root) (m : Memory) (b : Book) → Inv m b → SameLimits z (m .root) → (hs : List Hold) → LedgerOk (m .root) (m .parties) hs → (cs : List Call)
+    → grantsRight z b hs m cs ≡ true
+unfolding grantsRight eventOf
+run-grants kept z m b i l hs ok [] = refl
+run-grants kept z m b i l hs ok (c ∷ cs) =
+    let g = call-grants kept z m b i l hs ok c in
+    both-and (g .right)
+    (run-grants kept z (afterCall m c) (bookAfterCall b m c) (call-kept kept m b i c .inv) (limits-on z (m .root) (afterCall m c .root) l (call-limits m c)) (holdsAfter z hs m c) (g .ledger) cs)
+
+-- Nobody holds a lock at first.
+start-ledger : (r : Root) → LedgerOk (formatted r .root) (formatted r .parties) []
+unfolding formatted holdCount claims claimCount
+start-ledger r = record { agrees = λ q d. rw (party-idle (r .parties) q) refl }
+
+-- DEMAND 2, grants and refusals.
+pub grants-right : StepsKept → (s : Sizes) (cs : List Call) → GrantsRight s cs
+grants-right kept s cs = record {
+  grants = run-grants kept (sizesOf s) (start s) emptyBook (start-inv (s .originals) (s .capacity) (s .primaries) (s .overflow) (s .parties) (s .fit)) (start-limits s) []
+      (start-ledger (sizesOf s)) cs;
+}

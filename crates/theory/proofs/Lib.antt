@@ -1,0 +1,23 @@
+-- From calls to whole lists of calls: answers, links, progress, grants, effects; operations run singly; what a step reads; a linearization. Demands has the theorems.
+pub mod Reached
+pub mod Scratches
+pub mod Traces
+pub mod SizesStay
+pub mod LinkRule
+pub mod Answering
+pub mod LockOrder
+pub mod UnderWay
+pub mod NoDeadlock
+pub mod Ledger
+pub mod LockTrades
+pub mod Grants
+pub mod Alters
+pub mod Later
+pub mod NoPage
+pub mod BookFed
+pub mod Consistency
+pub mod Places
+pub mod StepReads
+pub mod Singly
+pub mod Linearization
+pub mod Demands

@@ -1,0 +1,577 @@
+-- The link rule (demand 3): no step of a list follows a chain's link to an overflow page given back since that link was read.
+-- The clock runs beside the invariant: a link that a party has yet to follow was read after its page was last given back, because that page has an owner who does not give it back.
+-- Main statements: ClockOk (the clock beside a memory); clock-kept (a call follows no stale link and keeps ClockOk); links-fresh (every list of calls from formatted memory).
+use mathlib.Core.Path.{_≡_, refl, sym, ap, _∙_, subst}
+use mathlib.Core.Logic.{_≢_, _⊎_, inl, inr}
+use mathlib.Core.Bool.{Bool, true, false, not, _||_, false≢true}
+use mathlib.Core.List.{List, [], _∷_, _++_}
+use Prim.Native.Nat.{ℕ, _+_, _≤_, _<_}
+use native.Mathlib.Omega.{arith}
+use lib.ListN.{length, set}
+use lib.Seq.{set-getD}
+use lib.Dec.{eqb, ltb}
+use Rattle.model.specs.declared.Party.{Party}
+use Rattle.model.specs.declared.Operation.{Operation}
+use Rattle.model.specs.declared.StepAnswer.{StepAnswer}
+use Rattle.model.specs.declared.StepAnswer.the-variants as StepAnswer
+use Rattle.model.specs.declared.BeginAnswer.{BeginAnswer}
+use Rattle.model.specs.declared.Mode.the-variants.{Exclusive}
+use Rattle.model.specs.Records.{idle, begun}
+use Rattle.model.specs.Answers.{operationNumber, isMoved, performs}
+use Rattle.model.specs.LockWords.{chainWord}
+use Rattle.model.specs.Pages.{pageOf, linkOf, linkToFirst, primaryPage, scratchPage, linkedPage}
+use Rattle.model.specs.Chains.{sound, listFrom, pagesListed}
+use Rattle.model.specs.FreeList.{isAmong}
+use Rattle.model.specs.Outcome.{View, Outcome}
+use Rattle.model.specs.ScratchPages.{scratchOf}
+use Rattle.model.specs.Memory.{Memory, partyAt, viewOf, afterStep, formatted}
+use Rattle.model.specs.Refusals.{firstCause, stepRows, beginRows}
+use Rattle.model.specs.Calls.{Called, called, stepped, stepCall, withBegun, beginCall}
+use Rattle.model.specs.Runs.{Call, beginFor, stepFor, callerOf, replyTo, afterCall}
+use Rattle.model.specs.Book.{Book, Entered, changedAt, bookAfter, emptyBook}
+use Rattle.theory.specs.Links.{Follow, Trace, noTrace, chainPages, traceLooked, readNow, walkedFrom, traceNine, traceFourteen, traceTwentyNine, traceOf, Clock, clockStart, traceOfStep, traceOfCall, ticked, clockAfter, allFresh, linksFresh}
+use Rattle.theory.specs.Demands.{Sizes, start}
+use Rattle.model.specs.Steps.Write.{isChange}
+use Rattle.model.specs.LockRequests.{chainExclusive, otherExclusive, rootSelective}
+use Rattle.model.specs.Steps.Dispatch.{stepTable, stepOf}
+use Rattle.model.proofs.Laws.Lists.{Told, holds, fails, tell, Cmp, same, diff, cmp, cond-ind, not-both, and-both, both-and, or-either, lt-ltb, eqb-same, eqb-diff, among-first, among-append, _▸_, all-in}
+use Rattle.model.proofs.Laws.Distinct.{Outside}
+use Rattle.model.proofs.Invariant.Ghost.{Owner, inChain, oldOf, partnerOf}
+use Rattle.model.proofs.Invariant.Owners.{own-of-member}
+use Rattle.model.proofs.Laws.Structure.{Linked}
+use Rattle.model.proofs.Laws.Reading.{linked-list, held-length, absent-outside}
+use Rattle.model.proofs.Invariant.Claims.{claims, isClaimed}
+use Rattle.model.proofs.Invariant.Statement.{Scene, Protected, in-chain, in-old, Written, unchanged, made-change, PartyOk, Inv, sceneOf}
+use Rattle.model.proofs.Invariant.Frame.{claims-at, named, later}
+use Rattle.model.proofs.Effects.Kept.{row-same, row-other}
+use Rattle.model.proofs.Invariant.Facts.{facts-at}
+use Rattle.model.proofs.Effects.GivingBack.{no-reader}
+use Rattle.model.proofs.Theorems.RefusalOrder.{begin-refused, begin-accepted, step-refused, step-accepted}
+use Rattle.model.proofs.Theorems.Gate.{ready}
+use Rattle.model.proofs.Invariant.Start.{start-inv, party-idle}
+use Rattle.model.proofs.Theorems.Calls.{StepsKept, call-kept}
+use Rattle.theory.proofs.Traces.{openSteps, oldOpen, open-at, OldLink, closed, read-now, kept-old, Marks, Leaves, Traced, stays, goes, moves-by-link, step-traced}
+
+-- ---- The clock beside a memory
+
+-- No page was given back later than now, and every link that a party has yet to follow was read after its page was last given back: the link in the scratch page of a find that
+-- walks, and an old link.
+pub record ClockOk (k : Clock) (m : Memory) : Type 0 where
+  pub past : (x : ℕ) → k .givenAt x ≤ k .calls
+  pub scratch-fresh : (q : ℕ) → q < m .root .parties → partyAt (m .parties) q .step ≡ 9 → linkOf (scratchOf (viewOf m q)) ≢ 0
+      → k .givenAt (linkedPage (linkOf (scratchOf (viewOf m q)))) < k .scratchRead q
+  pub old-fresh : (q : ℕ) → q < m .root .parties → oldOpen (partyAt (m .parties) q) ≡ true → partyAt (m .parties) q .old ≢ 0
+      → k .givenAt (linkedPage (partyAt (m .parties) q .old)) < k .oldRead q
+
+-- ---- Links followed
+
+module _ (k : Clock) where
+  fresh-now : (t : ℕ) (xs : List ℕ) → ((x : ℕ) → k .givenAt x < t) → allFresh k (readNow t xs) ≡ true
+  unfolding allFresh
+  fresh-now t [] h = refl
+  fresh-now t (x ∷ xs) h = both-and (lt-ltb (k .givenAt x) t (h x)) (fresh-now t xs h)
+
+  fresh-append : (fs gs : List Follow) → allFresh k fs ≡ true → allFresh k gs ≡ true → allFresh k (fs ++ gs) ≡ true
+  unfolding allFresh
+  fresh-append [] gs a b = b
+  fresh-append (f ∷ fs) gs a b =
+      let t = and-both (ltb (k .givenAt (f .page)) (f .readAt)) (allFresh k fs) a in
+      both-and (t .0) (fresh-append fs gs (t .1) b)
+
+  -- A list walked by a link read earlier.
+  fresh-walked : (s t l : ℕ) (xs : List ℕ) → l ≡ linkToFirst xs → (l ≢ 0 → k .givenAt (linkedPage l) < s) → ((x : ℕ) → k .givenAt x < t) → allFresh k (walkedFrom s t xs) ≡ true
+  unfolding allFresh walkedFrom linkToFirst
+  fresh-walked s t l [] e f h = refl
+  fresh-walked s t l (x ∷ xs) e f h =
+      let there : linkedPage l ≡ x = omega arith in
+      both-and (lt-ltb (k .givenAt x) s (subst (λ (y : ℕ). k .givenAt y < s) there (f (omega arith)))) (fresh-now t xs h)
+
+-- The step numbers that follow or read links, or give pages back.
+abbrev linkSteps : List ℕ
+linkSteps = 6 ∷ (9 ∷ (10 ∷ (14 ∷ (17 ∷ (26 ∷ (29 ∷ []))))))
+
+no-links : (t n : ℕ) (v : View) (a : StepAnswer) (next s o : ℕ) → Outside n linkSteps → traceOf t n v a next s o ≡ noTrace
+unfolding traceOf
+no-links t n v a next s o h =
+    rw (
+      eqb-diff n 6 (h .0),
+      eqb-diff n 9 (h .1 .0),
+      eqb-diff n 10 (h .1 .1 .0),
+      eqb-diff n 14 (h .1 .1 .1 .0),
+      eqb-diff n 17 (h .1 .1 .1 .1 .0),
+      eqb-diff n 26 (h .1 .1 .1 .1 .1 .0),
+      eqb-diff n 29 (h .1 .1 .1 .1 .1 .1 .0),
+    ) refl
+
+-- A link to the first of some pages leads to one of them.
+leads-in : (l : ℕ) (xs : List ℕ) → l ≡ linkToFirst xs → l ≢ 0 → isAmong (linkedPage l) xs ≡ true
+unfolding linkToFirst
+leads-in l [] e n = absurd (n e)
+leads-in l (x ∷ xs) e n =
+    let there : linkedPage l ≡ x = omega arith in
+    subst (λ (y : ℕ). isAmong y (x ∷ xs) ≡ true) (sym there) (among-first x xs)
+
+-- ---- The clock after a call
+
+module _ (k : Clock) (q : ℕ) (t : Trace) where
+  given-same : (x : ℕ) → isAmong x (t .gives) ≡ false → ticked k q t .givenAt x ≡ k .givenAt x
+  unfolding ticked
+  given-same x h = rw h refl
+
+  given-none : (x : ℕ) → t .gives ≡ [] → ticked k q t .givenAt x ≡ k .givenAt x
+  unfolding isAmong
+  given-none x h = given-same x (ap (isAmong x) h)
+
+  given-past : ((x : ℕ) → k .givenAt x ≤ k .calls) → (x : ℕ) → ticked k q t .givenAt x ≤ ticked k q t .calls
+  unfolding ticked
+  given-past h x = cond-ind (λ (n : ℕ). n ≤ k .calls + 1) (isAmong x (t .gives)) (k .calls + 1) (k .givenAt x) (λ _. omega arith) (λ _. omega (arith, h x))
+
+  scratch-other : (j : ℕ) → j ≢ q → ticked k q t .scratchRead j ≡ k .scratchRead j
+  unfolding ticked changedAt
+  scratch-other j n = cond-ind (λ (f : ℕ → ℕ). f j ≡ k .scratchRead j) (t .intoScratch) _ _ (λ _. rw (eqb-diff j q n) refl) (λ _. refl)
+
+  scratch-now : t .intoScratch ≡ true → ticked k q t .scratchRead q ≡ k .calls + 1
+  unfolding ticked changedAt
+  scratch-now h = rw (h, eqb-same q q refl) refl
+
+  old-other : (j : ℕ) → j ≢ q → ticked k q t .oldRead j ≡ k .oldRead j
+  unfolding ticked changedAt
+  old-other j n = cond-ind (λ (f : ℕ → ℕ). f j ≡ k .oldRead j) (t .intoOld) _ _ (λ _. rw (eqb-diff j q n) refl) (λ _. refl)
+
+  -- A link is not read earlier than it was.
+  old-later : (n : ℕ) → n < k .oldRead q → n ≤ k .calls → n < ticked k q t .oldRead q
+  unfolding ticked changedAt
+  old-later n h l = cond-ind (λ (f : ℕ → ℕ). n < f q) (t .intoOld) _ _ (λ _. rw (eqb-same q q refl) (omega arith)) (λ _. h)
+
+  old-now : t .intoOld ≡ true → ticked k q t .oldRead q ≡ k .calls + 1
+  unfolding ticked changedAt
+  old-now h = rw (h, eqb-same q q refl) refl
+
+-- A call of party q from memory m to memory u: the other parties keep their records and scratch pages, and none of the pages they have yet to follow is given back.
+record Spared (m u : Memory) (q : ℕ) (gives : List ℕ) : Type 0 where
+  parties= : u .root .parties ≡ m .root .parties
+  record= : (j : ℕ) → j ≢ q → partyAt (u .parties) j ≡ partyAt (m .parties) j
+  scratch= : (j : ℕ) → j ≢ q → scratchOf (viewOf u j) ≡ scratchOf (viewOf m j)
+  scratch-spared : (j : ℕ) → j < m .root .parties → j ≢ q → partyAt (m .parties) j .step ≡ 9 → linkOf (scratchOf (viewOf m j)) ≢ 0
+      → isAmong (linkedPage (linkOf (scratchOf (viewOf m j)))) gives ≡ false
+  old-spared : (j : ℕ) → j < m .root .parties → j ≢ q → oldOpen (partyAt (m .parties) j) ≡ true → partyAt (m .parties) j .old ≢ 0
+      → isAmong (linkedPage (partyAt (m .parties) j .old)) gives ≡ false
+
+-- Only the caller's own links are left to show.
+clock-moves : (k : Clock) (m u : Memory) → ClockOk k m → (q : ℕ) (t : Trace) → Spared m u q (t .gives)
+    → (q < m .root .parties → partyAt (u .parties) q .step ≡ 9 → ticked k q t .givenAt (linkedPage (linkOf (scratchOf (viewOf u q)))) < ticked k q t .scratchRead q)
+    → (q < m .root .parties → oldOpen (partyAt (u .parties) q) ≡ true → partyAt (u .parties) q .old ≢ 0
+    → ticked k q t .givenAt (linkedPage (partyAt (u .parties) q .old)) < ticked k q t .oldRead q)
+    → ClockOk (ticked k q t) u
+clock-moves k m u ok q t s own-scratch own-old = record {
+  past = given-past k q t (ok .past);
+  scratch-fresh = λ j l e n. scratch j (rw (s .parties=) at l) e n (cmp j q);
+  old-fresh = λ j l h n. old j (rw (s .parties=) at l) h n (cmp j q);
+}
+  where
+    after : Clock
+    after = ticked k q t
+
+    scratch : (j : ℕ) → j < m .root .parties → partyAt (u .parties) j .step ≡ 9 → linkOf (scratchOf (viewOf u j)) ≢ 0 → Cmp j q
+        → after .givenAt (linkedPage (linkOf (scratchOf (viewOf u j)))) < after .scratchRead j
+    scratch j l e n (same d) =
+        subst (λ (i : ℕ). after .givenAt (linkedPage (linkOf (scratchOf (viewOf u i)))) < after .scratchRead i) (sym d)
+        (own-scratch (omega arith) (subst (λ (i : ℕ). partyAt (u .parties) i .step ≡ 9) d e))
+    scratch j l e n (diff d) =
+        let w = s .scratch= j d in
+        let at-nine : partyAt (m .parties) j .step ≡ 9 = sym (ap (λ (p : Party). p .step) (s .record= j d)) ∙ e in
+        let some-link : linkOf (scratchOf (viewOf m j)) ≢ 0 = λ z. n (ap linkOf w ∙ z) in
+        subst (λ (x : List ℕ). after .givenAt (linkedPage (linkOf x)) < after .scratchRead j) (sym w)
+        (rw (given-same k q t (linkedPage (linkOf (scratchOf (viewOf m j)))) (s .scratch-spared j l d at-nine some-link), scratch-other k q t j d) (ok .scratch-fresh j l at-nine some-link))
+
+    old : (j : ℕ) → j < m .root .parties → oldOpen (partyAt (u .parties) j) ≡ true → partyAt (u .parties) j .old ≢ 0 → Cmp j q
+        → after .givenAt (linkedPage (partyAt (u .parties) j .old)) < after .oldRead j
+    old j l h n (same d) =
+        subst (λ (i : ℕ). after .givenAt (linkedPage (partyAt (u .parties) i .old)) < after .oldRead i) (sym d)
+        (own-old (omega arith) (subst (λ (i : ℕ). oldOpen (partyAt (u .parties) i) ≡ true) d h) (λ z. n (subst (λ (i : ℕ). partyAt (u .parties) i .old ≡ 0) (sym d) z)))
+    old j l h n (diff d) =
+        let p = s .record= j d in
+        let was-open : oldOpen (partyAt (m .parties) j) ≡ true = sym (ap oldOpen p) ∙ h in
+        let some-link : partyAt (m .parties) j .old ≢ 0 = λ z. n (ap (λ (x : Party). x .old) p ∙ z) in
+        subst (λ (x : Party). after .givenAt (linkedPage (x .old)) < after .oldRead j) (sym p)
+        (rw (given-same k q t (linkedPage (partyAt (m .parties) j .old)) (s .old-spared j l d was-open some-link), old-other k q t j d) (ok .old-fresh j l was-open some-link))
+
+-- A call that performs no step, and changes nothing.
+clock-ticks : (k : Clock) (m : Memory) → ClockOk k m → (q : ℕ) → ClockOk (ticked k q noTrace) m
+unfolding ticked isAmong
+clock-ticks k m ok q = record { past = λ x. omega (arith, ok .past x); scratch-fresh = ok .scratch-fresh; old-fresh = ok .old-fresh }
+
+-- ---- Whose pages are to be followed, and whose are given back
+
+module _ (m : Memory) (b : Book) (i : Inv m b) where
+  abbrev before : Scene
+  before = sceneOf m (i .ghost) b
+
+  -- A walk over the list of an owner.
+  list-held : (o : Owner) (l : ℕ) → l ≡ linkToFirst (i .ghost .held o) → Linked (m .root) (m .pages) (i .ghost .held o) → listFrom (m .root) (m .pages) l ≡ sound (i .ghost .held o)
+  list-held o l e h = ap (listFrom (m .root) (m .pages)) e ∙ linked-list (m .root) (m .pages) (i .ghost .held o) h (held-length (m .root) (i .pages-ok .owned) o)
+
+  module _ (j : ℕ) (in-row : j < m .root .parties) where
+    abbrev p : Party
+    p = partyAt (m .parties) j
+
+    -- What a find would walk to next is protected.
+    next-protected : p .step ≡ 9 → linkOf (scratchOf (viewOf m j)) ≢ 0 → Protected before (p .chain) (linkedPage (linkOf (scratchOf (viewOf m j))))
+    next-protected e n =
+        let f = facts-at 8 before j p e (i .parties-ok j in-row) .facts in
+        f .protected (linkedPage (linkOf (scratchOf (viewOf m j)))) (leads-in (linkOf (scratchOf (viewOf m j))) (f .rest) (f .link) n)
+
+    -- An old link leads to the party's own pages to give back, or still to the pages of its chain.
+    abbrev OldIs : Type 0
+    OldIs = (p .old ≡ linkToFirst (i .ghost .held (oldOf j))) ⊎ (p .old ≡ linkToFirst (i .ghost .held (inChain (p .chain))))
+
+    at-twelve : isChange (p .answer) ≡ true → (e : Entered) → Written before j p e → OldIs
+    at-twelve c e (unchanged a n o x) = absurd (not-both (isChange (p .answer)) c n)
+    at-twelve c e (made-change l o) = inl (l .trash .link)
+
+    old-is : oldOpen p ≡ true → OldIs
+    unfolding oldOpen
+    old-is h =
+        let t = and-both (isAmong (p .step) openSteps) (not (eqb (p .step) 12) || isChange (p .answer)) h in
+        all-in (λ (n : ℕ). p .step ≡ n → OldIs) (p .step) openSteps
+        ((λ e. inr (facts-at 10 before j p e ok .facts .keeps-link))
+        ▸ (λ e. let x = facts-at 11 before j p e ok in at-twelve (subst (λ (n : ℕ). (not (eqb n 12) || isChange (p .answer)) ≡ true) e (t .1)) (x .entered) (x .facts))
+        ▸ (λ e. inl (facts-at 12 before j p e ok .facts .leaving .trash .link))
+        ▸ (λ e. inl (facts-at 13 before j p e ok .facts .leaving .trash .link))
+        ▸ (λ e. inr (facts-at 17 before j p e ok .facts .keeps-link))
+        ▸ (λ e. inl (facts-at 18 before j p e ok .facts .trash .link))
+        ▸ (λ e. inl (facts-at 19 before j p e ok .facts .trash .link))
+        ▸ (λ e. inl (facts-at 20 before j p e ok .facts .trash .link))
+        ▸ (λ e. inl (facts-at 21 before j p e ok .facts .trash .link))
+        ▸ (λ e. inr (facts-at 26 before j p e ok .facts .0 .keeps-link))
+        ▸ (λ e. inr (facts-at 27 before j p e ok .facts .0 .keeps-link))
+        ▸ (λ e. inl (facts-at 28 before j p e ok .facts .0 .trash .link))
+        ▸ tt) (t .0) refl
+      where
+        ok : PartyOk before j p
+        ok = i .parties-ok j in-row
+
+    old-owner : oldOpen p ≡ true → p .old ≢ 0 → (i .ghost .own (linkedPage (p .old)) ≡ oldOf j) ⊎ (i .ghost .own (linkedPage (p .old)) ≡ inChain (p .chain))
+    old-owner h n = go (old-is h)
+      where
+        go : OldIs → (i .ghost .own (linkedPage (p .old)) ≡ oldOf j) ⊎ (i .ghost .own (linkedPage (p .old)) ≡ inChain (p .chain))
+        go (inl e) = inl (own-of-member (i .pages-ok .owned) (oldOf j) (linkedPage (p .old)) (leads-in (p .old) (i .ghost .held (oldOf j)) e n))
+        go (inr e) = inr (own-of-member (i .pages-ok .owned) (inChain (p .chain)) (linkedPage (p .old)) (leads-in (p .old) (i .ghost .held (inChain (p .chain))) e n))
+
+  module _ (q : ℕ) (in-row : q < m .root .parties) where
+    abbrev me : Party
+    me = partyAt (m .parties) q
+
+    -- A page that party q gives back: its own, and nobody else holds the chain.
+    record GivenBy (x : ℕ) : Type 0 where
+      owner-is : (i .ghost .own x ≡ oldOf q) ⊎ (i .ghost .own x ≡ partnerOf q)
+      chain-fits : me .chain < m .root .primaries
+      holds-chain : isClaimed (claims (m .root) me) (chainWord (me .chain)) Exclusive ≡ true
+
+    kind-of : {a c : Owner} → a ≡ c → a .kind ≡ c .kind
+    kind-of e = ap (λ (o : Owner). o .kind) e
+
+    index-of : {a c : Owner} → a ≡ c → a .index ≡ c .index
+    index-of e = ap (λ (o : Owner). o .index) e
+
+    walk-spared : (j : ℕ) → j ≢ q → partyAt (m .parties) j .step ≡ 9 → (x : ℕ) → Protected before (partyAt (m .parties) j .chain) x → GivenBy x → ⊥
+    walk-spared j n e x pr g = go pr (g .owner-is)
+      where
+        go : Protected before (partyAt (m .parties) j .chain) x → (i .ghost .own x ≡ oldOf q) ⊎ (i .ghost .own x ≡ partnerOf q) → ⊥
+        go (in-chain y) (inl o) = omega (arith, kind-of (sym y ∙ o))
+        go (in-chain y) (inr o) = omega (arith, kind-of (sym y ∙ o))
+        go (in-old k y c) (inl o) =
+            let mine : k ≡ q = index-of (sym y ∙ o) in
+            no-reader m b i q (g .chain-fits) (g .holds-chain) j n e (sym c ∙ ap (λ (a : ℕ). partyAt (m .parties) a .chain) mine)
+        go (in-old k y c) (inr o) = omega (arith, kind-of (sym y ∙ o))
+
+    old-spared : (j : ℕ) → j ≢ q → (x d : ℕ) → (i .ghost .own x ≡ oldOf j) ⊎ (i .ghost .own x ≡ inChain d) → GivenBy x → ⊥
+    old-spared j n x d w g = go w (g .owner-is)
+      where
+        go : (i .ghost .own x ≡ oldOf j) ⊎ (i .ghost .own x ≡ inChain d) → (i .ghost .own x ≡ oldOf q) ⊎ (i .ghost .own x ≡ partnerOf q) → ⊥
+        go (inl y) (inl o) = n (index-of (sym y ∙ o))
+        go (inl y) (inr o) = omega (arith, kind-of (sym y ∙ o))
+        go (inr y) (inl o) = omega (arith, kind-of (sym y ∙ o))
+        go (inr y) (inr o) = omega (arith, kind-of (sym y ∙ o))
+
+    -- ---- What the step does with links
+
+    module _ (k : Clock) (ok : ClockOk k m) where
+      abbrev now : ℕ
+      now = k .calls + 1
+
+      earlier : (x : ℕ) → k .givenAt x < now
+      earlier x = omega (arith, ok .past x)
+
+      -- Every link followed is fresh, and the pages given back are the party's.
+      record Fair (t : Trace) : Type 0 where
+        fresh : allFresh k (t .follows) ≡ true
+        given : (x : ℕ) → isAmong x (t .gives) ≡ true → GivenBy x
+
+      none-given : (x : ℕ) → isAmong x [] ≡ true → GivenBy x
+      unfolding isAmong
+      none-given x h = absurd (false≢true h)
+
+      fair-none : Fair noTrace
+      unfolding allFresh
+      fair-none = record { fresh = refl; given = none-given }
+
+      fair-looked : (xs : List ℕ) (o : Bool) → Fair (traceLooked now xs o)
+      fair-looked xs o = record { fresh = fresh-now k now xs earlier; given = none-given }
+
+      fair-walked : me .step ≡ 9 → (a : StepAnswer) → (isMoved a ≡ true → linkOf (scratchOf (viewOf m q)) ≢ 0) → Fair (traceNine (viewOf m q) (k .scratchRead q) a)
+      unfolding traceNine allFresh
+      fair-walked e a n =
+          cond-ind Fair (isMoved a) _ _
+          (λ h. record { fresh = both-and (lt-ltb _ (k .scratchRead q) (ok .scratch-fresh q in-row e (n h))) refl; given = none-given }) (λ _. fair-none)
+
+      -- The old link of a party that gives its pages back.
+      walked-old : oldOpen me ≡ true → me .old ≡ linkToFirst (i .ghost .held (oldOf q)) → allFresh k (walkedFrom (k .oldRead q) now (i .ghost .held (oldOf q))) ≡ true
+      walked-old h e = fresh-walked k (k .oldRead q) now (me .old) (i .ghost .held (oldOf q)) e (ok .old-fresh q in-row h) earlier
+
+      fair-fourteen : me .step ≡ 14 → Fair (traceFourteen (viewOf m q) (k .oldRead q) now)
+      unfolding traceFourteen pagesListed oldOpen isAmong
+      fair-fourteen e =
+          let f = facts-at 13 before q me e (i .parties-ok q in-row) in
+          let trash = f .facts .leaving .trash in
+          rw (list-held (oldOf q) (me .old) (trash .link) (trash .linked))
+          (record {
+            fresh = walked-old (open-at me 14 e) (trash .link);
+            given = λ x h. record {
+              owner-is = inl (own-of-member (i .pages-ok .owned) (oldOf q) x h);
+              chain-fits = f .busy .chain-fits;
+              holds-chain = rw (claims-at (m .root) me 14 e) (named [] (chainWord (me .chain)) Exclusive);
+            };
+          })
+
+      fair-twenty-nine : me .step ≡ 29 → Fair (traceTwentyNine (viewOf m q) (k .oldRead q) now)
+      unfolding traceTwentyNine pagesListed oldOpen isAmong
+      fair-twenty-nine e =
+          let f = facts-at 28 before q me e (i .parties-ok q in-row) in
+          let x = f .facts .0 in
+          let olds = i .ghost .held (oldOf q) in
+          let partners = i .ghost .held (partnerOf q) in
+          rw (list-held (oldOf q) (me .old) (x .trash .link) (x .trash .linked), list-held (partnerOf q) (linkOf (pageOf (m .pages) (primaryPage (me .other)))) (x .partner-link) (x .partner-linked))
+          (record {
+            fresh = fresh-append k (walkedFrom (k .oldRead q) now olds) (readNow now partners) (walked-old (open-at me 29 e) (x .trash .link)) (fresh-now k now partners earlier);
+            given = λ y h. record {
+              owner-is = whose y (or-either (isAmong y olds) (isAmong y partners) (sym (among-append y olds partners) ∙ h));
+              chain-fits = f .busy .chain-fits;
+              holds-chain = rw (claims-at (m .root) me 29 e)
+                  (later rootSelective (chainExclusive me ∷ (otherExclusive me ∷ [])) (chainWord (me .chain)) Exclusive (named (otherExclusive me ∷ []) (chainWord (me .chain)) Exclusive));
+            };
+          })
+        where
+          whose : (y : ℕ) → (isAmong y (i .ghost .held (oldOf q)) ≡ true) ⊎ (isAmong y (i .ghost .held (partnerOf q)) ≡ true)
+              → (i .ghost .own y ≡ oldOf q) ⊎ (i .ghost .own y ≡ partnerOf q)
+          whose y (inl h) = inl (own-of-member (i .pages-ok .owned) (oldOf q) y h)
+          whose y (inr h) = inr (own-of-member (i .pages-ok .owned) (partnerOf q) y h)
+
+      -- By step number.
+      trace-fair : (a : StepAnswer) (next : ℕ) → (me .step ≡ 9 → isMoved a ≡ true → linkOf (scratchOf (viewOf m q)) ≢ 0)
+          → Fair (traceOf now (me .step) (viewOf m q) a next (k .scratchRead q) (k .oldRead q))
+      unfolding traceOf
+      trace-fair a next linked = go (tell (isAmong (me .step) linkSteps))
+        where
+          FairAt : ℕ → Type 0
+          FairAt n = Fair (traceOf now n (viewOf m q) a next (k .scratchRead q) (k .oldRead q))
+
+          by : (n : ℕ) → me .step ≡ n → FairAt n → FairAt (me .step)
+          by n e f = subst FairAt (sym e) f
+
+          go : Told (isAmong (me .step) linkSteps) → FairAt (me .step)
+          go (fails h) = subst Fair (sym (no-links now (me .step) (viewOf m q) a next (k .scratchRead q) (k .oldRead q) (absent-outside (me .step) linkSteps h))) fair-none
+          go (holds h) =
+              all-in (λ (n : ℕ). me .step ≡ n → FairAt (me .step)) (me .step) linkSteps
+              ((λ e. by 6 e (record { fresh = fair-none .fresh; given = none-given }))
+              ▸ (λ e. by 9 e (fair-walked e a (linked e)))
+              ▸ (λ e. by 10 e (fair-looked (chainPages (viewOf m q) (me .chain)) (eqb next 11)))
+              ▸ (λ e. by 14 e (fair-fourteen e))
+              ▸ (λ e. by 17 e (fair-looked (chainPages (viewOf m q) (me .chain)) (isMoved a)))
+              ▸ (λ e. by 26 e (fair-looked (chainPages (viewOf m q) (me .chain) ++ chainPages (viewOf m q) (me .other)) (isMoved a)))
+              ▸ (λ e. by 29 e (fair-twenty-nine e))
+              ▸ tt) h refl
+
+-- ---- A call
+
+-- What is owed of a call: it follows no stale link, and the clock is right after it.
+pub record CallFresh (k : Clock) (m : Memory) (c : Call) : Type 0 where
+  pub fresh : allFresh k (traceOfCall k m c .follows) ≡ true
+  pub clock : ClockOk (clockAfter k m c) (afterCall m c)
+
+-- The trace of a call that performs no step, and of one that performs a step.
+quiet-trace : (k : Clock) (m : Memory) (q : ℕ) (a : StepAnswer) (u : Memory) → stepCall m q ≡ called a u → performs a ≡ false → traceOfStep k m q ≡ noTrace
+unfolding traceOfStep
+quiet-trace k m q a u e p = rw (e, p) refl
+
+acting-trace : (k : Clock) (m : Memory) (q : ℕ) (a : StepAnswer) (u : Memory) (p : Party) → stepCall m q ≡ called a u → performs a ≡ true → partyAt (u .parties) q ≡ p
+    → traceOfStep k m q ≡ traceOf (k .calls + 1) (partyAt (m .parties) q .step) (viewOf m q) a (p .step) (k .scratchRead q) (k .oldRead q)
+unfolding traceOfStep
+acting-trace k m q a u p e h s = rw (e, h, s) refl
+
+module _ (k : Clock) (m : Memory) (ok : ClockOk k m) (q : ℕ) where
+  -- A call that performs no step.
+  quiet-fresh : (a : StepAnswer) (u : Memory) → stepCall m q ≡ called a u → performs a ≡ false → u ≡ m → CallFresh k m (stepFor q)
+  unfolding traceOfCall clockAfter afterCall allFresh
+  quiet-fresh a u e p s = record {
+    fresh = ap (λ (t : Trace). allFresh k (t .follows)) none;
+    clock = subst (λ (t : Trace). ClockOk (ticked k q t) (stepCall m q .memory)) (sym none)
+        (subst (λ (x : Memory). ClockOk (ticked k q noTrace) x) (sym (ap (λ (c : Called StepAnswer). c .memory) e ∙ s)) (clock-ticks k m ok q));
+  }
+    where
+      none : traceOfStep k m q ≡ noTrace
+      none = quiet-trace k m q a u e p
+
+  module _ (b : Book) (i : Inv m b) (none : firstCause (stepRows m q) ≡ 0) where
+    abbrev v : View
+    v = viewOf m q
+
+    abbrev o : Outcome
+    o = stepOf (partyAt (m .parties) q .step) (viewOf m q)
+
+    abbrev u : Memory
+    u = afterStep m (o .after)
+
+    in-row : q < m .root .parties
+    in-row = ready m q none .number-fits
+
+    module _ (acts : performs (o .answer) ≡ true) (l : Leaves v (o .after)) (marks : Marks (partyAt (m .parties) q .step) v (o .answer) (o .after .party)) where
+      abbrev t : Trace
+      t = traceOf (k .calls + 1) (partyAt (m .parties) q .step) v (o .answer) (o .after .party .step) (k .scratchRead q) (k .oldRead q)
+
+      own-record : partyAt (u .parties) q ≡ o .after .party
+      own-record = ap (λ (n : ℕ). partyAt (set (m .parties) n (o .after .party)) q) (l .number=) ∙ row-same (m .parties) q (o .after .party) (omega (arith, in-row, i .parties-many))
+
+      fair : Fair m b i q in-row k ok t
+      unfolding stepOf stepTable
+      fair =
+          trace-fair m b i q in-row k ok (o .answer) (o .after .party .step)
+          (λ e h. moves-by-link v (subst (λ (n : ℕ). isMoved (stepOf n (viewOf m q) .answer) ≡ true) e h))
+
+      spared : Spared m u q (t .gives)
+      spared = record {
+        parties= = l .sizes .parties=;
+        record= = λ j n. ap (λ (x : ℕ). partyAt (set (m .parties) x (o .after .party)) j) (l .number=) ∙ row-other (m .parties) q j (o .after .party) n;
+        scratch= = λ j n. ap (λ (x : ℕ). pageOf (o .after .pages) x) (page= j) ∙ l .spares .others j n;
+        scratch-spared = λ j h n e w. not-given (linkedPage (linkOf (scratchOf (viewOf m j)))) (λ g. walk-spared m b i q in-row j n e _ (next-protected m b i j h e w) g);
+        old-spared = λ j h n e w. not-given (linkedPage (partyAt (m .parties) j .old)) (λ g. old-spared m b i q in-row j n _ (partyAt (m .parties) j .chain) (old-owner m b i j h e w) g);
+      }
+        where
+          page= : (j : ℕ) → scratchPage (o .after .root) j ≡ scratchPage (m .root) j
+          page= j = omega (arith, l .sizes .primaries=, l .sizes .overflow=)
+
+          not-given : (x : ℕ) → (GivenBy m b i q in-row x → ⊥) → isAmong x (t .gives) ≡ false
+          not-given x f = go (tell (isAmong x (t .gives)))
+            where
+              go : Told (isAmong x (t .gives)) → isAmong x (t .gives) ≡ false
+              go (holds h) = absurd (f (fair .given x h))
+              go (fails h) = h
+
+      own-scratch : o .after .party .step ≡ 9 → (x : ℕ) → ticked k q t .givenAt x < ticked k q t .scratchRead q
+      own-scratch e x =
+          let r = marks .scratch-link (k .calls + 1) (k .scratchRead q) (k .oldRead q) e in
+          rw (given-none k q t x (r .keeps-all), scratch-now k q t (r .reads)) (omega (arith, ok .past x))
+
+      own-old : oldOpen (o .after .party) ≡ true → o .after .party .old ≢ 0 → ticked k q t .givenAt (linkedPage (o .after .party .old)) < ticked k q t .oldRead q
+      own-old h n = go (marks .old-link (k .calls + 1) (k .scratchRead q) (k .oldRead q))
+        where
+          x : ℕ
+          x = linkedPage (o .after .party .old)
+
+          go : OldLink v (o .after .party) t → ticked k q t .givenAt x < ticked k q t .oldRead q
+          go (closed c) = absurd (not-both (oldOpen (o .after .party)) h c)
+          go (read-now r) = rw (given-none k q t x (r .keeps-all), old-now k q t (r .reads)) (omega (arith, ok .past x))
+          go (kept-old e c g) =
+              let was : k .givenAt x < k .oldRead q =
+              subst (λ (y : ℕ). k .givenAt (linkedPage y) < k .oldRead q) (sym e) (ok .old-fresh q in-row c (λ z. n (e ∙ z))) in
+              rw (given-none k q t x g) (old-later k q t (k .givenAt x) was (ok .past x))
+
+      acting-fresh : stepCall m q ≡ called (o .answer) u → CallFresh k m (stepFor q)
+      unfolding traceOfCall clockAfter afterCall
+      acting-fresh e =
+          let is = acting-trace k m q (o .answer) u (o .after .party) e acts own-record in
+          record {
+            fresh = ap (λ (s : Trace). allFresh k (s .follows)) is ∙ fair .fresh;
+            clock = subst (λ (s : Trace). ClockOk (ticked k q s) (stepCall m q .memory)) (sym is)
+                (subst (λ (c : Called StepAnswer). ClockOk (ticked k q t) (c .memory)) (sym e)
+                (clock-moves k m u ok q t spared
+                (λ _. subst (λ (p : Party). p .step ≡ 9 → ticked k q t .givenAt (linkedPage (linkOf (scratchOf (viewOf u q)))) < ticked k q t .scratchRead q) (sym own-record)
+                (λ s. own-scratch s (linkedPage (linkOf (scratchOf (viewOf u q))))))
+                (λ _. subst (λ (p : Party). oldOpen p ≡ true → p .old ≢ 0 → ticked k q t .givenAt (linkedPage (p .old)) < ticked k q t .oldRead q) (sym own-record) own-old)));
+          }
+
+    -- A step that passes the tests of the refusal table.
+    tested-fresh : stepCall m q ≡ called (o .answer) u → CallFresh k m (stepFor q)
+    tested-fresh e = go (step-traced v (ready m q none))
+      where
+        go : Traced (partyAt (m .parties) q .step) v o → CallFresh k m (stepFor q)
+        go (stays p s) = quiet-fresh (o .answer) u e p (ap (afterStep m) s ∙ ap (λ (ps : List Party). record { root = m .root; parties = ps; locks = m .locks; pages = m .pages }) (set-getD (m .parties) q idle))
+        go (goes p l marks) = acting-fresh p l marks e
+
+  step-fresh : (b : Book) → Inv m b → CallFresh k m (stepFor q)
+  unfolding stepped performs
+  step-fresh b i = go (cmp (firstCause (stepRows m q)) 0)
+    where
+      go : Cmp (firstCause (stepRows m q)) 0 → CallFresh k m (stepFor q)
+      go (same e) = tested-fresh b i e (step-accepted m q e)
+      go (diff n) = quiet-fresh (StepAnswer.Refused (firstCause (stepRows m q))) m (step-refused m (firstCause (stepRows m q)) (omega arith) q refl) refl refl
+
+  -- ---- Begin
+
+  module _ (op : Operation) (key : ℕ) where
+    begun-spared : Spared m (withBegun m q op key) q []
+    unfolding withBegun isAmong
+    begun-spared = record {
+      parties= = refl;
+      record= = λ j n. row-other (m .parties) q j (begun (operationNumber op) key) n;
+      scratch= = λ j n. refl;
+      scratch-spared = λ j h n e w. refl;
+      old-spared = λ j h n e w. refl;
+    }
+
+    begun-record : length (m .parties) ≡ m .root .parties → q < m .root .parties → partyAt (withBegun m q op key .parties) q ≡ begun (operationNumber op) key
+    unfolding withBegun
+    begun-record e h = row-same (m .parties) q (begun (operationNumber op) key) (omega arith)
+
+    begun-clock : length (m .parties) ≡ m .root .parties → ClockOk (ticked k q noTrace) (withBegun m q op key)
+    unfolding oldOpen isAmong
+    begun-clock e =
+        clock-moves k m (withBegun m q op key) ok q noTrace begun-spared (λ h s. absurd (omega (arith, sym (ap (λ (p : Party). p .step) (begun-record e h)) ∙ s)))
+        (λ h s n. absurd (false≢true (sym (ap oldOpen (begun-record e h)) ∙ s)))
+
+    begin-fresh : (b : Book) → Inv m b → CallFresh k m (beginFor q op key)
+    unfolding traceOfCall clockAfter afterCall allFresh
+    begin-fresh b i = record { fresh = refl; clock = go (cmp (firstCause (beginRows m q)) 0) }
+      where
+        go : Cmp (firstCause (beginRows m q)) 0 → ClockOk (ticked k q noTrace) (beginCall m q op key .memory)
+        go (same e) = subst (λ (c : Called BeginAnswer). ClockOk (ticked k q noTrace) (c .memory)) (sym (begin-accepted m q op key e)) (begun-clock (i .parties-many))
+        go (diff n) =
+            subst (λ (c : Called BeginAnswer). ClockOk (ticked k q noTrace) (c .memory)) (sym (begin-refused m (firstCause (beginRows m q)) (omega arith) q op key refl))
+            (clock-ticks k m ok q)
+
+pub clock-kept : (k : Clock) (m : Memory) (b : Book) → Inv m b → ClockOk k m → (c : Call) → CallFresh k m c
+clock-kept k m b i ok (beginFor q op key) = begin-fresh k m ok q op key b i
+clock-kept k m b i ok (stepFor q) = step-fresh k m ok q b i
+
+-- ---- A list of calls
+
+pub run-links : StepsKept → (k : Clock) (m : Memory) (b : Book) → Inv m b → ClockOk k m → (cs : List Call) → linksFresh k m cs ≡ true
+unfolding linksFresh
+run-links kept k m b i ok [] = refl
+run-links kept k m b i ok (c ∷ cs) =
+    let f = clock-kept k m b i ok c in
+    both-and (f .fresh)
+    (run-links kept (clockAfter k m c) (afterCall m c) (bookAfter b c (partyAt (m .parties) (callerOf c) .step) (replyTo m c)) (call-kept kept m b i c .inv) (f .clock) cs)
+
+-- Before the first call nobody is under way.
+start-clock : (s : Sizes) → ClockOk clockStart (start s)
+unfolding clockStart formatted oldOpen isAmong
+start-clock s = record {
+  past = λ x. omega arith;
+  scratch-fresh = λ q l e n. absurd (omega (arith, sym (ap (λ (p : Party). p .step) (party-idle (s .parties) q)) ∙ e));
+  old-fresh = λ q l h n. absurd (false≢true (sym (ap oldOpen (party-idle (s .parties) q)) ∙ h));
+}
+
+pub links-fresh : StepsKept → (s : Sizes) (cs : List Call) → linksFresh clockStart (start s) cs ≡ true
+links-fresh kept s cs =
+    run-links kept clockStart (start s) emptyBook (start-inv (s .originals) (s .capacity) (s .primaries) (s .overflow) (s .parties) (s .fit)) (start-clock s) cs

@@ -1,0 +1,146 @@
+-- The file that a memory holds under the invariant: the live chains' records are the yardstick's file.
+-- Main statements: liveFile; live-holding (it holds exactly the keys of the book's set); file-read (it is the file read, where the live file extends as the root says);
+-- Whole (every overflow page is free or counted by the file); use-set, use-append, use-front (the pages counted, as chains change); live-pages.
+use mathlib.Core.Path.{_≡_, refl, sym, ap, _∙_}
+use mathlib.Core.Bool.{Bool, true, false, _&&_, and-true, and-false}
+use mathlib.Core.List.{List, [], _∷_, _++_}
+use Prim.Native.Nat.{ℕ, zero, suc, _+_, _≤_, _<_}
+use native.Mathlib.Omega.{arith}
+use lib.ListN.{length, getD, set, take, List·getD-eq-default}
+use lib.Dec.{eqb}
+use Rattle.model.specs.Addresses.{chainCount}
+use Rattle.model.specs.Entries.{Entry, hasKey, ascending}
+use Rattle.model.specs.Filling.{pagesFor}
+use Rattle.model.specs.Memory.{Memory}
+use Rattle.model.specs.Book.{Book, isIn}
+use Rattle.theory.specs.Sequential.{File, recordsAt, recordsRead, chainsFrom, fileOf, pagesInUse}
+use Rattle.model.proofs.Laws.Lists.{Told, holds, fails, tell, Cmp, same, diff, cmp, Ord, lt, ge, ord, eqb-same, eqb-diff}
+use Rattle.model.proofs.Invariant.Ghost.{inChain, Extent, rootExtent, size, localLevel, Ghost}
+use Rattle.model.proofs.Laws.Addresses.{address-lt}
+use Rattle.model.proofs.Invariant.Extents.{home-is}
+use Rattle.model.proofs.Laws.Reading.{overflow-length}
+use Rattle.model.proofs.Invariant.Statement.{Inv}
+use Rattle.model.proofs.Effects.BuiltChain.{chain-found}
+use Rattle.theory.proofs.Singly.Files.{home, Holding}
+
+-- ---- The records of a run of chains
+
+-- Those of the n chains from chain c on.
+unfoldable pub listed : (ℕ → List Entry) → ℕ → ℕ → List (List Entry)
+listed f zero c = []
+listed f (suc n) c = f c ∷ listed f n (c + 1)
+
+pub length-listed : (f : ℕ → List Entry) (n c : ℕ) → length (listed f n c) ≡ n
+unfolding listed
+length-listed f zero c = refl
+length-listed f (suc n) c = ap suc (length-listed f n (c + 1))
+
+pub listed-at : (f : ℕ → List Entry) (n c x : ℕ) → x < n → getD (listed f n c) x [] ≡ f (c + x)
+unfolding listed
+listed-at f zero c x l = absurd (omega arith)
+listed-at f (suc n) c zero l = ap f (omega arith)
+listed-at f (suc n) c (suc x) l = listed-at f n (c + 1) x (omega arith) ∙ ap f (omega arith)
+
+-- ---- The live file
+
+unfoldable pub liveFile : ℕ → Ghost → File
+liveFile n g = record { level = g .live .level; next = g .live .next; chains = listed (g .records) (size n (g .live)) 0 }
+
+module _ (m : Memory) (b : Book) (i : Inv m b) where
+  abbrev n : ℕ
+  n = m .root .originals
+
+  abbrev e : Extent
+  e = i .ghost .live
+
+  pub live-records : (c : ℕ) → c < size (m .root .originals) (i .ghost .live) → recordsAt (liveFile (m .root .originals) (i .ghost)) c ≡ i .ghost .records c
+  unfolding recordsAt liveFile
+  live-records c l = listed-at (i .ghost .records) (size n e) 0 c l ∙ ap (i .ghost .records) (omega arith)
+
+  beyond-live : (c : ℕ) → size n e ≤ c → recordsAt (liveFile n (i .ghost)) c ≡ []
+  unfolding recordsAt liveFile
+  beyond-live c l = List·getD-eq-default (listed (i .ghost .records) (size n e) 0) [] (omega (arith, length-listed (i .ghost .records) (size n e) 0))
+
+  -- A key on a live chain is at home there.
+  has-home : (c k : ℕ) → c < size n e → hasKey k (i .ghost .records c) ≡ true → home n e k ≡ c
+  has-home c k l h =
+      home-is n e c (localLevel n e c) k (i .limits .some-original) (omega (arith, i .extents-ok .live-next))
+      (record { inside = l; there = i .pages-ok .homed c l k h; reach = omega arith }) refl
+
+  keys-live : (c k : ℕ) → c < size n e → Cmp (home n e k) c → hasKey k (i .ghost .records c) ≡ (isIn (b .contents k) && eqb (home n e k) c)
+  keys-live c k l (same x) = rw (eqb-same (home n e k) c x, and-true (isIn (b .contents k))) (ap (λ (d : ℕ). hasKey k (i .ghost .records d)) (sym x) ∙ sym (i .book-ok .same k))
+  keys-live c k l (diff x) = rw (eqb-diff (home n e k) c x, and-false (isIn (b .contents k))) (go (tell (hasKey k (i .ghost .records c))))
+    where
+      go : Told (hasKey k (i .ghost .records c)) → hasKey k (i .ghost .records c) ≡ false
+      go (holds h) = absurd (x (has-home c k l h))
+      go (fails h) = h
+
+  keys-at : (c k : ℕ) → Ord c (size n e) → hasKey k (recordsAt (liveFile n (i .ghost)) c) ≡ (isIn (b .contents k) && eqb (home n e k) c)
+  unfolding hasKey size
+  keys-at c k (lt l _) = ap (hasKey k) (live-records c l) ∙ keys-live c k l (cmp (home n e k) c)
+  keys-at c k (ge l _) =
+      ap (hasKey k) (beyond-live c l)
+      ∙ sym (ap (λ (t : Bool). isIn (b .contents k) && t) (eqb-diff (home n e k) c (omega (arith, address-lt n (e .level) (e .next) k (i .limits .some-original))))
+      ∙ and-false (isIn (b .contents k)))
+
+  ascends-at : (c : ℕ) → Ord c (size n e) → ascending (recordsAt (liveFile n (i .ghost)) c) ≡ true
+  unfolding ascending
+  ascends-at c (lt l _) = rw (live-records c l) (i .pages-ok .ascends c l)
+  ascends-at c (ge l _) = rw (beyond-live c l) refl
+
+  -- It holds exactly the keys of the book's set.
+  pub live-holding : Holding (m .root .originals) (liveFile (m .root .originals) (i .ghost)) (λ k. isIn (b .contents k))
+  unfolding liveFile
+  live-holding = record {
+    as-many = length-listed (i .ghost .records) (size n e) 0;
+    next-fits = i .extents-ok .live-next;
+    ascends = λ c. ascends-at c (ord c (size n e));
+    keys = λ c k. keys-at c k (ord c (size n e));
+  }
+
+  -- ---- The file read
+
+  chains-read : (x c : ℕ) → c + x ≡ size n e → chainsFrom (m .root) (m .pages) x c ≡ listed (i .ghost .records) x c
+  unfolding chainsFrom listed recordsRead
+  chains-read zero c s = refl
+  chains-read (suc x) c s = rw (chain-found m b i c (omega arith), chains-read x (c + 1) (omega arith)) refl
+
+  pub file-read : i .ghost .live ≡ rootExtent (m .root) → fileOf (m .root) m ≡ liveFile (m .root .originals) (i .ghost)
+  unfolding fileOf liveFile
+  file-read s =
+      let r = m .root in
+      let many : chainCount n (r .level) (r .next) ≡ size n e = unfold size in (ap (λ (x : Extent). chainCount n (x .level) (x .next)) (sym s)) in
+      let lists = ap (λ (x : ℕ). chainsFrom r (m .pages) x 0) many ∙ chains-read (size n e) 0 (omega arith) in
+      λ j. record { level = ap (λ (x : Extent). x .level) (sym s) j; next = ap (λ (x : Extent). x .next) (sym s) j; chains = lists j }
+
+-- ---- Pages in use
+
+-- Every overflow page is free or counted by the file: what the yardstick takes for granted.
+pub record Whole (m : Memory) : Type 0 where
+  pub all-pages : m .root .free + pagesInUse (m .root .capacity) (fileOf (m .root) m .chains) ≡ m .root .overflow
+
+-- One chain's records replaced: its pages are counted anew.
+pub use-set : (k : ℕ) (l : List (List Entry)) (c : ℕ) (es : List Entry) → c < length l
+    → pagesInUse k (set l c es) + pagesFor k (getD l c []) ≡ pagesInUse k l + pagesFor k es
+unfolding pagesInUse
+use-set k [] c es h = absurd (omega arith)
+use-set k (x ∷ l) zero es h = omega arith
+use-set k (x ∷ l) (suc c) es h = omega (arith, use-set k l c es (omega arith))
+
+pub use-append : (k : ℕ) (l t : List (List Entry)) → pagesInUse k (l ++ t) ≡ pagesInUse k l + pagesInUse k t
+unfolding pagesInUse
+use-append k [] t = omega arith
+use-append k (x ∷ l) t = omega (arith, use-append k l t)
+
+-- The last chain left out.
+pub use-front : (k : ℕ) (l : List (List Entry)) (c : ℕ) → length l ≡ suc c → pagesInUse k (take c l) + pagesFor k (getD l c []) ≡ pagesInUse k l
+unfolding pagesInUse
+use-front k [] c h = absurd (omega arith)
+use-front k (x ∷ []) zero h = omega arith
+use-front k (x ∷ (y ∷ l)) zero h = absurd (omega arith)
+use-front k (x ∷ l) (suc c) h = omega (arith, use-front k l c (omega arith))
+
+-- A live chain has as many overflow pages as its records need.
+pub live-pages : (m : Memory) (b : Book) (i : Inv m b) (c : ℕ) → c < size (m .root .originals) (i .ghost .live)
+    → length (i .ghost .held (inChain c)) ≡ pagesFor (m .root .capacity) (i .ghost .records c)
+live-pages m b i c l = overflow-length (m .root .capacity) (m .pages) (i .ghost .held (inChain c)) (i .ghost .records c) (i .limits .some-key) (i .pages-ok .chain c l .overflow)

@@ -1,0 +1,9 @@
+-- What the demands say of whole lists of calls, in the order in which they build on one another; Demands and Linearization are the statements to read.
+pub mod Links
+pub mod PlainSet
+pub mod NoPage
+pub mod Sequential
+pub mod Singly
+pub mod Reads
+pub mod Demands
+pub mod Linearization

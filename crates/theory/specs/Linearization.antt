@@ -1,0 +1,206 @@
+-- A linearization (Herlihy and Wing 1990) of a run: an order of its operations, each at one call between its begin and
+-- its answer, in which a plain set gives every answer.
+-- It speaks of the calls and what they returned, and of the memory at the end; of no book. Calls are numbered from 1.
+-- Main definitions: Operated and operationsOf (the operations of a run); decisiveStep, isDecided and hasTakenEffect (when
+-- one takes effect, and whether it has); Linearized and Placed (an operation in its place), StandsBefore;
+-- answersInOrder and setAfter (the plain set, operation by operation); Linearization.
+-- The theorem that every list of calls has one is in proofs/Linearization.antt.
+use mathlib.Core.Path.{_≡_}
+use mathlib.Core.Bool.{Bool, true, false, cond, _&&_, _||_}
+use mathlib.Core.List.{List, [], _∷_, _++_, List·Memᴰ}
+use mathlib.Core.Option.{Option, none, some}
+use Prim.Native.Nat.{ℕ, _+_, _<_}
+use lib.Dec.{eqb, ltb, leb}
+use Rattle.model.specs.declared.Party.{Party}
+use Rattle.model.specs.declared.Operation.{Operation}
+use Rattle.model.specs.declared.Operation.the-variants as Operation
+use Rattle.model.specs.declared.OperationAnswer.{OperationAnswer}
+use Rattle.model.specs.declared.StepAnswer.the-variants as StepAnswer
+use Rattle.model.specs.declared.BeginAnswer.the-variants as BeginAnswer
+use Rattle.model.specs.Answers.{answerNumber, performs}
+use Rattle.model.specs.Steps.Write.{isChange}
+use Rattle.model.specs.Memory.{Memory, partyAt}
+use Rattle.model.specs.Runs.{Call, beginFor, stepFor, Reply, toBegin, toStep, Event, events}
+use Rattle.theory.specs.PlainSet.{PlainSet, emptySet, answersAsSet, setLeftBy}
+use Rattle.model.specs.Consistency.{Consistent, InFile}
+use Rattle.theory.specs.Demands.{Sizes, start, Reached}
+
+-- x is one of xs.
+abbrev pub IsOneOf : {A : Type 0} → A → List A → Type 0
+IsOneOf x xs = List·Memᴰ x xs
+
+-- ---- The operations of a run, read off its events
+
+-- An operation's answer: the number of the call that returned it, and the answer.
+pub record Answered : Type 0 where
+  pub call : ℕ
+  pub answer : OperationAnswer
+
+-- An operation: the number of the begin that entered it, its party, which operation with which key, and its answer if it
+-- has one.
+pub record Operated : Type 0 where
+  pub begun : ℕ
+  pub party : ℕ
+  pub operation : Operation
+  pub key : ℕ
+  pub answered : Option Answered
+
+-- The answer that a reply carries: that of a done.
+unfoldable pub answerIn : Reply → Option OperationAnswer
+answerIn (toBegin x) = none
+answerIn (toStep StepAnswer.Waiting) = none
+answerIn (toStep StepAnswer.Moved) = none
+answerIn (toStep (StepAnswer.Done a s)) = some a
+answerIn (toStep (StepAnswer.Refused n)) = none
+
+-- The answer that a call gives to party q.
+unfoldable pub answerTo : ℕ → Call → Reply → Option OperationAnswer
+answerTo q (beginFor j o k) x = none
+answerTo q (stepFor j) x = cond (eqb j q) (answerIn x) none
+
+-- The answer of call n, or else a later one.
+unfoldable pub orLater : ℕ → Option OperationAnswer → Option Answered → Option Answered
+orLater n none later = later
+orLater n (some a) later = some (record { call = n; answer = a })
+
+-- The first answer to party q, in events of calls numbered from n on.
+unfoldable pub firstAnswer : ℕ → ℕ → List Event → Option Answered
+firstAnswer q n [] = none
+firstAnswer q n (e ∷ es) = orLater n (answerTo q (e .call) (e .reply)) (firstAnswer q (n + 1) es)
+
+-- A begin answered ok enters its operation, whose answer is the first one that its party gets after it; no other call
+-- enters any.
+unfoldable pub entering : ℕ → Call → Reply → List Event → List Operated → List Operated
+entering n (beginFor q o k) (toBegin BeginAnswer.Begun) later rest =
+    record { begun = n; party = q; operation = o; key = k; answered = firstAnswer q (n + 1) later } ∷ rest
+entering n (beginFor q o k) (toBegin (BeginAnswer.Refused x)) later rest = rest
+entering n (beginFor q o k) (toStep x) later rest = rest
+entering n (stepFor q) x later rest = rest
+
+-- The operations entered in events of calls numbered from n on, in the order of their begins.
+unfoldable pub operationsFrom : ℕ → List Event → List Operated
+operationsFrom n [] = []
+operationsFrom n (e ∷ es) = entering n (e .call) (e .reply) es (operationsFrom (n + 1) es)
+
+-- The operations of a whole run.
+abbrev pub operationsOf : List Event → List Operated
+operationsOf es = operationsFrom 1 es
+
+-- The event of call j, in events of calls numbered from n on.
+unfoldable pub eventFrom : ℕ → List Event → ℕ → Option Event
+eventFrom n [] j = none
+eventFrom n (e ∷ es) j = cond (eqb j n) (some e) (eventFrom (n + 1) es j)
+
+-- The event of call j of a whole run.
+abbrev pub eventAt : List Event → ℕ → Option Event
+eventAt es j = eventFrom 1 es j
+
+-- ---- When an operation takes effect
+
+-- "Decisive steps: 11 for a change made; 10 for an insert or delete that changes nothing; the last 6 for a find."
+unfoldable pub decisiveStep : Operation → OperationAnswer → ℕ
+decisiveStep Operation.Find a = 6
+decisiveStep Operation.Insert a = cond (isChange (answerNumber a)) 11 10
+decisiveStep Operation.Delete a = cond (isChange (answerNumber a)) 11 10
+
+-- Whether party q performs a 6, a 10 or an 11 at an event.
+unfoldable pub stepMarks : ℕ → ℕ → Call → Reply → Bool
+stepMarks q number (beginFor j o k) x = false
+stepMarks q number (stepFor j) (toBegin x) = false
+stepMarks q number (stepFor j) (toStep a) = eqb j q && performs a && (eqb number 6 || eqb number 10 || eqb number 11)
+
+-- The same of a call that there may be or not.
+unfoldable pub marks : ℕ → Option Event → Bool
+marks q none = false
+marks q (some e) = stepMarks q (e .number) (e .call) (e .reply)
+
+-- Whether a step number is behind the decisive step: a 6 leads to 9 where it is a find's last, a 10 to 12 where nothing
+-- changes and else to 11, an 11 to 12; from 9 a find stays there or is done, and from 12 on all numbers are 12 or above.
+-- (proofs/Linearization/Leads.antt shows it of every step.)
+unfoldable pub isBehind : ℕ → Bool
+isBehind k = eqb k 9 || leb 12 k
+
+-- Whether the decisive step of a party's operation under way is done.
+abbrev pub isDecided : Party → Bool
+isDecided p = isBehind (p .step)
+
+-- Whether there is an answer.
+abbrev pub isAnswered : Option Answered → Bool
+isAnswered none = false
+isAnswered (some y) = true
+
+-- Whether an operation has taken effect when the memory m is reached: it is answered, or it is under way and its decisive
+-- step is done.
+unfoldable pub hasTakenEffect : Memory → Operated → Bool
+hasTakenEffect m o = isAnswered (o .answered) || isDecided (partyAt (m .parties) (o .party))
+
+-- ---- An order of operations
+
+-- An operation in an order: the number of the call at which it takes effect, and the answer that it gets there.
+pub record Linearized : Type 0 where
+  pub operated : Operated
+  pub point : ℕ
+  pub answer : OperationAnswer
+
+-- Whether the points ascend, the first at n or later; so no two operations share one.
+unfoldable pub ascendingFrom : ℕ → List Linearized → Bool
+ascendingFrom n [] = true
+ascendingFrom n (x ∷ xs) = leb n (x .point) && ascendingFrom (x .point + 1) xs
+
+-- How often the operation entered by call n stands in an order.
+unfoldable pub timesIn : ℕ → List Linearized → ℕ
+timesIn n [] = 0
+timesIn n (x ∷ xs) = cond (eqb (x .operated .begun) n) 1 0 + timesIn n xs
+
+-- Whether a plain set, one operation after the other, gives every answer of an order.
+unfoldable pub answersInOrder : PlainSet → List Linearized → Bool
+answersInOrder s [] = true
+answersInOrder s (x ∷ xs) =
+    let o = x .operated in
+    answersAsSet s (o .operation) (o .key) (x .answer) && answersInOrder (setLeftBy s (o .operation) (o .key) (x .answer)) xs
+
+-- The set that it leaves.
+unfoldable pub setAfter : PlainSet → List Linearized → PlainSet
+setAfter s [] = s
+setAfter s (x ∷ xs) = let o = x .operated in setAfter (setLeftBy s (o .operation) (o .key) (x .answer)) xs
+
+-- Whether call j comes before an answer; before none, every call does.
+unfoldable pub isBefore : ℕ → Option Answered → Bool
+isBefore j none = true
+isBefore j (some y) = ltb j (y .call)
+
+-- An operation of the run in its place: it takes effect after its begin and before its answer, and the answer is the one
+-- that it was given; the call at which it does is its decisive step, and no later call of it performs a 6, a 10 or an 11.
+pub record Placed (es : List Event) (x : Linearized) : Type 0 where
+  pub of-run : IsOneOf (x .operated) (operationsOf es)
+  pub after-begin : x .operated .begun < x .point
+  pub before-answer : (y : Answered) → x .operated .answered ≡ some y → x .point < y .call
+  pub same-answer : (y : Answered) → x .operated .answered ≡ some y → y .answer ≡ x .answer
+  pub decisive : eventAt es (x .point)
+      ≡ some (record { call = stepFor (x .operated .party); number = decisiveStep (x .operated .operation) (x .answer); reply = toStep StepAnswer.Moved })
+  pub last : (j : ℕ) → x .point < j → isBefore j (x .operated .answered) ≡ true → marks (x .operated .party) (eventAt es j) ≡ false
+
+-- x stands before y in an order.
+pub record StandsBefore (x y : Linearized) (xs : List Linearized) : Type 0 where
+  pub front : List Linearized
+  pub between : List Linearized
+  pub back : List Linearized
+  pub parts : xs ≡ front ++ (x ∷ (between ++ (y ∷ back)))
+
+-- The run of a list of calls from formatted memory has a linearization: an order of operations, by the calls at which they
+-- take effect.
+pub record Linearization (s : Sizes) (cs : List Call) : Type 0 where
+  pub order : List Linearized
+  pub ascending : ascendingFrom 1 order ≡ true
+  pub placed : (x : Linearized) → IsOneOf x order → Placed (events (start s) cs) x
+  -- Each operation answered, and each under way whose decisive step is done, stands in it once; no other does.
+  pub each : (o : Operated) → IsOneOf o (operationsOf (events (start s) cs)) → timesIn (o .begun) order ≡ cond (hasTakenEffect (Reached s cs) o) 1 0
+  -- Real time: an operation answered before another begins stands before it.
+  pub real-time : (x y : Linearized) (a : Answered) → IsOneOf x order → IsOneOf y order → x .operated .answered ≡ some a → a .call < y .operated .begun → StandsBefore x y order
+  -- From the empty set on, a plain set gives every answer. "No page" stands only for an insert of a missing key or a
+  -- delete of a present one, and leaves the set.
+  pub answers : answersInOrder emptySet order ≡ true
+  -- The set at the end is what the chains of the file hold.
+  pub file : Consistent (Reached s cs)
+  pub in-file : (k : ℕ) → setAfter emptySet order k ≡ true → InFile (Reached s cs) file k
+  pub in-set : (k : ℕ) → InFile (Reached s cs) file k → setAfter emptySet order k ≡ true

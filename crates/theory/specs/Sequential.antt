@@ -1,0 +1,165 @@
+-- The sequential yardstick (demand 2): linear hashing with uncontrolled splits over lists of records, one operation at a time.
+-- A file is level, next and the records of each chain. Pages are only counted: a chain takes the overflow pages that its records need, the others are free, so that
+-- the stated shortages of pages and of chains are part of the yardstick.
+-- Main definitions: File, freeIn; Finished, findIn, insertIn, deleteIn; splitFile, mergeFile; performedOn (one operation); setIn (the set that a file holds), startFile (the file that format
+-- leaves), fileOf (the file that a memory holds), ChainsRead.
+use mathlib.Core.Path.{_≡_}
+use mathlib.Core.Bool.{Bool, cond, _||_}
+use mathlib.Core.List.{List, [], _∷_, _++_}
+use Prim.Native.Nat.{ℕ, zero, suc, _+_, _-_, _<_}
+use lib.ListN.{getD, set, take, replicate}
+use lib.Dec.{ltb}
+use Rattle.model.specs.declared.Root.{Root}
+use Rattle.model.specs.declared.Operation.{Operation}
+use Rattle.model.specs.declared.Operation.the-variants as Operation
+use Rattle.model.specs.declared.OperationAnswer.{OperationAnswer}
+use Rattle.model.specs.declared.OperationAnswer.the-variants as OperationAnswer
+use Rattle.model.specs.declared.Restructuring.{Restructuring}
+use Rattle.model.specs.declared.Restructuring.the-variants as Restructuring
+use Rattle.model.specs.Addresses.{addressOf, chainCount, splitNext, splitLevel, mergeTarget, mergePartner, mergeLevel, splitBarred, mergeBarred}
+use Rattle.model.specs.Entries.{Entry, entryOf, hasKey, insertedInto, removedFrom, joined, staying, going}
+use Rattle.model.specs.Chains.{Checked, damaged, sound, Chain, chainOf}
+use Rattle.model.specs.Filling.{pagesFor}
+use Rattle.model.specs.Steps.Rebuild.{splitOwed, mergeOwed}
+use Rattle.model.specs.Memory.{Memory}
+use Rattle.model.specs.GivenSizes.{sizedRoot}
+use Rattle.theory.specs.PlainSet.{PlainSet}
+
+-- Level, next and the records of each chain. The sizes are those of a root record.
+pub record File : Type 0 where
+  pub level : ℕ
+  pub next : ℕ
+  pub chains : List (List Entry)
+
+-- What an operation answers, the restructuring it made, and the file then.
+pub record Finished : Type 0 where
+  pub answer : OperationAnswer
+  pub restructuring : Restructuring
+  pub file : File
+
+abbrev pub finishes : OperationAnswer → Restructuring → File → Finished
+finishes a s f = record { answer = a; restructuring = s; file = f }
+
+-- The overflow pages that all chains take, and those that are free.
+unfoldable pub pagesInUse : ℕ → List (List Entry) → ℕ
+pagesInUse b [] = 0
+pagesInUse b (es ∷ rest) = pagesFor b es + pagesInUse b rest
+
+unfoldable pub freeIn : Root → File → ℕ
+freeIn r f = r .overflow - pagesInUse (r .capacity) (f .chains)
+
+-- Whether fewer pages are free than these records need: a chain is rebuilt in free pages before its old ones are free.
+unfoldable pub shortOf : Root → File → ℕ → Bool
+shortOf r f k = ltb (freeIn r f) k
+
+-- The chain of a key, and its records.
+unfoldable pub homeIn : Root → File → ℕ → ℕ
+homeIn r f k = addressOf (r .originals) (f .level) (f .next) k
+
+unfoldable pub recordsAt : File → ℕ → List Entry
+recordsAt f c = getD (f .chains) c []
+
+unfoldable pub withRecords : File → ℕ → List Entry → File
+withRecords f c es = record { level = f .level; next = f .next; chains = set (f .chains) c es }
+
+unfoldable pub chainsIn : Root → File → ℕ
+chainsIn r f = chainCount (r .originals) (f .level) (f .next)
+
+-- ---- Split and merge
+
+-- Chain next parted in two, the new chain at the end; level and next advanced.
+unfoldable pub parted : Root → File → List Entry → List Entry → File
+parted r f stay go =
+    let next = splitNext (r .originals) (f .level) (f .next) in
+    record { level = splitLevel (f .level) next; next = next; chains = set (f .chains) (f .next) stay ++ (go ∷ []) }
+
+unfoldable pub splitFile : Root → File → OperationAnswer → Finished
+splitFile r f a =
+    let es = recordsAt f (f .next) in
+    let stay = staying (r .originals) (f .level + 1) (f .next) es in
+    let go = going (r .originals) (f .level + 1) (f .next) es in
+    let k = pagesFor (r .capacity) stay + pagesFor (r .capacity) go in
+    cond (splitBarred (chainsIn r f) (r .primaries) || shortOf r f k) (finishes a Restructuring.SplitSkipped f) (finishes a Restructuring.Split (parted r f stay go))
+
+-- The last chain joined to its target; level and next taken back.
+unfoldable pub rejoined : Root → File → ℕ → List Entry → File
+rejoined r f target es = record {
+  level = mergeLevel (f .level) (f .next);
+  next = target;
+  chains = take (mergePartner (r .originals) (f .level) (f .next)) (set (f .chains) target es);
+}
+
+unfoldable pub mergeFile : Root → File → OperationAnswer → Finished
+mergeFile r f a =
+    let target = mergeTarget (r .originals) (f .level) (f .next) in
+    let es = joined (recordsAt f target) (recordsAt f (mergePartner (r .originals) (f .level) (f .next))) in
+    cond (mergeBarred (chainsIn r f) (r .originals) || shortOf r f (pagesFor (r .capacity) es))
+    (finishes a Restructuring.MergeSkipped f)
+    (finishes a Restructuring.Merged (rejoined r f target es))
+
+-- ---- The operations
+
+unfoldable pub findIn : Root → File → ℕ → Finished
+findIn r f k = finishes (cond (hasKey k (recordsAt f (homeIn r f k))) OperationAnswer.Found OperationAnswer.Absent) Restructuring.None f
+
+-- A record more in chain c, where pages are enough; a split where the chain takes more overflow pages than before.
+unfoldable pub added : Root → File → ℕ → List Entry → List Entry → Finished
+added r f c es new =
+    let g = withRecords f c new in
+    let rest = cond (splitOwed (pagesFor (r .capacity) es) (pagesFor (r .capacity) new)) (splitFile r g OperationAnswer.Inserted) (finishes OperationAnswer.Inserted Restructuring.None g) in
+    cond (shortOf r f (pagesFor (r .capacity) new)) (finishes OperationAnswer.NoPage Restructuring.None f) rest
+
+unfoldable pub insertIn : Root → File → ℕ → Finished
+insertIn r f k =
+    let c = homeIn r f k in
+    let es = recordsAt f c in
+    cond (hasKey k es) (finishes OperationAnswer.Present Restructuring.None f) (added r f c es (insertedInto (entryOf k) es))
+
+-- A record less in chain c, where pages are enough; a merge where the chain is emptied.
+unfoldable pub removed : Root → File → ℕ → List Entry → Finished
+removed r f c new =
+    let g = withRecords f c new in
+    let rest = cond (mergeOwed new) (mergeFile r g OperationAnswer.Deleted) (finishes OperationAnswer.Deleted Restructuring.None g) in
+    cond (shortOf r f (pagesFor (r .capacity) new)) (finishes OperationAnswer.NoPage Restructuring.None f) rest
+
+unfoldable pub deleteIn : Root → File → ℕ → Finished
+deleteIn r f k =
+    let c = homeIn r f k in
+    let es = recordsAt f c in
+    cond (hasKey k es) (removed r f c (removedFrom k es)) (finishes OperationAnswer.Absent Restructuring.None f)
+
+unfoldable pub performedOn : Root → File → Operation → ℕ → Finished
+performedOn r f Operation.Find k = findIn r f k
+performedOn r f Operation.Insert k = insertIn r f k
+performedOn r f Operation.Delete k = deleteIn r f k
+
+-- ---- The set that a file holds, and the file that format leaves
+
+-- Whether each key is in its home chain.
+unfoldable pub setIn : Root → File → PlainSet
+setIn r f k = hasKey k (recordsAt f (homeIn r f k))
+
+-- Level 0, next 0 and N empty chains.
+unfoldable pub startFile : Root → File
+startFile r = record { level = 0; next = 0; chains = replicate (r .originals) [] }
+
+-- ---- The file that a memory holds, read with the sizes of z
+
+unfoldable pub recordsRead : Checked Chain → List Entry
+recordsRead damaged = []
+recordsRead (sound c) = c .entries
+
+-- The records of the n chains from chain c on.
+unfoldable pub chainsFrom : Root → List ℕ → ℕ → ℕ → List (List Entry)
+chainsFrom r ps zero c = []
+chainsFrom r ps (suc n) c = recordsRead (chainOf r ps c) ∷ chainsFrom r ps n (c + 1)
+
+unfoldable pub fileOf : Root → Memory → File
+fileOf z m =
+    let r = sizedRoot z (m .root) in
+    record { level = r .level; next = r .next; chains = chainsFrom r (m .pages) (chainCount (r .originals) (r .level) (r .next)) 0 }
+
+-- Each of its chains reads as sound: one that did not would count as empty.
+pub record ChainsRead (z : Root) (m : Memory) : Type 0 where
+  pub chain : ℕ → Chain
+  pub reads : (c : ℕ) → c < chainsIn z (fileOf z m) → chainOf (sizedRoot z (m .root)) (m .pages) c ≡ sound (chain c)
