@@ -1,0 +1,191 @@
+/* The bead index for C and C++: the three calls, the memory that they are lent, and the numbers that they answer.
+ *
+ * A file of 32-bit keys, shared by up to sixteen parties under Ellis's locks. bead_format makes an empty file,
+ * bead_begin starts a find, an insert or a delete for a party, and bead_step performs one step of it: seven steps or
+ * more an operation, of which the last answers BEAD_DONE. The caller picks whose step is next.
+ *
+ * All memory is the caller's: a root record, a row of party's records, a row of lock words and a row of page words,
+ * lent anew to every call. The library keeps nothing, allocates nothing and calls nobody. What each call leaves in
+ * every lent word is proved, for all words that the memory may have held: docs/SPECIFICATION.md has the rules,
+ * examples/first.c is a first program.
+ *
+ * What the caller sees to, since no call can: each pointer leads to as many records or words as its length says,
+ * aligned as its type asks, and is not null; the four parts do not overlap; and nobody else reads or writes them
+ * during a call, so parties that run as threads call under one mutex. Most calls need under 2 KB of stack; the most
+ * that one was measured to need is 471 KB, on the longest chain that can be lent (docs/PERFORMANCE.md).
+ *
+ * Link with libbead.a (x86-64 Linux), which tests/staticlib builds. */
+#ifndef BEAD_INDEX_H
+#define BEAD_INDEX_H
+
+#include <stddef.h>
+#include <stdint.h>
+
+#ifdef __cplusplus
+extern "C" {
+#endif
+
+/* ---- Sizes
+ *
+ * A file has five sizes, named as in the specification:
+ *   N  original chains       1 to P
+ *   b  keys a page           1 to BEAD_MOST_RECORDS
+ *   P  chains at most        1 to BEAD_MOST_PRIMARIES (a chain has one primary page)
+ *   V  overflow pages        0 to BEAD_MOST_OVERFLOW
+ *   Q  parties               1 to BEAD_MOST_PARTIES */
+#define BEAD_MOST_RECORDS 12u
+#define BEAD_MOST_PRIMARIES 256u
+#define BEAD_MOST_OVERFLOW 752u
+#define BEAD_MOST_PARTIES 16u
+
+/* The words of one page. */
+#define BEAD_PAGE_WORDS 16u
+
+/* The lengths of the rows to lend, for sizes within those limits: party's records, lock words, page words. Each is a
+ * constant where the sizes are, so fit for an array's length. */
+#define BEAD_PARTY_ROW(Q) (0u + (Q))
+#define BEAD_LOCK_ROW(P) (1u + (P))
+#define BEAD_PAGE_ROW(P, V, Q) (BEAD_PAGE_WORDS * (0u + (P) + (V) + (Q)))
+
+/* ---- The lent memory
+ *
+ * A caller need not look at it. The specification has the layout of lock words and pages. */
+
+/* The root record. */
+struct bead_root {
+    uint32_t originals; /* N */
+    uint32_t capacity;  /* b */
+    uint32_t primaries; /* P */
+    uint32_t overflow;  /* V */
+    uint32_t parties;   /* Q */
+    uint32_t level;     /* how often the file has doubled */
+    uint32_t next;      /* the chain that splits next */
+    uint32_t head;      /* the number of the first free page plus one, 0 for none */
+    uint32_t free;      /* how many pages are free */
+};
+
+/* A party's record. */
+struct bead_party {
+    uint32_t operation; /* enum bead_operation */
+    uint32_t key;       /* the operation's key */
+    uint32_t step;      /* the number of the next step, 1 to 30 */
+    uint32_t lev;       /* the level that the party goes by */
+    uint32_t chain;     /* the chain that it holds or wants */
+    uint32_t other;     /* the chain to be left at step 8, a split's new chain or a merge's partner */
+    uint32_t old;       /* the old overflow link: the first page to be given back plus one, 0 for none */
+    uint32_t owed;      /* the restructuring owed: 0 none, 1 split, 2 merge, 3 split made */
+    uint32_t answer;    /* the answer so far: enum bead_answer, never BEAD_FOUND */
+};
+
+/* ---- Numbers */
+
+/* What a party can begin. */
+enum bead_operation {
+    BEAD_IDLE = 0, /* not to be begun: the word of a party with no operation under way */
+    BEAD_FIND = 1,
+    BEAD_INSERT = 2,
+    BEAD_DELETE = 3
+};
+
+/* Why a call was refused: the numbers of the specification's table and one more, in the order in which the causes
+ * are tested. The first cause met gives the number. A refused call alters nothing. */
+enum bead_refusal {
+    BEAD_OK = 0,             /* not refused */
+    BEAD_NO_OPERATION = 255, /* bead_begin of none of the three operations; not in the table */
+    BEAD_SIZE_REFUSED = 2,   /* a size outside its limits: of those given to bead_format, else of the root record's */
+    BEAD_LENGTH_REFUSED = 1, /* a length other than Q records, P + 1 lock words or 16 * (P + V + Q) page words */
+    BEAD_PARTY_REFUSED = 3,  /* a party's number Q or above */
+    BEAD_BUSY_REFUSED = 4,   /* bead_begin for a party that is not idle */
+    BEAD_IDLE_REFUSED = 5,   /* bead_step for an idle party */
+    BEAD_DAMAGE = 6          /* bead_step on a damaged number: never where only these calls wrote since bead_format */
+};
+
+/* What a step came to. */
+enum bead_outcome {
+    BEAD_WAITING = 0, /* the lock that it needs is not to be had now, and no word is altered: try again later */
+    BEAD_MOVED = 1,   /* a step was performed, and there are more */
+    BEAD_DONE = 2     /* the operation is over, and the party idle */
+};
+
+/* What an operation answers once it is done. */
+enum bead_answer {
+    BEAD_NO_ANSWER = 0, /* it is not done */
+    BEAD_INSERTED = 1,  /* insert: the key was out and is in */
+    BEAD_PRESENT = 2,   /* insert: the key was in */
+    BEAD_DELETED = 3,   /* delete: the key was in and is out */
+    BEAD_ABSENT = 4,    /* find, delete: the key was out */
+    BEAD_NO_PAGE = 5,   /* insert, delete: too few overflow pages are free; the key is as it was */
+    BEAD_FOUND = 6      /* find: the key was in */
+};
+
+/* What a done operation made of the file's chains besides. */
+enum bead_restructuring {
+    BEAD_NO_RESTRUCTURING = 0,
+    BEAD_SPLIT = 1,         /* an insert split a chain */
+    BEAD_SPLIT_SKIPPED = 2, /* an insert owed a split; there were P chains, or too few free pages */
+    BEAD_MERGED = 3,        /* a delete merged two chains */
+    BEAD_MERGE_SKIPPED = 4  /* a delete owed a merge; there were N chains, or too few free pages */
+};
+
+/* The reply to a step. What does not apply is 0: all but the refusal where there is one, answer and restructuring
+ * where the operation is not done. */
+struct bead_reply {
+    uint32_t refusal;       /* enum bead_refusal */
+    uint32_t outcome;       /* enum bead_outcome */
+    uint32_t answer;        /* enum bead_answer */
+    uint32_t restructuring; /* enum bead_restructuring */
+};
+
+#if defined(__cplusplus) && __cplusplus >= 201103L
+#define BEAD_ASSERT_BYTES(type, bytes) static_assert(sizeof(type) == bytes, #type " has padding")
+#elif !defined(__cplusplus) && defined(__STDC_VERSION__) && __STDC_VERSION__ >= 201112L
+#define BEAD_ASSERT_BYTES(type, bytes) _Static_assert(sizeof(type) == bytes, #type " has padding")
+#endif
+#ifdef BEAD_ASSERT_BYTES
+BEAD_ASSERT_BYTES(struct bead_root, 36);
+BEAD_ASSERT_BYTES(struct bead_party, 36);
+BEAD_ASSERT_BYTES(struct bead_reply, 16);
+#undef BEAD_ASSERT_BYTES
+#endif
+
+/* ---- The calls
+ *
+ * Each is lent the same four parts by seven arguments: the root record; the row of party's records and how many they
+ * are; the row of lock words and how many; the row of page words and how many. */
+
+/* Makes an empty file of the sizes N b P V Q. What the memory held before does not matter.
+ * Answers BEAD_OK, or refuses, tested in this order:
+ *   BEAD_SIZE_REFUSED    a size given is outside its limits
+ *   BEAD_LENGTH_REFUSED  a length is not the one that the sizes given ask for */
+uint32_t bead_format(struct bead_root *root, struct bead_party *party_row, size_t parties, uint32_t *locks,
+                     size_t lock_words, uint32_t *pages, size_t page_words, uint32_t N, uint32_t b, uint32_t P,
+                     uint32_t V, uint32_t Q);
+
+/* Begins an operation (enum bead_operation) on a key, which may be any number, for a party; parties are numbered from
+ * 0. It writes that party's record alone.
+ * Answers BEAD_OK, or refuses, tested in this order:
+ *   BEAD_NO_OPERATION    the operation is none of BEAD_FIND, BEAD_INSERT, BEAD_DELETE
+ *   BEAD_SIZE_REFUSED    a size in the root record is outside its limits: the memory was never formatted
+ *   BEAD_LENGTH_REFUSED  a length is not the one that the root record asks for
+ *   BEAD_PARTY_REFUSED   there is no such party
+ *   BEAD_BUSY_REFUSED    the party's last operation is not done */
+uint32_t bead_begin(struct bead_root *root, struct bead_party *party_row, size_t parties, uint32_t *locks,
+                    size_t lock_words, uint32_t *pages, size_t page_words, uint32_t party, uint32_t operation,
+                    uint32_t key);
+
+/* Performs one step of a party's operation. Where only these calls wrote since bead_format, of all parties with an
+ * operation under way at least one would not wait.
+ * The reply's refusal is BEAD_OK or, tested in this order:
+ *   BEAD_SIZE_REFUSED    a size in the root record is outside its limits: the memory was never formatted
+ *   BEAD_LENGTH_REFUSED  a length is not the one that the root record asks for
+ *   BEAD_PARTY_REFUSED   there is no such party
+ *   BEAD_IDLE_REFUSED    the party has no operation under way
+ *   BEAD_DAMAGE          a number that the step needs is damaged */
+struct bead_reply bead_step(struct bead_root *root, struct bead_party *party_row, size_t parties, uint32_t *locks,
+                            size_t lock_words, uint32_t *pages, size_t page_words, uint32_t party);
+
+#ifdef __cplusplus
+}
+#endif
+
+#endif
