@@ -1,0 +1,302 @@
+/* The C face of the index, tested through include/bead_index.h: every refusal in the table's order with every lent word
+ * as it was, every outcome, answer and restructuring by its name, each field of both records in its place, and words
+ * beside the lent rows that no call touches. C11, and C++ as well. Prints one line, or each check that fails. */
+#include <stdio.h>
+#include <string.h>
+
+#include "bead_index.h"
+
+/* The largest sizes that a test uses. */
+enum { MOST_P = 256, MOST_V = 752, MOST_Q = 16, GUARDS = 16 };
+#define GUARD 0xB0A7B0A7u
+
+/* The lent memory, each part between guard words. The rows are as long as the largest file needs; where a smaller one
+ * is lent, what lies behind it is guarded too. */
+struct memory {
+    uint32_t before_root[GUARDS];
+    struct bead_root root;
+    uint32_t before_parties[GUARDS];
+    struct bead_party parties[BEAD_PARTY_ROW(MOST_Q)];
+    uint32_t before_locks[GUARDS];
+    uint32_t locks[BEAD_LOCK_ROW(MOST_P)];
+    uint32_t before_pages[GUARDS];
+    uint32_t pages[BEAD_PAGE_ROW(MOST_P, MOST_V, MOST_Q)];
+    uint32_t after_pages[GUARDS];
+};
+static struct memory file, before;
+
+/* The lengths of the rows for the sizes of `start`; and the lengths lent, the same but where a test says otherwise. */
+static size_t party_row, lock_row, page_row;
+static size_t parties, lock_words, page_words;
+#define LENT &file.root, file.parties, parties, file.locks, lock_words, file.pages, page_words
+
+static unsigned checks, failures;
+#define CHECK(condition) check((condition) != 0, #condition, __LINE__)
+static void check(int holds, const char *condition, int line)
+{
+    checks++;
+    if (!holds) {
+        failures++;
+        printf("face.c:%d: not so: %s\n", line, condition);
+    }
+}
+
+/* Guard words everywhere, the root record zero, and the lengths for the sizes P V Q. */
+static void start(uint32_t p, uint32_t v, uint32_t q)
+{
+    uint32_t *words = (uint32_t *)(void *)&file;
+    for (size_t i = 0; i < sizeof file / sizeof *words; i++)
+        words[i] = GUARD;
+    memset(&file.root, 0, sizeof file.root);
+    parties = party_row = BEAD_PARTY_ROW(q);
+    lock_words = lock_row = BEAD_LOCK_ROW(p);
+    page_words = page_row = BEAD_PAGE_ROW(p, v, q);
+}
+
+/* Whether words hold guards alone. */
+static int guarded(const void *from, const void *to)
+{
+    const uint32_t *word = (const uint32_t *)from;
+    while (word < (const uint32_t *)to)
+        if (*word++ != GUARD)
+            return 0;
+    return 1;
+}
+
+/* Whether no word outside the rows was touched. */
+static int kept_inside(void)
+{
+    return guarded(file.before_root, &file.root) && guarded(file.before_parties, file.parties) &&
+           guarded(file.parties + party_row, file.locks) && guarded(file.locks + lock_row, file.pages) &&
+           guarded(file.pages + page_row, &file + 1);
+}
+
+/* Remembers every word, and tells whether all are as remembered. */
+static void remember(void) { memcpy(&before, &file, sizeof file); }
+static int unaltered(void) { return memcmp(&before, &file, sizeof file) == 0; }
+
+/* The three calls; each sees to the guards, and that a refusal or a wait alters nothing. */
+static uint32_t format(uint32_t n, uint32_t b, uint32_t p, uint32_t v, uint32_t q)
+{
+    remember();
+    uint32_t refusal = bead_format(LENT, n, b, p, v, q);
+    CHECK(kept_inside());
+    CHECK(refusal == BEAD_OK || unaltered());
+    return refusal;
+}
+
+static uint32_t begin(uint32_t party, uint32_t operation, uint32_t key)
+{
+    remember();
+    uint32_t refusal = bead_begin(LENT, party, operation, key);
+    CHECK(kept_inside());
+    CHECK(refusal == BEAD_OK || unaltered());
+    return refusal;
+}
+
+static struct bead_reply step(uint32_t party)
+{
+    remember();
+    struct bead_reply reply = bead_step(LENT, party);
+    CHECK(kept_inside());
+    CHECK((reply.refusal == BEAD_OK && reply.outcome != BEAD_WAITING) || unaltered());
+    CHECK(reply.refusal == BEAD_OK || reply.outcome == 0);
+    CHECK(reply.outcome == BEAD_DONE || (reply.answer == BEAD_NO_ANSWER && reply.restructuring == 0));
+    return reply;
+}
+
+/* A formatted file. */
+static void make(uint32_t n, uint32_t b, uint32_t p, uint32_t v, uint32_t q)
+{
+    start(p, v, q);
+    CHECK(format(n, b, p, v, q) == BEAD_OK);
+}
+
+/* Steps a party until its record has a step number; 0 is that of a party that is done. */
+static struct bead_reply step_until(uint32_t party, uint32_t number)
+{
+    struct bead_reply reply;
+    do
+        reply = step(party);
+    while (reply.outcome == BEAD_MOVED && file.parties[party].step != number);
+    return reply;
+}
+
+/* Whether party 0's operation, run alone, ends with an answer and a restructuring. */
+static int ends(uint32_t operation, uint32_t key, uint32_t answer, uint32_t restructuring)
+{
+    if (begin(0, operation, key) != BEAD_OK)
+        return 0;
+    struct bead_reply reply = step_until(0, 0);
+    return reply.refusal == BEAD_OK && reply.outcome == BEAD_DONE && reply.answer == answer &&
+           reply.restructuring == restructuring;
+}
+
+/* The three lengths, one by one too short and too long, and what a call says to it; all are right again afterwards. */
+static void test_lengths(uint32_t (*refusal)(void))
+{
+    size_t *lengths[] = {&parties, &lock_words, &page_words};
+    for (int i = 0; i < 3; i++) {
+        *lengths[i] -= 1;
+        CHECK(refusal() == BEAD_LENGTH_REFUSED);
+        *lengths[i] += 2;
+        CHECK(refusal() == BEAD_LENGTH_REFUSED);
+        *lengths[i] -= 1;
+    }
+}
+static uint32_t format_refusal(void) { return format(2, 3, 8, 8, 4); }
+static uint32_t begin_refusal(void) { return begin(0, BEAD_FIND, 7); }
+static uint32_t step_refusal(void) { return step(0).refusal; }
+
+/* Format: limits, each size, each length, and sizes before lengths. */
+static void test_format(void)
+{
+    make(MOST_P, BEAD_MOST_RECORDS, BEAD_MOST_PRIMARIES, BEAD_MOST_OVERFLOW, BEAD_MOST_PARTIES);
+    make(1, 1, 1, 0, 1);
+    start(8, 8, 4);
+    CHECK(format(0, 3, 8, 8, 4) == BEAD_SIZE_REFUSED);
+    CHECK(format(9, 3, 8, 8, 4) == BEAD_SIZE_REFUSED);
+    CHECK(format(2, 0, 8, 8, 4) == BEAD_SIZE_REFUSED);
+    CHECK(format(2, BEAD_MOST_RECORDS + 1, 8, 8, 4) == BEAD_SIZE_REFUSED);
+    CHECK(format(2, 3, 0, 8, 4) == BEAD_SIZE_REFUSED);
+    CHECK(format(2, 3, BEAD_MOST_PRIMARIES + 1, 8, 4) == BEAD_SIZE_REFUSED);
+    CHECK(format(2, 3, 8, BEAD_MOST_OVERFLOW + 1, 4) == BEAD_SIZE_REFUSED);
+    CHECK(format(2, 3, 8, UINT32_MAX, 4) == BEAD_SIZE_REFUSED);
+    CHECK(format(2, 3, 8, 8, 0) == BEAD_SIZE_REFUSED);
+    CHECK(format(2, 3, 8, 8, BEAD_MOST_PARTIES + 1) == BEAD_SIZE_REFUSED);
+    test_lengths(format_refusal);
+    CHECK(format(2, 3, 8, 8, 4) == BEAD_OK);
+    CHECK(file.root.originals == 2 && file.root.capacity == 3 && file.root.primaries == 8);
+    CHECK(file.root.overflow == 8 && file.root.parties == 4 && file.root.level == 0);
+    CHECK(file.root.next == 0 && file.root.head == 9 && file.root.free == 8);
+}
+
+/* Begin: everything is wrong at first, and is mended in the order of the tests. */
+static void test_begin(void)
+{
+    start(8, 8, 4);
+    parties--;
+    const uint32_t none[] = {BEAD_IDLE, BEAD_DELETE + 1, BEAD_NO_OPERATION, UINT32_MAX};
+    for (size_t i = 0; i < sizeof none / sizeof *none; i++)
+        CHECK(begin(4, none[i], 7) == BEAD_NO_OPERATION);
+    CHECK(begin(4, BEAD_FIND, 7) == BEAD_SIZE_REFUSED);
+    parties++;
+    CHECK(format(2, 3, 8, 8, 4) == BEAD_OK);
+    parties--;
+    CHECK(begin(4, BEAD_FIND, 7) == BEAD_LENGTH_REFUSED);
+    parties++;
+    test_lengths(begin_refusal);
+    CHECK(begin(4, BEAD_FIND, 7) == BEAD_PARTY_REFUSED);
+    CHECK(begin(UINT32_MAX, BEAD_FIND, 7) == BEAD_PARTY_REFUSED);
+    CHECK(begin(3, BEAD_INSERT, UINT32_MAX) == BEAD_OK);
+    CHECK(file.parties[3].operation == BEAD_INSERT && file.parties[3].key == UINT32_MAX && file.parties[3].step == 1);
+    CHECK(begin(3, BEAD_INSERT, 7) == BEAD_BUSY_REFUSED);
+    CHECK(begin(3, BEAD_IDLE, 7) == BEAD_NO_OPERATION);
+}
+
+/* Step: likewise. */
+static void test_step(void)
+{
+    start(8, 8, 4);
+    page_words++;
+    CHECK(step(4).refusal == BEAD_SIZE_REFUSED);
+    page_words--;
+    CHECK(format(2, 3, 8, 8, 4) == BEAD_OK);
+    page_words++;
+    CHECK(step(4).refusal == BEAD_LENGTH_REFUSED);
+    page_words--;
+    test_lengths(step_refusal);
+    file.root.level = 9;
+    CHECK(step(4).refusal == BEAD_PARTY_REFUSED);
+    CHECK(step(UINT32_MAX).refusal == BEAD_PARTY_REFUSED);
+    CHECK(step(3).refusal == BEAD_IDLE_REFUSED);
+    CHECK(begin(3, BEAD_FIND, 7) == BEAD_OK);
+    CHECK(step(3).refusal == BEAD_DAMAGE);
+    file.root.level = 0;
+    CHECK(step(3).outcome == BEAD_MOVED);
+}
+
+/* A word put into a record's field is damage, and the record is sound again without it. */
+static void test_damaged(uint32_t *field, uint32_t word)
+{
+    uint32_t sound = *field;
+    *field = word;
+    CHECK(step(0).refusal == BEAD_DAMAGE);
+    *field = sound;
+}
+
+/* The fields of both records, each found by the damage that a word there alone can be. */
+static void test_damage(void)
+{
+    make(1, 1, 2, 2, 1);
+    CHECK(ends(BEAD_INSERT, 4, BEAD_INSERTED, BEAD_NO_RESTRUCTURING));
+    CHECK(begin(0, BEAD_INSERT, 6) == BEAD_OK);
+    test_damaged(&file.root.level, 9);
+    test_damaged(&file.root.next, 1);
+    test_damaged(&file.root.free, 3);
+    test_damaged(&file.parties[0].operation, BEAD_DELETE + 1);
+    test_damaged(&file.parties[0].step, 31);
+    test_damaged(&file.parties[0].lev, 10);
+    test_damaged(&file.parties[0].chain, 2);
+    test_damaged(&file.parties[0].other, 2);
+    test_damaged(&file.parties[0].owed, 4);
+    test_damaged(&file.parties[0].answer, BEAD_FOUND);
+    CHECK(step_until(0, 10).outcome == BEAD_MOVED);
+    test_damaged(&file.root.head, 0);
+    CHECK(step_until(0, 12).outcome == BEAD_MOVED);
+    CHECK(file.parties[0].answer == BEAD_INSERTED && file.parties[0].owed == 1 && file.parties[0].old == 0);
+    test_damaged(&file.parties[0].answer, BEAD_NO_ANSWER);
+    file.parties[0].old = 1;
+    CHECK(step(0).outcome == BEAD_MOVED && file.parties[0].step == 13);
+    CHECK(step(0).refusal == BEAD_DAMAGE);
+}
+
+/* Every answer and every restructuring. */
+static void test_answers(void)
+{
+    make(1, 1, 2, 4, 1);
+    CHECK(ends(BEAD_FIND, 4, BEAD_ABSENT, BEAD_NO_RESTRUCTURING));
+    CHECK(ends(BEAD_DELETE, 4, BEAD_ABSENT, BEAD_NO_RESTRUCTURING));
+    CHECK(ends(BEAD_INSERT, 4, BEAD_INSERTED, BEAD_NO_RESTRUCTURING));
+    CHECK(ends(BEAD_INSERT, 4, BEAD_PRESENT, BEAD_NO_RESTRUCTURING));
+    CHECK(ends(BEAD_FIND, 4, BEAD_FOUND, BEAD_NO_RESTRUCTURING));
+    CHECK(ends(BEAD_DELETE, 4, BEAD_DELETED, BEAD_MERGE_SKIPPED));
+    CHECK(ends(BEAD_INSERT, 4, BEAD_INSERTED, BEAD_NO_RESTRUCTURING));
+    CHECK(ends(BEAD_INSERT, 5, BEAD_INSERTED, BEAD_SPLIT));
+    CHECK(ends(BEAD_INSERT, 7, BEAD_INSERTED, BEAD_SPLIT_SKIPPED));
+    CHECK(ends(BEAD_DELETE, 7, BEAD_DELETED, BEAD_NO_RESTRUCTURING));
+    CHECK(ends(BEAD_DELETE, 5, BEAD_DELETED, BEAD_MERGED));
+    CHECK(ends(BEAD_FIND, 4, BEAD_FOUND, BEAD_NO_RESTRUCTURING));
+    make(1, 1, 1, 0, 1);
+    CHECK(ends(BEAD_INSERT, 4, BEAD_INSERTED, BEAD_NO_RESTRUCTURING));
+    CHECK(ends(BEAD_INSERT, 5, BEAD_NO_PAGE, BEAD_NO_RESTRUCTURING));
+    CHECK(ends(BEAD_FIND, 5, BEAD_ABSENT, BEAD_NO_RESTRUCTURING));
+}
+
+/* A party that wants a chain that another changes waits; a reader does not. */
+static void test_waiting(void)
+{
+    make(1, 2, 2, 2, 3);
+    CHECK(begin(0, BEAD_INSERT, 4) == BEAD_OK);
+    CHECK(begin(1, BEAD_DELETE, 4) == BEAD_OK);
+    CHECK(begin(2, BEAD_FIND, 4) == BEAD_OK);
+    CHECK(step_until(0, 11).outcome == BEAD_MOVED);
+    struct bead_reply reply = step_until(1, 0);
+    CHECK(reply.refusal == BEAD_OK && reply.outcome == BEAD_WAITING && file.parties[1].step == 4);
+    CHECK(step_until(2, 0).answer == BEAD_ABSENT);
+    CHECK(step_until(0, 0).answer == BEAD_INSERTED);
+    CHECK(step_until(1, 0).answer == BEAD_DELETED);
+}
+
+int main(void)
+{
+    test_format();
+    test_begin();
+    test_step();
+    test_damage();
+    test_answers();
+    test_waiting();
+    if (failures == 0)
+        printf("face: %u checks of the C face hold\n", checks);
+    return failures == 0 ? 0 : 1;
+}

@@ -1,0 +1,48 @@
+"""Prints C static assertions that include/bead_index.h has the numbers of the proved sources (crates/model/src/lib.rt and crates/bead/src/lib.rt): each
+constant by its name with BEAD_ before it, each restructuring, and the fields of the records and of the reply in their places. Ends with 1 where the header
+has a number that no source has. Usage: numbers.py ROOT"""
+import re
+import sys
+from pathlib import Path
+
+ROOT = Path(sys.argv[1])
+# Where the header has another name than the sources.
+RENAMED = {"NO_CAUSE": "OK", "NONE": "NO_RESTRUCTURING"}
+# The sources' structs by the header's names.
+STRUCTS = {"Root": "bead_root", "Party": "bead_party", "BeadReply": "bead_reply"}
+
+
+def numbers(source):
+    """The numbers of the sources by the names that the header gives them."""
+    found = dict(re.findall(r"^pub const (\w+): (?:u32|usize) = (\d+);", source, re.M))
+    for name, number in re.findall(r"Restructuring::(\w+) => (\d+)", source):
+        found[re.sub(r"(?<=[a-z])(?=[A-Z])", "_", name).upper()] = number
+    return {RENAMED.get(name, name): number for name, number in found.items()}
+
+
+def fields(source, struct):
+    body = re.search(r"pub struct " + struct + r" \{(.*?)^\}", source, re.M | re.S)[1]
+    return re.findall(r"^    pub (\w+): u32,", body, re.M)
+
+
+def main():
+    source = "".join((ROOT / f"crates/{crate}/src/lib.rt").read_text() for crate in ["model", "bead"])
+    header = (ROOT / "include/bead_index.h").read_text()
+    known = numbers(source)
+    named = re.findall(r"^(?:#define|   ) BEAD_(\w+)(?: = | )\d+u?", header, re.M)
+    strange = [name for name in named if name not in known]
+    for name in strange:
+        print(f"numbers.py: BEAD_{name} of the header stands in no source", file=sys.stderr)
+    print('#include "bead_index.h"')
+    for name in named:
+        if name not in strange:
+            print(f'_Static_assert(BEAD_{name} == {known[name]}, "BEAD_{name} is {known[name]} in the proved code");')
+    for struct, name in STRUCTS.items():
+        listed = fields(source, struct)
+        for place, field in enumerate(listed):
+            print(f'_Static_assert(offsetof(struct {name}, {field}) == {4 * place}, "{name}: {field} is in word {place}");')
+        print(f'_Static_assert(sizeof(struct {name}) == {4 * len(listed)}, "{name} has {len(listed)} words");')
+    return 1 if strange or not named else 0
+
+
+sys.exit(main())
