@@ -9,7 +9,7 @@
 /* So that what surrounds the calls costs the same, however a compiler weighs it. */
 #define NOT_INLINED __attribute__((noinline))
 
-/* KEYS keys fill two thirds of what the file holds: all chains are there, most with overflow pages. */
+/* With KEYS keys all chains are there, with some thirty-four keys each. */
 enum { N = 1, B = 12, P = 256, V = 752, Q = 16, KEYS = 8738, MIXED = 0 };
 
 static struct bead_root root;
@@ -23,9 +23,9 @@ struct row {
     uint32_t operation, loaded, first, last, turns;
 };
 static const struct row rows[] = {
-    {"load", BEAD_INSERT, 0, 1000, 2500, 1},        {"find", BEAD_FIND, KEYS, 1000, 3000, 1},
+    {"load", BEAD_INSERT, 0, 1000, 2500, 1},          {"find", BEAD_FIND, KEYS, 1000, 3000, 1},
     {"insert", BEAD_INSERT, KEYS / 2, 1000, 4000, 1}, {"delete", BEAD_DELETE, KEYS, 1000, 4000, 1},
-    {"mixed", MIXED, KEYS, 1000, 4000, 1},          {"sixteen", MIXED, KEYS, 1000, 4000, 16},
+    {"mixed", MIXED, KEYS, 1000, 4000, 1},            {"sixteen", MIXED, KEYS, 1000, 4000, 16},
 };
 
 /* The i-th key: all differ, and they fall on the chains without order. */
