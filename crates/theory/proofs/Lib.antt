@@ -21,3 +21,4 @@ pub mod StepReads
 pub mod Singly
 pub mod Linearization
 pub mod Demands
+pub mod Meanings
