@@ -12,19 +12,18 @@ INSET, TALL, BESIDE, BETWEEN, NAME, ROWS = 18, 28, 11, 8, 12.5, 13
 
 def layers_of(text):
     """What each layer is, with its crates and what each uses, lowest first."""
-    layers = []
+    layers, seen = [], set()
     for paragraph in text.split('\n\n'):
         lines = paragraph.strip().split('\n')
-        crates = {line.split(':')[0]: line.split(':')[1].split() for line in lines if not line.startswith('#')}
-        if crates and all(crates):
-            layers.append((' '.join(line.lstrip('# ') for line in lines if line.startswith('#')), crates))
-    seen = set()
-    for name, uses in (item for _, crates in layers for item in crates.items()):
-        if missing := [other for other in uses if other not in seen]:
-            raise Wrong(f'crates.txt: {name} uses {missing[0]}, which does not stand before it')
-        seen.add(name)
-    if not all(says for says, _ in layers):
-        raise Wrong('crates.txt: a layer without a comment that says what it is')
+        crates = {name.strip(): uses.split() for name, _, uses in (line.partition(':') for line in lines if line and not line.startswith('#'))}
+        says = ' '.join(line.lstrip('# ') for line in lines if line.startswith('#'))
+        if crates and not says:
+            raise Wrong(f'crates.txt: the layer of {next(iter(crates))} has no comment that says what it is')
+        for name, uses in crates.items():
+            if missing := [other for other in uses if other not in seen]:
+                raise Wrong(f'crates.txt: {name} uses {missing[0]}, which does not stand before it')
+            seen.add(name)
+        layers += [(says, crates)] if crates else []
     return layers
 
 

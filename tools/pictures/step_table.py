@@ -58,9 +58,11 @@ def words_of_rows(text):
 
 def next_steps(text):
     """The next step numbers and whether the step may end, by number, from the tables of docs/SPECIFICATION.md."""
-    section = text.split('## The thirty steps')[1].split('### Decisive steps')[0]
+    section = re.search(r'^## The thirty steps$(.*?)^### Decisive steps$', text, re.M | re.S)
+    if not section:
+        raise Wrong('docs/SPECIFICATION.md has no section "The thirty steps" before "Decisive steps"')
     found, number = {}, None
-    for first, last in re.findall(r'^\| (\d*) ?\|.*\| ([^|]*) \|$', section, re.M):
+    for first, last in re.findall(r'^\| (\d*) ?\|.*\| ([^|]*) \|$', section[1], re.M):
         number = int(first) if first else number
         words = re.sub(r'(owed is|as at|is not) \d+|by owed: 1, 2, other', '', last)
         if number:

@@ -6,7 +6,7 @@ from wrong import Wrong
 
 # Lane: its title, who goes through it, its column and the row of its first step.
 LANES = {
-    'locate': ('Locate', 'find, insert and delete', 0, 0), 'find': ('Find', 'find', 1, 0), 'change': ('Change', 'insert and delete', 1, 2),
+    'locate': ('Locate', 'find, insert and delete', 0, 0), 'find': ('Find', 'find alone', 1, 0), 'change': ('Change', 'insert and delete', 1, 2),
     'split': ('Split', 'an insert that made its chain longer', 2, 0), 'merge': ('Merge', 'a delete that emptied its chain', 3, 0),
 }
 COLUMNS, WIDE, INSET = (36, 262, 480, 690), 184, 8
@@ -135,20 +135,22 @@ def draw_arrows(picture, places):
         picture.text(places.box(to)[0] + 48, places.box(to)[1] - 5, words, 11, 'soft')
 
 
+def draw_meanings(picture, y, meanings):
+    """A line of plates, each with what it means."""
+    x = 28
+    for lock, form, words in meanings:
+        x += plate(picture, x, y, lock, form) + 6
+        picture.text(x, y + 13, words, 12, 'soft')
+        x += width_of(words, 12) + 18
+
+
 def draw_legend(picture):
-    """What colours and marks mean, in two lines."""
+    """What colours and marks mean."""
     picture.text(28, 36, 'The thirty steps, and the locks at each', 17, 'ink bold')
-    x = 28
-    for lock, form, words in (('root R', 'held', 'read'), ('root S', 'held', 'selective'), ('root X', 'held', 'exclusive'), ('chain R/S', 'held', 'read for a find, else selective'),
-                              ('root X → S', 'held', 'turned')):
-        x += plate(picture, x, 50, lock, form) + 6
-        picture.text(x, 63, words, 12, 'soft')
-        x += width_of(words, 12) + 18
-    x = 28
-    for lock, form, words in (('root S', 'held', 'held when the step is due'), ('root S', 'asked', 'requested by it: granted, or the step waits'), ('root S', 'given', 'given up by it')):
-        x += plate(picture, x, 75, lock, form) + 6
-        picture.text(x, 88, words, 12, 'soft')
-        x += width_of(words, 12) + 18
+    draw_meanings(picture, 50, [('root R', 'held', 'read'), ('root S', 'held', 'selective'), ('root X', 'held', 'exclusive'),
+                                ('chain R/S', 'held', 'read for a find, else selective'), ('root X → S', 'held', 'turned by the step')])
+    draw_meanings(picture, 75, [('root S', 'held', 'held when the step is due'), ('root S', 'asked', 'requested by it: granted, or the step waits'),
+                                ('root S', 'given', 'given up by it')])
     draw_end(picture, 35, 109)
     picture.text(48, 113, 'may end the operation; no lock is kept then', 12, 'soft')
     picture.circle(320, 109, 7, 'accent')

@@ -21,7 +21,8 @@ RULES = {
     **{f'{mode}-half': {'fill': mode} for mode in MODES}, **{f'{mode}-edge': {'stroke': f'{mode}-edge'} for mode in MODES},
     **{f'{mode}-ink': {'fill': f'{mode}-ink'} for mode in MODES},
 }
-FIXED = ['text{font-family:"Helvetica Neue",Helvetica,Arial,"Liberation Sans",sans-serif}', '.mono{font-family:ui-monospace,SFMono-Regular,Menlo,Consolas,"Liberation Mono",monospace}',
+FIXED = ['text{font-family:"Helvetica Neue",Helvetica,Arial,"Liberation Sans",sans-serif}',
+         '.mono{font-family:ui-monospace,SFMono-Regular,Menlo,Consolas,"Liberation Mono",monospace}',
          '.bold{font-weight:bold}', '.line,.cell,.ring,' + ','.join(f'.{mode}-edge' for mode in MODES) + '{fill:none}', '.bare,.dashed{stroke-dasharray:4 3}']
 # Letters by how wide they are, in thousandths of the size; any other is 560.
 WIDTHS = {270: " ijl'|.,:;!I", 340: 'ftr()-/[]"*', 500: 'ckszxyvJ', 670: 'ABEKPSVXYTFZL', 730: 'CDHNRUGOQ', 590: '+−×=→<', 840: 'mMW', 720: 'w'}
