@@ -15,7 +15,7 @@ FRAMES = [
     ((14, 0), 'Before', 'The insert of {last} made chain {chain} longer by a page, so it owes a split, of chain next. All its locks are given up.'),
     ((17, 0), '15 to 17: both halves built',
      'Selective locks let readers pass, and the chain stays as it was. Keys with h{up}(k) = {chain} stay: they wait in scratch and page {new}. '
-     'The others go: they are chain {other}.'),
+     'The others go, to chain {other}.'),
     ((18, 0), '18: the one write',
      'Chain {chain}’s primary page is written, and both halves are in the file: its local level {next_level} sends on who comes for the other half. '
      'Readers on pages {old} find them as they were.'),
@@ -126,7 +126,7 @@ def draw_frame(picture, k, y, file, before, words):
     picture.text(LEFT + 20, y + 26, str(k + 1), 12, 'on-number bold', 'middle')
     heading = wrapped(title, 13.5, room + 4, bold=True)
     below = picture.lines(LEFT + 38, y + 27, heading, 13.5, 'ink bold', 18)
-    picture.lines(LEFT + 16, y + 29 + below, wrapped(says.format(**words), 12, room + 12), 12, 'soft', 15.5)
+    picture.lines(LEFT + 16, y + 29 + below, wrapped(says.format(**words), 12, room + 8), 12, 'soft', 15.5)
     moved = before and (before.level, before.next) != (file.level, file.next)
     picture.rect(LEFT + 16, y + HIGH - 36, 146, TALL, 'fresh' if moved else 'box', 4)
     picture.text(LEFT + 89, y + HIGH - 19, f'root: level {file.level}, next {file.next}', 12.5, 'ink bold', 'middle')

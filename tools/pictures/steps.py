@@ -10,7 +10,7 @@ LANES = {
     'split': ('Split', 'an insert that made its chain longer', 2, 0), 'merge': ('Merge', 'a delete that emptied its chain', 3, 0),
 }
 COLUMNS, WIDE, INSET = (36, 262, 480, 690), 184, 8
-WORDS, PITCH, SIZE = WIDE - 38, 14, 11.5
+WORDS, PITCH, SIZE = WIDE - 41, 14, 11.5
 TOP, GAP, HEAD = 196, 24, 66
 DECISIVE = {6, 10, 11}
 NUMBERED = {step.number: step for step in STEPS}

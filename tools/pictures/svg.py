@@ -1,5 +1,5 @@
 """A picture: shapes and words gathered in order and printed as one SVG file. Colours have names, each with a light and a dark value, and the
-file follows the reader's scheme. Widths of words are estimated from the proportions of Helvetica, so that no font is needed to lay a picture out."""
+file follows the reader's scheme. Words are as wide as in Helvetica, and kept to that width in any other font, so that no font is needed to lay a picture out."""
 from html import escape
 
 # Name of a colour: on a light ground, on a dark one.
@@ -24,16 +24,19 @@ RULES = {
 FIXED = ['text{font-family:"Helvetica Neue",Helvetica,Arial,"Liberation Sans",sans-serif}',
          '.mono{font-family:ui-monospace,SFMono-Regular,Menlo,Consolas,"Liberation Mono",monospace}',
          '.bold{font-weight:bold}', '.line,.cell,.ring,' + ','.join(f'.{mode}-edge' for mode in MODES) + '{fill:none}', '.bare,.dashed{stroke-dasharray:4 3}']
-# Letters by how wide they are, in thousandths of the size; any other is 560.
-WIDTHS = {270: " ijl'|.,:;!I", 340: 'ftr()-/[]"*', 500: 'ckszxyvJ', 670: 'ABEKPSVXYTFZL', 730: 'CDHNRUGOQ', 590: '+−×=→<', 840: 'mMW', 720: 'w'}
-WIDTH_OF = {letter: width for width, letters in WIDTHS.items() for letter in letters}
+# Letters of Helvetica by how wide they are, in thousandths of the size, plain and bold; any other is 556.
+PLAIN = {191: "'", 222: 'ijl’', 278: ' !,./:;[]ftI', 333: '()-r₀₁₂₃', 469: '^', 500: 'ckszxyvJ', 584: '+−×=<>', 611: 'FTZ', 667: 'ABEKPSVXY',
+         722: 'CDHNRUw', 778: 'GOQ', 833: 'mM', 944: 'W', 1000: '→'}
+BOLD = {238: "'", 278: ' ,./Iijl’', 333: '!()-:;[]ft₀₁₂₃', 389: 'r', 500: 'z', 584: '+−×=<>^', 611: 'bdghnopquFTLZ', 667: 'EPSVXY', 722: 'ABCDHKNRU',
+        778: 'wGOQ', 833: 'M', 889: 'm', 944: 'W', 1000: '→'}
+WIDTHS = [{letter: width for width, letters in widths.items() for letter in letters} for widths in (PLAIN, BOLD)]
 
 
 def width_of(words, size, mono=False, bold=False):
     """How wide the words are, in pixels."""
     if mono:
-        return 0.61 * size * len(words)
-    return sum(WIDTH_OF.get(letter, 560) for letter in words) * size / 1000 * (1.07 if bold else 1)
+        return 0.6 * size * len(words)
+    return sum(WIDTHS[bold].get(letter, 556) for letter in words) * size / 1000
 
 
 def wrapped(words, size, width, bold=False):
@@ -69,7 +72,10 @@ class Picture:
         self.parts.append(f'<circle cx="{short(x)}" cy="{short(y)}" r="{short(radius)}" class="{kind}"/>')
 
     def text(self, x, y, words, size=12, kind='ink', anchor='start'):
-        self.parts.append(f'<text x="{short(x)}" y="{short(y)}" font-size="{size}" text-anchor="{anchor}" class="{kind}">{escape(words, quote=False)}</text>')
+        """Words, kept to the width that they are laid out with, whatever font there is."""
+        length = width_of(words, size, 'mono' in kind, 'bold' in kind)
+        self.parts.append(f'<text x="{short(x)}" y="{short(y)}" font-size="{size}" text-anchor="{anchor}" textLength="{short(length)}" '
+                          f'lengthAdjust="spacingAndGlyphs" class="{kind}">{escape(words, quote=False)}</text>')
 
     def lines(self, x, y, lines, size=12, kind='ink', pitch=None):
         """Lines under one another; the height that they take."""
