@@ -15,7 +15,7 @@ FRAMES = [
     ((14, 0), 'Before', 'The insert of {last} made chain {chain} longer by a page, so it owes a split, of chain next. All its locks are given up.'),
     ((17, 0), '15 to 17: both halves built',
      'Selective locks let readers pass, and the chain stays as it was. Keys with h{up}(k) = {chain} stay: they wait in scratch and page {new}. '
-     'The others go, to chain {other}.'),
+     'The rest are chain {other}.'),
     ((18, 0), '18: the one write',
      'Chain {chain}’s primary page is written, and both halves are in the file: its local level {next_level} sends on who comes for the other half. '
      'Readers on pages {old} find them as they were.'),
