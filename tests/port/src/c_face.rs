@@ -55,7 +55,7 @@ pub fn pages_of(words: &mut [u32]) -> &mut [Page] {
 
 /// # Safety
 /// Each pointer is valid for its length: nine words at `root`, nine for each of `np` records, `nl` lock words, `ng` page words; none overlap.
-#[no_mangle]
+#[cfg_attr(feature = "c-names", no_mangle)]
 pub unsafe extern "C" fn bead_format(
     root: *mut Root,
     parties: *mut Party,
@@ -86,7 +86,7 @@ pub unsafe extern "C" fn bead_format(
 /// 255 for an operation outside 1 to 3.
 /// # Safety
 /// As for `bead_format`.
-#[no_mangle]
+#[cfg_attr(feature = "c-names", no_mangle)]
 pub unsafe extern "C" fn bead_begin(
     root: *mut Root,
     parties: *mut Party,
@@ -111,7 +111,7 @@ pub unsafe extern "C" fn bead_begin(
 
 /// # Safety
 /// As for `bead_format`.
-#[no_mangle]
+#[cfg_attr(feature = "c-names", no_mangle)]
 pub unsafe extern "C" fn bead_step(
     root: *mut Root,
     parties: *mut Party,

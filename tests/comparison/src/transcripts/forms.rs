@@ -58,24 +58,20 @@ fn code(number: u32, otherwise: &str) -> String {
     }
 }
 
-fn outcome([_, outcome, answer, restructuring]: Reply) -> String {
-    let word = |words: &[&str], place: u32| {
-        words
-            .get(place as usize)
-            .copied()
-            .unwrap_or("?")
-            .to_string()
-    };
-    match outcome {
+fn outcome(reply: Reply) -> String {
+    match reply[1] {
         0 => "waiting".to_string(),
         1 => "moved".to_string(),
-        2 => format!(
-            "(done {} {})",
-            word(&ANSWERS, answer),
-            word(&RESTRUCTURINGS, restructuring)
-        ),
+        2 => format!("(done {})", report(reply).join(" ")),
         _ => "?".to_string(),
     }
+}
+
+/// The answer and the restructuring that a done reply carries.
+pub fn report([_, _, answer, restructuring]: Reply) -> [&'static str; 2] {
+    let word =
+        |words: &[&'static str], place: u32| words.get(place as usize).copied().unwrap_or("?");
+    [word(&ANSWERS, answer), word(&RESTRUCTURINGS, restructuring)]
 }
 
 #[cfg(test)]

@@ -14,6 +14,9 @@ pub enum Call {
     Step(u32),
 }
 
+/// The steps that request a lock, and so can wait.
+pub const REQUESTING: [usize; 9] = [1, 4, 7, 13, 15, 16, 23, 24, 25];
+
 /// The four words of a step's reply; a format or begin has its number in the first and zeros.
 pub type Reply = [u32; 4];
 

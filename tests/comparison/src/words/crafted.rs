@@ -1,8 +1,9 @@
 //! Memory that no sequence of calls leaves: loosely packed chains, long ones, cycles, pages on two lists.
 
-use crate::comparison::{Comparison, Outcome};
-use crate::forced;
+use super::comparison::Comparison;
+use super::forced;
 use crate::image::Image;
+use crate::part::Outcome;
 use crate::random::Random;
 use crate::sizes;
 use bead_port::memory::{Root, FIRST_KEY, KEY_COUNT, LINK, LOCAL_LEVEL};

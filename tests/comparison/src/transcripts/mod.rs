@@ -1,10 +1,12 @@
 //! Replays stored transcripts (NAME.in and NAME.out) and the single calls of memory.jsonl.
 
+pub mod forms;
+mod json;
+
 use crate::callee::{Call, Callee};
-use crate::forms;
 use crate::image::{Image, Part};
-use crate::json::{self, Value};
 use bead_port::memory::Root;
+use json::Value;
 use std::fs;
 use std::path::{Path, PathBuf};
 

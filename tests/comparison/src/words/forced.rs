@@ -1,9 +1,10 @@
 //! Puts a party before any step, with its locks held and its record fitting, whatever led there.
 
-use crate::alter::{alter, any_link};
+use super::alter::{alter, any_link};
+use super::comparison::Comparison;
 use crate::callee::Call;
-use crate::comparison::{Comparison, Outcome};
 use crate::image::Image;
+use crate::part::Outcome;
 use crate::random::Random;
 use bead_port::memory::{
     Party, Root, DELETE, FIND, FIRST_KEY, INSERT, KEY_COUNT, LINK, LOCAL_LEVEL,

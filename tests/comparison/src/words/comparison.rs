@@ -1,63 +1,23 @@
 //! Makes each call on both sides, on equal memory, and compares the reply and every word.
 
+use super::coverage::Coverage;
 use crate::callee::{Call, Callee, Port, Reply};
-use crate::coverage::Coverage;
 use crate::image::{Image, PART_NAMES};
-use crate::library::Library;
-use crate::random::Random;
+use crate::part::Outcome;
 
 /// The two sides, their memory, and what was met.
 pub struct Comparison {
-    library: Library,
+    library: Box<dyn Callee>,
     port: Port,
     ours: Image,
     theirs: Image,
     before: Image,
     pub coverage: Coverage,
     pub calls: u64,
-    spoil: Option<Spoil>,
 }
-
-/// Where to put a wrong word into the port's result: a part's place, 4 for the reply.
-pub struct Spoil {
-    part: usize,
-    random: Random,
-}
-
-impl Spoil {
-    /// From a part's name, or "reply".
-    pub fn new(name: &str, seed: u64) -> Option<Spoil> {
-        let part = [
-            PART_NAMES[0],
-            PART_NAMES[1],
-            PART_NAMES[2],
-            PART_NAMES[3],
-            "reply",
-        ];
-        let part = part.iter().position(|known| *known == name)?;
-        Some(Spoil {
-            part,
-            random: Random::new(seed),
-        })
-    }
-
-    /// Now and then turns one bit.
-    fn apply(&mut self, image: &mut Image, reply: &mut Reply) {
-        let words: &mut [u32] = match image.parts_mut().into_iter().nth(self.part) {
-            Some(part) => part,
-            None => reply,
-        };
-        if !words.is_empty() && self.random.one_in(1000) {
-            words[self.random.below(words.len() as u32) as usize] ^= 1 << self.random.below(32);
-        }
-    }
-}
-
-/// What was found to differ, in words.
-pub type Outcome<T> = Result<T, String>;
 
 impl Comparison {
-    pub fn new(library: Library, spoil: Option<Spoil>) -> Comparison {
+    pub fn new(library: Box<dyn Callee>) -> Comparison {
         let empty = Image::zero(0, 0, 0);
         let (port, coverage) = (Port::default(), Coverage::new());
         let (ours, theirs, before) = (empty.clone(), empty.clone(), empty);
@@ -69,7 +29,6 @@ impl Comparison {
             before,
             coverage,
             calls: 0,
-            spoil,
         }
     }
 
@@ -88,11 +47,8 @@ impl Comparison {
     pub fn call(&mut self, call: Call) -> Outcome<Reply> {
         self.calls += 1;
         self.before.copy_from(&self.ours);
-        let mut reply = self.port.call(&mut self.ours, call);
+        let reply = self.port.call(&mut self.ours, call);
         self.count(call, reply);
-        if let Some(spoil) = &mut self.spoil {
-            spoil.apply(&mut self.ours, &mut reply);
-        }
         let theirs = self.library.call(&mut self.theirs, call);
         if reply != theirs {
             return Err(format!(

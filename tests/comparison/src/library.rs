@@ -1,12 +1,10 @@
-//! A library with the C face: the port's own, or one loaded from a shared object. Holds this program's unsafe code.
+//! Libraries with the C face: the one that is linked, and the port's own. Holds this program's unsafe code.
 #![allow(unsafe_code)]
 
 use crate::callee::{code_reply, step_reply, Call, Callee, Reply};
 use crate::image::Image;
 use bead_port::c_face::BeadReply;
 use bead_port::memory::{Party, Root};
-use std::ffi::{c_void, CStr, CString};
-use std::os::raw::{c_char, c_int};
 
 type Format = unsafe extern "C" fn(
     *mut Root,
@@ -45,13 +43,48 @@ type Step = unsafe extern "C" fn(
     u32,
 ) -> BeadReply;
 
-extern "C" {
-    fn dlopen(path: *const c_char, flags: c_int) -> *mut c_void;
-    fn dlsym(handle: *mut c_void, name: *const c_char) -> *mut c_void;
-    fn dlerror() -> *const c_char;
-}
+mod linked {
+    use super::{BeadReply, Party, Root};
 
-const RTLD_NOW: c_int = 2;
+    extern "C" {
+        pub fn bead_format(
+            root: *mut Root,
+            parties: *mut Party,
+            np: usize,
+            locks: *mut u32,
+            nl: usize,
+            pages: *mut u32,
+            ng: usize,
+            n: u32,
+            b: u32,
+            p: u32,
+            v: u32,
+            q: u32,
+        ) -> u32;
+        pub fn bead_begin(
+            root: *mut Root,
+            parties: *mut Party,
+            np: usize,
+            locks: *mut u32,
+            nl: usize,
+            pages: *mut u32,
+            ng: usize,
+            party: u32,
+            operation: u32,
+            key: u32,
+        ) -> u32;
+        pub fn bead_step(
+            root: *mut Root,
+            parties: *mut Party,
+            np: usize,
+            locks: *mut u32,
+            nl: usize,
+            pages: *mut u32,
+            ng: usize,
+            party: u32,
+        ) -> BeadReply;
+    }
+}
 
 /// The three calls of a C face.
 pub struct Library {
@@ -61,6 +94,15 @@ pub struct Library {
 }
 
 impl Library {
+    /// The library that is linked with this program.
+    pub fn linked() -> Library {
+        Library {
+            format: linked::bead_format,
+            begin: linked::bead_begin,
+            step: linked::bead_step,
+        }
+    }
+
     /// The port's own C face.
     #[cfg(test)]
     pub fn of_port() -> Library {
@@ -70,55 +112,6 @@ impl Library {
             begin: bead_begin,
             step: bead_step,
         }
-    }
-
-    /// Loads a shared object.
-    pub fn open(path: &str) -> Result<Library, String> {
-        let name = c_string(path)?;
-        // SAFETY: the name is a C string; the object's own start-up code is trusted.
-        let handle = unsafe { dlopen(name.as_ptr(), RTLD_NOW) };
-        if handle.is_null() {
-            return Err(last_error());
-        }
-        let (format, begin, step) = (
-            symbol(handle, "bead_format")?,
-            symbol(handle, "bead_begin")?,
-            symbol(handle, "bead_step")?,
-        );
-        // SAFETY: these are the signatures of the C face.
-        unsafe {
-            Ok(Library {
-                format: std::mem::transmute::<*mut c_void, Format>(format),
-                begin: std::mem::transmute::<*mut c_void, Begin>(begin),
-                step: std::mem::transmute::<*mut c_void, Step>(step),
-            })
-        }
-    }
-}
-
-fn c_string(text: &str) -> Result<CString, String> {
-    CString::new(text).map_err(|error| error.to_string())
-}
-
-fn symbol(handle: *mut c_void, name: &str) -> Result<*mut c_void, String> {
-    let name = c_string(name)?;
-    // SAFETY: the handle came from dlopen and the name is a C string.
-    let found = unsafe { dlsym(handle, name.as_ptr()) };
-    if found.is_null() {
-        Err(last_error())
-    } else {
-        Ok(found)
-    }
-}
-
-fn last_error() -> String {
-    // SAFETY: dlerror answers a C string or null.
-    unsafe {
-        let error = dlerror();
-        if error.is_null() {
-            return "no such object or symbol".to_string();
-        }
-        CStr::from_ptr(error).to_string_lossy().into_owned()
     }
 }
 

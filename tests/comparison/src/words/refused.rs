@@ -1,45 +1,11 @@
-//! Random sizes, and calls with sizes, lengths and party numbers that must be refused.
+//! Calls with sizes, lengths and party numbers that must be refused.
 
+use super::comparison::Comparison;
 use crate::callee::Call;
-use crate::comparison::{Comparison, Outcome};
 use crate::image::Image;
+use crate::part::Outcome;
 use crate::random::Random;
-
-/// Sizes within the limits, mostly small so that splits, merges, shortages and waits are frequent.
-pub fn allowed(random: &mut Random) -> [u32; 5] {
-    let (b, p, v, q) = match random.below(20) {
-        0..=9 => (
-            random.between(1, 4),
-            random.between(1, 8),
-            random.between(0, 12),
-            random.between(1, 4),
-        ),
-        10..=13 => (
-            random.between(1, 12),
-            random.between(2, 40),
-            random.between(0, 60),
-            random.between(1, 16),
-        ),
-        14..=18 => (
-            random.between(1, 3),
-            random.between(4, 32),
-            random.between(4, 60),
-            16,
-        ),
-        _ => (
-            random.between(1, 12),
-            random.between(1, 256),
-            random.between(0, 752),
-            random.between(1, 16),
-        ),
-    };
-    let n = if random.one_in(2) {
-        1
-    } else {
-        random.between(1, p.min(1 + p / 2))
-    };
-    [n, b, p, v, q]
-}
+use crate::sizes::allowed;
 
 /// Sizes of which one or more may be outside its limits, or at them.
 fn any(random: &mut Random) -> [u32; 5] {

@@ -1,13 +1,11 @@
 //! What the compared calls have met: steps performed, waits, answers, refusals, and each cause of refusal 6 where it can arise.
 
-use crate::callee::{Call, Reply};
-use crate::situations::Situations;
+use super::situations::Situations;
+use crate::callee::{Call, Reply, REQUESTING};
+use crate::part::Row;
 use bead_port::damage::{Cause, CAUSES};
 
 const STEPS: usize = 31;
-
-/// The steps that request a lock, and so can wait.
-const REQUESTING: [usize; 9] = [1, 4, 7, 13, 15, 16, 23, 24, 25];
 
 /// The ends an operation can come to: an answer and a restructuring, with the words for them.
 const ANSWERS: [(&str, usize); 6] = [
@@ -37,9 +35,6 @@ pub struct Coverage {
     causes: Vec<[u64; STEPS]>,
     pub situations: Situations,
 }
-
-/// A row of the table: what, and how often.
-pub type Row = (String, u64);
 
 impl Coverage {
     pub fn new() -> Coverage {
@@ -83,6 +78,20 @@ impl Coverage {
                 self.restructurings[restructuring] += 1;
             }
         }
+    }
+
+    /// The totals, with how many kinds of each must be met.
+    pub fn told(&self) -> String {
+        let sum = |counts: &[u64]| counts.iter().sum::<u64>();
+        format!(
+            "{} steps performed ({}), {} waits ({}), {} refused 6 ({} causes)",
+            sum(&self.performed),
+            STEPS - 1,
+            sum(&self.waited),
+            REQUESTING.len(),
+            self.refusals[2][6],
+            CAUSES.len()
+        )
     }
 
     /// Every row that must have been met.

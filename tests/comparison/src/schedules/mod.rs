@@ -1,0 +1,273 @@
+//! Random schedules of up to sixteen parties against the set book: every answer is the book's note, calls are refused where they must be and nowhere else, some operation
+//! under way can always move, and at rest the keys in the chains are the book's set.
+
+mod book;
+mod pace;
+
+use crate::at_rest;
+use crate::callee::{Call, Callee, Reply, REQUESTING};
+use crate::habits::Habits;
+use crate::image::Image;
+use crate::part::{Outcome, Part, Row, Tally};
+use crate::random::Random;
+use crate::sizes;
+use crate::transcripts::forms;
+use bead_port::memory::{FIND, INSERT};
+use bead_port::reply::FOUND;
+use book::Book;
+use pace::Pace;
+
+/// One session in so many has the largest sizes.
+const LARGE_EVERY: u64 = 40;
+
+/// Calls within which the operations of a round come to an end.
+const MOST_CALLS_TO_REST: u32 = 200_000;
+
+pub struct Schedules {
+    library: Box<dyn Callee>,
+    image: Image,
+    /// A copy on which parties try to move.
+    trial: Image,
+    sizes: [u32; 5],
+    book: Book,
+    calls: u64,
+    operations: u64,
+    trials: u64,
+    met: Tally,
+}
+
+/// What must be met beside a wait at each requesting step.
+const NAMES: [&str; 16] = [
+    "found",
+    "absent",
+    "inserted",
+    "present",
+    "deleted",
+    "no-page",
+    "none",
+    "split",
+    "split-skipped",
+    "merged",
+    "merge-skipped",
+    STALE,
+    FULL,
+    "refused 3",
+    "refused 4",
+    "refused 5",
+];
+const STALE: &str = "answers of a find no longer true when given";
+const FULL: &str = "begins with fifteen others under way";
+
+impl Schedules {
+    pub fn new(library: Box<dyn Callee>) -> Schedules {
+        let waits = REQUESTING.map(|step| format!("waits at {step}"));
+        let names = waits.into_iter().chain(NAMES.map(String::from));
+        Schedules {
+            library,
+            image: Image::zero(0, 0, 0),
+            trial: Image::zero(0, 0, 0),
+            sizes: [0; 5],
+            book: Book::new(0),
+            calls: 0,
+            operations: 0,
+            trials: 0,
+            met: Tally::new(names),
+        }
+    }
+
+    fn call(&mut self, call: Call) -> Reply {
+        self.calls += 1;
+        self.library.call(&mut self.image, call)
+    }
+
+    /// Any call: it is refused where party or book say so, and nowhere else.
+    fn perform(&mut self, call: Call) -> Outcome<()> {
+        let number = match call {
+            Call::Step(party) | Call::Begin(party, ..) if party >= self.sizes[4] => {
+                return self.test_refused(call, 3)
+            }
+            Call::Step(party) if self.book.entry(party).is_none() => {
+                return self.test_refused(call, 5)
+            }
+            Call::Begin(party, ..) if self.book.entry(party).is_some() => {
+                return self.test_refused(call, 4)
+            }
+            Call::Step(party) => self.image.party(party).step,
+            _ => 0,
+        };
+        if let Call::Begin(..) = call {
+            self.test_progress()?;
+        }
+        match (call, self.call(call)) {
+            (Call::Format(sizes), [0, 0, 0, 0]) => self.book = Book::new(sizes[4]),
+            (Call::Begin(party, operation, key), [0, 0, 0, 0]) => self.begun(party, operation, key),
+            (Call::Step(_), [0, 0, 0, 0]) => return self.waited(number),
+            (Call::Step(party), [0, 1, 0, 0]) => self.book.performed(party, number),
+            (Call::Step(party), reply @ [0, 2, ..]) => return self.ended(party, number, reply),
+            (_, reply) => return Err(format!("{call:?}: {reply:?} at step {number}")),
+        }
+        Ok(())
+    }
+
+    fn test_refused(&mut self, call: Call, due: u32) -> Outcome<()> {
+        self.met.add(&format!("refused {due}"));
+        match self.call(call) {
+            [code, 0, 0, 0] if code == due => Ok(()),
+            reply => Err(format!("{call:?}: {reply:?}, not refused {due}")),
+        }
+    }
+
+    fn begun(&mut self, party: u32, operation: u32, key: u32) {
+        if self.book.under_way().len() == 15 {
+            self.met.add(FULL);
+        }
+        self.book.begun(party, operation, key);
+    }
+
+    /// Only a step that requests a lock may wait, and somebody else then can move.
+    fn waited(&mut self, step: u32) -> Outcome<()> {
+        if !REQUESTING.contains(&(step as usize)) {
+            return Err(format!("step {step} waits"));
+        }
+        self.met.add(&format!("waits at {step}"));
+        self.test_progress()
+    }
+
+    fn ended(&mut self, party: u32, step: u32, reply: Reply) -> Outcome<()> {
+        self.book.performed(party, step);
+        let entry = self.book.ended(party, reply[2])?;
+        self.operations += 1;
+        let [answer, restructuring] = forms::report(reply);
+        self.met.add(answer);
+        self.met.add(restructuring);
+        if entry.operation == FIND && (reply[2] == FOUND) != self.book.keys().contains(&entry.key) {
+            self.met.add(STALE);
+        }
+        Ok(())
+    }
+
+    /// "If operations are under way, at least one would answer moved or done if its step came next": tried on a copy. A state that a step leaves by moving shows it itself, so
+    /// this is asked where a call waits or begins.
+    fn test_progress(&mut self) -> Outcome<()> {
+        let under_way = self.book.under_way();
+        self.trial.copy_from(&self.image);
+        for &party in &under_way {
+            self.trials += 1;
+            if let [0, 1 | 2, ..] = self.library.call(&mut self.trial, Call::Step(party)) {
+                return Ok(());
+            }
+        }
+        if under_way.is_empty() {
+            return Ok(());
+        }
+        let steps: Vec<u32> = under_way
+            .iter()
+            .map(|party| self.image.party(*party).step)
+            .collect();
+        Err(format!(
+            "no operation under way can move: parties {under_way:?} at steps {steps:?}"
+        ))
+    }
+
+    /// An operation and its key; every other find or delete is of a key that is in the book's set.
+    fn choose(&self, habits: &mut Habits, random: &mut Random) -> (u32, u32) {
+        let (operation, key) = habits.choose(random);
+        if operation == INSERT || random.one_in(2) {
+            return (operation, key);
+        }
+        let near = self.book.keys().range(key..).next();
+        (operation, near.copied().unwrap_or(key))
+    }
+
+    /// Calls in random order; idle parties begin.
+    fn round(&mut self, calls: u32, habits: &mut Habits, random: &mut Random) -> Outcome<()> {
+        let mut pace = Pace::new(random);
+        for _ in 0..calls {
+            let party = pace.next_party(self.sizes[4], random);
+            if random.one_in(100) {
+                let party = random.between(0, self.sizes[4]);
+                let odd = [
+                    Call::Step(party),
+                    Call::Begin(party, FIND, habits.key(random)),
+                ];
+                self.perform(random.pick(&odd))?;
+            } else if self.book.entry(party).is_some() {
+                self.perform(Call::Step(party))?;
+            } else if random.one_in(pace.eager) {
+                let (operation, key) = self.choose(habits, random);
+                self.perform(Call::Begin(party, operation, key))?;
+            }
+        }
+        Ok(())
+    }
+
+    /// Steps until every operation has ended; then the keys in the chains are the book's.
+    fn come_to_rest(&mut self, random: &mut Random) -> Outcome<()> {
+        for _ in 0..MOST_CALLS_TO_REST {
+            let under_way = self.book.under_way();
+            if under_way.is_empty() {
+                return self.test_keys();
+            }
+            self.perform(Call::Step(random.pick(&under_way)))?;
+        }
+        Err(format!("no rest after {MOST_CALLS_TO_REST} calls"))
+    }
+
+    fn test_keys(&self) -> Outcome<()> {
+        let mut keys = at_rest::read(&self.image, self.sizes)?.chains.concat();
+        keys.sort_unstable();
+        if keys.iter().eq(self.book.keys()) {
+            return Ok(());
+        }
+        Err(format!(
+            "at rest the keys are {keys:?}, the book's {:?}",
+            self.book.keys()
+        ))
+    }
+}
+
+impl Part for Schedules {
+    fn name(&self) -> &'static str {
+        "schedules"
+    }
+
+    fn session(&mut self, number: u64, random: &mut Random) -> Outcome<()> {
+        let large = number % LARGE_EVERY == LARGE_EVERY - 1;
+        self.sizes = if large {
+            sizes::largest(number / LARGE_EVERY)
+        } else {
+            sizes::allowed(random)
+        };
+        self.image = Image::for_sizes(self.sizes);
+        self.perform(Call::Format(self.sizes))?;
+        let (turn, calls) = if large {
+            (400, 10_000)
+        } else {
+            (random.pick(&[5, 20, 60]), random.between(100, 1500))
+        };
+        let mut habits = Habits::new(self.sizes, turn, random);
+        for _ in 0..3 {
+            self.round(calls, &mut habits, random)
+                .and_then(|()| self.come_to_rest(random))
+                .map_err(|error| format!("sizes {:?}: {error}", self.sizes))?;
+        }
+        Ok(())
+    }
+
+    fn calls(&self) -> u64 {
+        self.calls
+    }
+
+    fn rows(&self) -> Vec<Row> {
+        self.met.rows()
+    }
+
+    fn told(&self) -> String {
+        format!(
+            "{} operations as the book, {} trials that somebody can move: {}",
+            self.operations,
+            self.trials,
+            self.met.told()
+        )
+    }
+}

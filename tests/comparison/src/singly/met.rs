@@ -1,0 +1,120 @@
+//! What operations run singly have met: every answer, every restructuring with the reason for a skipped one, levels up and down, and the sizes at their limits.
+
+use crate::part::{Row, Tally};
+use bead_port::memory::INSERT;
+use sequential::{AddressSpace, Answer, HashFile, Outcome, Restructuring};
+
+/// What must be met.
+const NAMES: [&str; 19] = [
+    "found",
+    "absent",
+    "inserted",
+    "present",
+    "deleted",
+    "no page for an insert",
+    "no page for a delete",
+    "split",
+    "split skipped at P chains",
+    "split skipped for pages",
+    "merged",
+    "merge skipped at N chains",
+    "merge skipped for pages",
+    "level raised",
+    "level lowered",
+    "level 8 with all 256 chains",
+    "files with N = 256",
+    "files with P = 256",
+    "files with V = 752",
+];
+
+pub struct Met {
+    operations: u64,
+    tally: Tally,
+    /// Files by b.
+    capacities: [u64; 12],
+}
+
+impl Met {
+    pub fn new() -> Met {
+        Met {
+            operations: 0,
+            tally: Tally::new(NAMES.map(String::from)),
+            capacities: [0; 12],
+        }
+    }
+
+    pub fn count_sizes(&mut self, [n, b, p, v, _]: [u32; 5]) {
+        self.capacities[b as usize - 1] += 1;
+        self.add_met(&[
+            (n == 256, "files with N = 256"),
+            (p == 256, "files with P = 256"),
+            (v == 752, "files with V = 752"),
+        ]);
+    }
+
+    /// Counts an operation: the model after it, its level and next before, and what was reported.
+    pub fn count(
+        &mut self,
+        model: &HashFile,
+        before: AddressSpace,
+        operation: u32,
+        reported: Outcome,
+    ) {
+        self.operations += 1;
+        let after = model.space();
+        self.tally.add(match reported.answer {
+            Answer::NoPage if operation == INSERT => "no page for an insert",
+            Answer::NoPage => "no page for a delete",
+            Answer::Found => "found",
+            Answer::Absent => "absent",
+            Answer::Inserted => "inserted",
+            Answer::Present => "present",
+            Answer::Deleted => "deleted",
+        });
+        self.tally.add(match reported.restructuring {
+            Restructuring::None => "",
+            Restructuring::Split => "split",
+            Restructuring::SplitSkipped if before.chains() == model.sizes().most_chains => {
+                "split skipped at P chains"
+            }
+            Restructuring::SplitSkipped => "split skipped for pages",
+            Restructuring::Merged => "merged",
+            Restructuring::MergeSkipped if before.chains() == before.originals => {
+                "merge skipped at N chains"
+            }
+            Restructuring::MergeSkipped => "merge skipped for pages",
+        });
+        let levels = [
+            (after.level > before.level, "level raised"),
+            (after.level < before.level, "level lowered"),
+            (
+                after.level == 8 && before.level == 7,
+                "level 8 with all 256 chains",
+            ),
+        ];
+        self.add_met(&levels);
+    }
+
+    fn add_met(&mut self, things: &[(bool, &str)]) {
+        things
+            .iter()
+            .filter(|(met, _)| *met)
+            .for_each(|(_, name)| self.tally.add(name));
+    }
+
+    /// Every thing that must be met, each b among them.
+    pub fn rows(&self) -> Vec<Row> {
+        let capacities = (1..)
+            .zip(self.capacities)
+            .map(|(b, files)| (format!("files with b = {b}"), files));
+        self.tally.rows().into_iter().chain(capacities).collect()
+    }
+
+    pub fn told(&self) -> String {
+        format!(
+            "{} operations as the model, b from 1 to 12: {}",
+            self.operations,
+            self.tally.told()
+        )
+    }
+}

@@ -1,0 +1,92 @@
+//! The library with something wrong put into what it leaves or answers, so that each part of the comparison can be seen to fail.
+
+use crate::callee::{Call, Callee, Reply};
+use crate::image::{Image, PART_NAMES};
+use crate::library::Library;
+use crate::random::Random;
+
+/// What is wrong now and then.
+#[derive(Clone, Copy)]
+pub enum Wrong {
+    /// A bit of one of the four lent parts.
+    Memory(usize),
+    /// A bit of the reply.
+    Reply,
+    /// The answer of an operation done.
+    Answer,
+    /// From some call on every operation under way waits.
+    Wait,
+}
+
+impl Wrong {
+    pub fn named(name: &str) -> Option<Wrong> {
+        match name {
+            "reply" => Some(Wrong::Reply),
+            "answer" => Some(Wrong::Answer),
+            "wait" => Some(Wrong::Wait),
+            _ => PART_NAMES
+                .iter()
+                .position(|known| *known == name)
+                .map(Wrong::Memory),
+        }
+    }
+}
+
+/// One call in so many goes wrong.
+const ONE_IN: u32 = 1000;
+
+pub struct Wronged {
+    library: Library,
+    wrong: Wrong,
+    waiting: bool,
+    random: Random,
+}
+
+impl Wronged {
+    pub fn new(wrong: Wrong, seed: u64) -> Wronged {
+        Wronged {
+            library: Library::linked(),
+            wrong,
+            waiting: false,
+            random: Random::new(seed),
+        }
+    }
+
+    fn flip(&mut self, words: &mut [u32]) {
+        if !words.is_empty() {
+            words[self.random.below(words.len() as u32) as usize] ^= 1 << self.random.below(32);
+        }
+    }
+
+    /// Whether the call is a step of an operation under way.
+    fn is_step(image: &Image, call: Call) -> bool {
+        matches!(call, Call::Step(party) if (party as usize) < image.party_count() && image.party(party).operation != 0)
+    }
+}
+
+impl Callee for Wronged {
+    fn call(&mut self, image: &mut Image, call: Call) -> Reply {
+        let now = self.random.one_in(ONE_IN);
+        self.waiting |= now && matches!(self.wrong, Wrong::Wait);
+        if self.waiting && Wronged::is_step(image, call) {
+            return [0; 4];
+        }
+        let mut reply = self.library.call(image, call);
+        match self.wrong {
+            Wrong::Memory(part) if now => {
+                let words: &mut [u32] = image
+                    .parts_mut()
+                    .into_iter()
+                    .nth(part)
+                    .expect("one of four parts");
+                self.flip(words);
+            }
+            Wrong::Reply if now => self.flip(&mut reply),
+            Wrong::Answer if reply[1] == 2 && self.random.one_in(100) => {
+                reply[2] = 1 + reply[2] % 6
+            }
+            _ => {}
+        }
+        reply
+    }
+}
