@@ -1,6 +1,6 @@
 //! The lent memory as words, with guard words before and after each part so that a write outside it shows.
 
-use bead_port::memory::{Party, Root, LINK};
+use bead_port::memory::{Party, Root, LINK, RECORD_WORDS};
 use std::ops::{Deref, DerefMut};
 
 const GUARD_WORDS: usize = 16;
@@ -71,8 +71,8 @@ impl Image {
     pub fn zero(parties: usize, locks: usize, page_words: usize) -> Image {
         let zeros = |length| Part::new(&vec![0; length]);
         Image {
-            root: zeros(9),
-            parties: zeros(9 * parties),
+            root: zeros(RECORD_WORDS),
+            parties: zeros(RECORD_WORDS * parties),
             locks: zeros(locks),
             pages: zeros(page_words),
         }
@@ -98,11 +98,11 @@ impl Image {
     }
 
     pub fn party_count(&self) -> usize {
-        self.parties.len() / 9
+        self.parties.len() / RECORD_WORDS
     }
 
     pub fn root_record(&self) -> Root {
-        Root::from_words(self.root[..].try_into().expect("nine words"))
+        Root::from_words(self.root[..].try_into().expect("the words of a record"))
     }
 
     pub fn set_root(&mut self, root: Root) {
@@ -110,12 +110,13 @@ impl Image {
     }
 
     pub fn party(&self, number: u32) -> Party {
-        let words = &self.parties[9 * number as usize..][..9];
-        Party::from_words(words.try_into().expect("nine words"))
+        let words = &self.parties[RECORD_WORDS * number as usize..][..RECORD_WORDS];
+        Party::from_words(words.try_into().expect("the words of a record"))
     }
 
     pub fn set_party(&mut self, number: u32, party: Party) {
-        self.parties[9 * number as usize..][..9].copy_from_slice(&party.words());
+        self.parties[RECORD_WORDS * number as usize..][..RECORD_WORDS]
+            .copy_from_slice(&party.words());
     }
 
     pub fn page(&self, number: u32) -> &[u32; 16] {

@@ -61,38 +61,27 @@ impl Met {
         reported: Outcome,
     ) {
         self.operations += 1;
-        let after = model.space();
-        self.tally.add(match reported.answer {
-            Answer::NoPage if operation == INSERT => "no page for an insert",
-            Answer::NoPage => "no page for a delete",
-            Answer::Found => "found",
-            Answer::Absent => "absent",
-            Answer::Inserted => "inserted",
-            Answer::Present => "present",
-            Answer::Deleted => "deleted",
-        });
+        self.tally.add(answer_name(reported.answer, operation));
+        let at_most = before.chains() == model.sizes().most_chains;
+        let at_least = before.chains() == before.originals;
         self.tally.add(match reported.restructuring {
             Restructuring::None => "",
             Restructuring::Split => "split",
-            Restructuring::SplitSkipped if before.chains() == model.sizes().most_chains => {
-                "split skipped at P chains"
-            }
+            Restructuring::SplitSkipped if at_most => "split skipped at P chains",
             Restructuring::SplitSkipped => "split skipped for pages",
             Restructuring::Merged => "merged",
-            Restructuring::MergeSkipped if before.chains() == before.originals => {
-                "merge skipped at N chains"
-            }
+            Restructuring::MergeSkipped if at_least => "merge skipped at N chains",
             Restructuring::MergeSkipped => "merge skipped for pages",
         });
-        let levels = [
-            (after.level > before.level, "level raised"),
-            (after.level < before.level, "level lowered"),
+        let after = model.space().level;
+        self.add_met(&[
+            (after > before.level, "level raised"),
+            (after < before.level, "level lowered"),
             (
-                after.level == 8 && before.level == 7,
+                after == 8 && before.level == 7,
                 "level 8 with all 256 chains",
             ),
-        ];
-        self.add_met(&levels);
+        ]);
     }
 
     fn add_met(&mut self, things: &[(bool, &str)]) {
@@ -116,5 +105,17 @@ impl Met {
             self.operations,
             self.tally.told()
         )
+    }
+}
+
+fn answer_name(answer: Answer, operation: u32) -> &'static str {
+    match answer {
+        Answer::NoPage if operation == INSERT => "no page for an insert",
+        Answer::NoPage => "no page for a delete",
+        Answer::Found => "found",
+        Answer::Absent => "absent",
+        Answer::Inserted => "inserted",
+        Answer::Present => "present",
+        Answer::Deleted => "deleted",
     }
 }

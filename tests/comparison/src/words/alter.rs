@@ -2,7 +2,7 @@
 
 use crate::image::Image;
 use crate::random::Random;
-use bead_port::memory::{Root, FIRST_KEY, KEY_COUNT, LINK, LOCAL_LEVEL};
+use bead_port::memory::{Root, FIRST_KEY, KEY_COUNT, LINK, LOCAL_LEVEL, RECORD_WORDS};
 
 /// Alters one word; the root record's sizes are allowed and the lengths fit.
 pub fn alter(image: &mut Image, party: u32, random: &mut Random) {
@@ -65,7 +65,7 @@ fn alter_record(image: &mut Image, number: u32, random: &mut Random) {
             }
         }
         _ => {
-            let place = 9 * number as usize + random.below(9) as usize;
+            let place = RECORD_WORDS * number as usize + random.below(RECORD_WORDS as u32) as usize;
             image.parties[place] = random.word();
             return;
         }

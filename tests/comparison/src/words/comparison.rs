@@ -4,6 +4,7 @@ use super::coverage::Coverage;
 use crate::callee::{Call, Callee, Port, Reply};
 use crate::image::{Image, PART_NAMES};
 use crate::part::Outcome;
+use bead_port::memory::RECORD_WORDS;
 
 /// The two sides, their memory, and what was met.
 pub struct Comparison {
@@ -75,12 +76,9 @@ impl Comparison {
     /// The step number that the called party's record held before the call.
     fn step_before(&self, call: Call) -> u32 {
         match call {
-            Call::Step(party) => self
-                .before
-                .parties
-                .get(9 * party as usize + 2)
-                .copied()
-                .unwrap_or(0),
+            Call::Step(party) if (party as usize) < self.before.party_count() => {
+                self.before.party(party).step
+            }
             _ => 0,
         }
     }
@@ -116,7 +114,7 @@ impl Comparison {
 
     /// The records before the call.
     fn told(&self) -> String {
-        let records: Vec<&[u32]> = self.before.parties.chunks(9).collect();
+        let records: Vec<&[u32]> = self.before.parties.chunks(RECORD_WORDS).collect();
         format!(
             "\n  before: root {:?}, parties {records:?}",
             &self.before.root[..]
