@@ -10,7 +10,7 @@ use crate::reply::{ABSENT, DELETED, INSERTED, NO_PAGE, PRESENT};
 
 /// "10 look through the whole chain in the file", then make the new chain but for its primary page, which scratch holds.
 #[inline(never)]
-pub fn change<D: Damage>(lent: &mut Lent<D>) -> Result<D> {
+pub(super) fn change<D: Damage>(lent: &mut Lent<D>) -> Result<D> {
     let mut found = lent.chain_keys(lent.party.chain)?;
     let inserting = lent.party.operation == INSERT;
     match (found.keys.binary_search(&lent.party.key), inserting) {
@@ -46,7 +46,7 @@ fn unchanged<D: Damage>(lent: &mut Lent<D>, answer: u32) -> Result<D> {
 
 /// "12 give up the chain; done unless inserted or deleted."
 #[inline]
-pub fn give_up_chain<D: Damage>(lent: &mut Lent<D>) -> Result<D> {
+pub(super) fn give_up_chain<D: Damage>(lent: &mut Lent<D>) -> Result<D> {
     let lock = chain_lock(lent.party.chain);
     lent.test_held(lock, Mode::Selective, Cause::ChainLockNotHeld)?;
     lent.give_up(lock, Mode::Selective);
@@ -61,14 +61,14 @@ pub fn give_up_chain<D: Damage>(lent: &mut Lent<D>) -> Result<D> {
 
 /// "13, if there are old overflow pages, request exclusive on the chain."
 #[inline]
-pub fn request_old_pages<D: Damage>(lent: &mut Lent<D>) -> Result<D> {
+pub(super) fn request_old_pages<D: Damage>(lent: &mut Lent<D>) -> Result<D> {
     test_old_link(lent)?;
     lent.request_chain(Mode::Exclusive, 14)
 }
 
 /// "14 give them back in chain order, zero the old link and give up the lock."
 #[inline(never)]
-pub fn give_back_old_pages<D: Damage>(lent: &mut Lent<D>) -> Result<D> {
+pub(super) fn give_back_old_pages<D: Damage>(lent: &mut Lent<D>) -> Result<D> {
     test_old_link(lent)?;
     let length = lent.walk_list(lent.party.old_link, |_| ())?;
     lent.refuse_if(

@@ -10,14 +10,14 @@ use crate::reply::{Outcome, Restructuring, ABSENT, FOUND};
 
 /// "2 read level."
 #[inline]
-pub fn read_level<D: Damage>(lent: &mut Lent<D>) -> Result<D> {
+pub(super) fn read_level<D: Damage>(lent: &mut Lent<D>) -> Result<D> {
     lent.party.lev = lent.root.level;
     lent.move_to(3)
 }
 
 /// "3 read next; fix lev and chain." Lev stays raised where the chain was split already.
 #[inline]
-pub fn read_next<D: Damage>(lent: &mut Lent<D>) -> Result<D> {
+pub(super) fn read_next<D: Damage>(lent: &mut Lent<D>) -> Result<D> {
     let (mut lev, key) = (lent.party.lev, lent.party.key);
     let mut chain = lent.root.hash(lev, key);
     if chain < lent.root.next {
@@ -32,7 +32,7 @@ pub fn read_next<D: Damage>(lent: &mut Lent<D>) -> Result<D> {
 
 /// "5 give up root."
 #[inline]
-pub fn give_up_root<D: Damage>(lent: &mut Lent<D>) -> Result<D> {
+pub(super) fn give_up_root<D: Damage>(lent: &mut Lent<D>) -> Result<D> {
     lent.test_held(ROOT_LOCK, Mode::Read, Cause::RootLockNotHeld)?;
     lent.give_up(ROOT_LOCK, Mode::Read);
     lent.move_to(6)
@@ -40,7 +40,7 @@ pub fn give_up_root<D: Damage>(lent: &mut Lent<D>) -> Result<D> {
 
 /// "6 copy the primary page to the scratch page"; then 7 where the key has moved on, "else 9 for find, 10 otherwise".
 #[inline]
-pub fn copy_primary<D: Damage>(lent: &mut Lent<D>) -> Result<D> {
+pub(super) fn copy_primary<D: Damage>(lent: &mut Lent<D>) -> Result<D> {
     let party = *lent.party;
     let page = lent.pages[party.chain as usize];
     lent.test_page(&page)?;
@@ -78,7 +78,7 @@ fn catch_up(root: &Root, mut lev: u32, local_level: u32, key: u32, chain: u32) -
 
 /// "8 give up the previous one, back to 6."
 #[inline]
-pub fn give_up_previous<D: Damage>(lent: &mut Lent<D>) -> Result<D> {
+pub(super) fn give_up_previous<D: Damage>(lent: &mut Lent<D>) -> Result<D> {
     let (lock, mode) = (chain_lock(lent.party.other), lent.working_mode());
     lent.test_held(lock, mode, Cause::OtherLockNotHeld)?;
     lent.give_up(lock, mode);
@@ -88,7 +88,7 @@ pub fn give_up_previous<D: Damage>(lent: &mut Lent<D>) -> Result<D> {
 /// "9 key on the scratch page: give up the chain, done found. No link: the same, done absent.
 /// Else copy the linked page over it and stay at 9."
 #[inline]
-pub fn search_scratch<D: Damage>(lent: &mut Lent<D>) -> Result<D> {
+pub(super) fn search_scratch<D: Damage>(lent: &mut Lent<D>) -> Result<D> {
     let key = lent.party.key;
     let page = *lent.scratch();
     lent.test_page(&page)?;

@@ -11,7 +11,7 @@ use crate::reply::{Outcome, Restructuring};
 /// "24 if n = N give up root, done, merge skipped. The partner is chain n − 1; the target is next − 1, or
 /// N × 2^(level−1) − 1 if next is 0. Request exclusive on the target."
 #[inline(never)]
-pub fn request_target<D: Damage>(lent: &mut Lent<D>) -> Result<D> {
+pub(super) fn request_target<D: Damage>(lent: &mut Lent<D>) -> Result<D> {
     let chains = lent.root.chains();
     if chains == lent.root.first_chains {
         lent.test_held(ROOT_LOCK, Mode::Exclusive, Cause::RootLockNotHeld)?;
@@ -38,13 +38,13 @@ pub fn request_target<D: Damage>(lent: &mut Lent<D>) -> Result<D> {
 
 /// "25 on the partner."
 #[inline]
-pub fn request_partner<D: Damage>(lent: &mut Lent<D>) -> Result<D> {
+pub(super) fn request_partner<D: Damage>(lent: &mut Lent<D>) -> Result<D> {
     lent.request(chain_lock(lent.party.other), Mode::Exclusive, 26)
 }
 
 /// "26 join both key lists in new pages, primary page in scratch at the target's local level, and set the old link to the target's."
 #[inline(never)]
-pub fn join<D: Damage>(lent: &mut Lent<D>) -> Result<D> {
+pub(super) fn join<D: Damage>(lent: &mut Lent<D>) -> Result<D> {
     lent.refuse_if(
         lent.root.chains() == lent.root.first_chains,
         Cause::NothingToMergeAt26,
@@ -101,7 +101,7 @@ fn give_up_three<D: Damage>(lent: &mut Lent<D>, root_mode: Mode) -> std::result:
 
 /// "27 if next was 0, lower level; next becomes the target's number; exclusive on root becomes selective."
 #[inline]
-pub fn lower_next<D: Damage>(lent: &mut Lent<D>) -> Result<D> {
+pub(super) fn lower_next<D: Damage>(lent: &mut Lent<D>) -> Result<D> {
     lent.refuse_if(
         lent.root.chains() == lent.root.first_chains,
         Cause::NothingToMergeAt27,
@@ -117,7 +117,7 @@ pub fn lower_next<D: Damage>(lent: &mut Lent<D>) -> Result<D> {
 
 /// "28 write the target's primary page from scratch, local level lowered by one."
 #[inline]
-pub fn write_target<D: Damage>(lent: &mut Lent<D>) -> Result<D> {
+pub(super) fn write_target<D: Damage>(lent: &mut Lent<D>) -> Result<D> {
     let mut page = *lent.scratch();
     lent.test_page(&page)?;
     lent.refuse_if(page[LOCAL_LEVEL] == 0, Cause::LocalLevel0At28)?;
@@ -128,7 +128,7 @@ pub fn write_target<D: Damage>(lent: &mut Lent<D>) -> Result<D> {
 
 /// "29 give back the target's old pages, then the partner's; zero the partner's primary page."
 #[inline(never)]
-pub fn give_back_both<D: Damage>(lent: &mut Lent<D>) -> Result<D> {
+pub(super) fn give_back_both<D: Damage>(lent: &mut Lent<D>) -> Result<D> {
     let (old_link, other) = (lent.party.old_link, lent.party.other as usize);
     lent.refuse_if(
         old_link != 0 && !lent.root.links_overflow(old_link),
@@ -151,7 +151,7 @@ pub fn give_back_both<D: Damage>(lent: &mut Lent<D>) -> Result<D> {
 
 /// "30 give up all, done."
 #[inline]
-pub fn give_up_all<D: Damage>(lent: &mut Lent<D>) -> Result<D> {
+pub(super) fn give_up_all<D: Damage>(lent: &mut Lent<D>) -> Result<D> {
     give_up_three(lent, Mode::Selective)?;
     lent.done(lent.party.answer, Restructuring::Merged)
 }

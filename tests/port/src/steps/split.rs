@@ -10,7 +10,7 @@ use crate::reply::{Outcome, Restructuring};
 
 /// "16 if n = P give up root, done, split skipped; else request selective on chain next."
 #[inline]
-pub fn request_chain<D: Damage>(lent: &mut Lent<D>) -> Result<D> {
+pub(super) fn request_chain<D: Damage>(lent: &mut Lent<D>) -> Result<D> {
     let (next, chains) = (lent.root.next, lent.root.chains());
     if chains == lent.root.most_chains {
         lent.test_held(ROOT_LOCK, Mode::Selective, Cause::RootLockNotHeld)?;
@@ -31,7 +31,7 @@ pub fn request_chain<D: Damage>(lent: &mut Lent<D>) -> Result<D> {
 
 /// "17 keys whose h_(level+1) is the chain stay, the rest go, both halves with local level level+1."
 #[inline(never)]
-pub fn divide<D: Damage>(lent: &mut Lent<D>) -> Result<D> {
+pub(super) fn divide<D: Damage>(lent: &mut Lent<D>) -> Result<D> {
     lent.refuse_if(
         lent.root.chains() == lent.root.most_chains,
         Cause::NoChainLeftAt17,
@@ -66,7 +66,7 @@ fn skip<D: Damage>(lent: &mut Lent<D>) -> Result<D> {
 
 /// "19 give up the chain."
 #[inline]
-pub fn give_up_chain<D: Damage>(lent: &mut Lent<D>) -> Result<D> {
+pub(super) fn give_up_chain<D: Damage>(lent: &mut Lent<D>) -> Result<D> {
     let lock = chain_lock(lent.party.chain);
     lent.test_held(lock, Mode::Selective, Cause::ChainLockNotHeld)?;
     lent.give_up(lock, Mode::Selective);
@@ -75,14 +75,14 @@ pub fn give_up_chain<D: Damage>(lent: &mut Lent<D>) -> Result<D> {
 
 /// "20 next becomes (next + 1) mod (N × 2^level)."
 #[inline]
-pub fn advance_next<D: Damage>(lent: &mut Lent<D>) -> Result<D> {
+pub(super) fn advance_next<D: Damage>(lent: &mut Lent<D>) -> Result<D> {
     lent.root.next = (lent.root.next + 1) % lent.root.level_chains();
     lent.move_to(21)
 }
 
 /// "21 if next is 0, raise level."
 #[inline]
-pub fn raise_level<D: Damage>(lent: &mut Lent<D>) -> Result<D> {
+pub(super) fn raise_level<D: Damage>(lent: &mut Lent<D>) -> Result<D> {
     if lent.root.next == 0 {
         lent.root.level += 1;
     }
@@ -91,7 +91,7 @@ pub fn raise_level<D: Damage>(lent: &mut Lent<D>) -> Result<D> {
 
 /// "22 give up root, owed becomes 3; then 13 and 14 on the old chain if it has old pages, else done."
 #[inline]
-pub fn give_up_root<D: Damage>(lent: &mut Lent<D>) -> Result<D> {
+pub(super) fn give_up_root<D: Damage>(lent: &mut Lent<D>) -> Result<D> {
     lent.test_held(ROOT_LOCK, Mode::Selective, Cause::RootLockNotHeld)?;
     lent.give_up(ROOT_LOCK, Mode::Selective);
     lent.party.owed = SPLIT_MADE;
