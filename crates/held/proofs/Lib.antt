@@ -1,0 +1,4 @@
+-- Laws that the proofs of the functions share.
+pub mod Rows
+pub mod Lending
+pub mod Ends
