@@ -21,9 +21,11 @@ class Body(Walk):
             self.line(f'pass1 ! {self.room(k + 1, typed_param(p))} $')
         self.line('pass0 ! $')
         self.split_all('TOKENS', [p.token for p in lent] + ['alive'])
-        self.fsplit_all('OWNS', [p.owned for p in lent] + ['plain'])
-        self.spend('alive')
-        self.spend('plain')
+        upto = function.params[:function.params.index(lent[-1]) + 1]
+        owned = [p.owned if p.lent else f'plain{k}' for k, p in enumerate(upto)] + ['plain']
+        self.fsplit_all('OWNS', owned)
+        for spent in ['alive'] + [e for e in owned if e.startswith('plain')]:
+            self.spend(spent)
         for p in lent:
             if p.is_mut and p.stays:
                 self.take_apart(p)
@@ -222,7 +224,8 @@ def typed_param(p):
 class Function:
     """A function that is walked. `says` gives what it ensures, from the text of its result and of the last values."""
 
-    def __init__(self, crate, name, params, result, callees, locals, says, about, uses, rows):
+    def __init__(self, crate, name, params, result, callees, locals, says, about, uses, rows, script=None):
+        self.script = script or name
         self.crate, self.name, self.params, self.result, self.callees = crate, name, params, result, callees
         self.locals, self.says, self.about, self.uses, self.rows = locals, says, about, uses, rows
         self.lent = [p for p in params if p.lent]
@@ -369,8 +372,8 @@ class Function:
         callees = [i for c in self.callees for i in c.imports(self.crate)]
         me = f'Rattle.{self.crate}.proofs.{self.name}'
         own = [f'use {me}.Key.{{name as {self.symbol}}}', f'use {me} as it', f'use {me}.Statement as stated', f'use {me}.Code as code']
-        about = [f'-- `{self.crate}::{self.name}` meets its contract: a walk of its MIR, made by tools/walks/{self.name}.py.'] + [f'-- {line}' for line in self.about]
-        head = about + imports_for(text) + rows + [u.replace('CRATE', f'Rattle.{self.crate}.proofs').replace('SPECS', f'Rattle.{self.crate}.specs') for u in self.uses] + callees + own
+        about = [f'-- `{self.crate}::{self.name}` meets its contract: a walk of its MIR, made by tools/walks/{self.script}.py.'] + [f'-- {line}' for line in self.about]
+        head = about + imports_for(text, [r.name for r in self.rows]) + rows + [u.replace('CRATE', f'Rattle.{self.crate}.proofs').replace('SPECS', f'Rattle.{self.crate}.specs') for u in self.uses] + callees + own
         folder = os.path.join(CRATES, self.crate, 'proofs', self.name)
         os.makedirs(folder, exist_ok=True)
         with open(os.path.join(folder, 'Proof.antt'), 'w') as file:

@@ -12,6 +12,10 @@ FORMATTED = Declared('X', 'Formatted', 'calls', fields=[('root', ROOT), ('answer
 BEGUN = Declared('X', 'Begun', 'calls', fields=[('party', PARTY), ('answer', BEGIN_ANSWER)])
 STEPPED = Declared('X', 'Stepped', 'model', fields=[('root', ROOT), ('party', PARTY), ('answer', STEP_ANSWER)])
 REPLY = Declared('Y', 'BeadReply', 'bead')
+HELD = Declared('D', 'Held', 'held')
+HELD_FORMAT = Declared('E', 'HeldFormat', 'held')
+HELD_BEGIN = Declared('E', 'HeldBegin', 'held')
+HELD_STEP = Declared('E', 'HeldStep', 'held')
 
 
 def memory(root, row, words):

@@ -55,18 +55,31 @@ pub fn format(held: Held, locks: &mut [u32], pages: &mut [u32], sizes: FileSizes
     let mut row = held.row;
     let n = records_lent(sizes.parties);
     let answer = index::format(&mut root, &mut row[..n], locks, pages, sizes);
-    HeldFormat { held: Held { root, row }, answer }
+    HeldFormat {
+        held: Held { root, row },
+        answer,
+    }
 }
 
 // Begin an operation for party q.
-pub fn begin(held: Held, locks: &[u32], pages: &[u32], q: u32, operation: Operation, key: u32) -> HeldBegin
+pub fn begin(
+    held: Held,
+    locks: &[u32],
+    pages: &[u32],
+    q: u32,
+    operation: Operation,
+    key: u32,
+) -> HeldBegin
     ensures { λ r. ⌜ called (r .answer) (memoryOf (r .held) (now (locks .entry)) (now (pages .entry))) ≡ heldBegin (memoryOf held (now (locks .entry)) (now (pages .entry))) q operation key ⌝ }
 {
     let root = held.root;
     let mut row = held.row;
     let n = records_lent(root.parties);
     let answer = index::begin(&root, &mut row[..n], locks, pages, q, operation, key);
-    HeldBegin { held: Held { root, row }, answer }
+    HeldBegin {
+        held: Held { root, row },
+        answer,
+    }
 }
 
 // One step for party q.
@@ -77,5 +90,8 @@ pub fn step(held: Held, locks: &mut [u32], pages: &mut [u32], q: u32) -> HeldSte
     let mut row = held.row;
     let n = records_lent(root.parties);
     let answer = index::step(&mut root, &mut row[..n], locks, pages, q);
-    HeldStep { held: Held { root, row }, answer }
+    HeldStep {
+        held: Held { root, row },
+        answer,
+    }
 }
