@@ -23,40 +23,23 @@ begin = Function(
 
 def body():
     w = Body([])
-    w.enter(begin)
-    w.note('the root is looked into by a copy of the reference, and shut again')
-    w.copy_root(root, 8, 'is')
-    w.assign(f'(un ! {w.whole(5)} (record {{ fits = wide-fits i i-fits }}))', 9, '(tt, record { fits = wide-fits i i-fits })')
-    w.length(row, 2, 12)
-    w.assign(f'(bin ! {w.whole(9)} {w.whole(12)} tt)', 13, '(tt, tt)')
-    w.line(f'first ! $ branches ! {w.whole(13)}')
-
-    a = w.branch()
-    inside, party = '(ltb→lt i (length ps) may)', '(partyAt ps i)'
-    a.bind('(λ may.')
-    a.note('the record of the party is copied out of the row')
-    a.point_at(row, 2, 'i', 9, 14, 15, inside)
-    a.open_row(row, 'i', 'Records.idle', inside, 'ip')
-    a.copy(a.behind(15, 'element'), 16, PARTY.typed(party, 'ip'))
+    w.opening(begin, root, 8)
+    a, b = w.branch_inside(row, 5, 9, 12, 13)
+    inside, party = '(ltb→lt i (length ps) may)', BEGUN.field('party', 'x', 'ix')
+    a.take_record(row, 9, 14, 15, 16, inside)
     for p, k, into in ((row, 2, 17), (locks, 3, 18), (pages, 4, 19)):
         a.length(p, k, into)
-    a.call(core, [party], ['is', 'ip'], [8, 16, 17, 18, 19, 5, 6, 7], 10, 'x', 'zs', 'said', 'ix')
-    a.note('the record goes back into the row')
-    a.point_at(row, 2, 'i', 9, 14, 20, inside)
-    a.store_behind(a.field(10, 0), 20, 'element', PARTY.typed('(x .party)', BEGUN.field('party', 'x', 'ix')))
-    a.close_row(row, 'i', inside, '(x .party)', BEGUN.field('party', 'x', 'ix'))
+    a.call(core, ['(partyAt ps i)'], ['is', 'ip'], [8, 16, 17, 18, 19, 5, 6, 7], 10, 'x', 'zs', 'said', 'ix')
+    a.put_record(row, 9, 14, 20, a.field(10, 0), '(x .party)', party, inside)
     a.copy(a.field(10, 1), 0, BEGIN_ANSWER.typed('(x .answer)', BEGUN.field('answer', 'x', 'ix')))
     a.leave(begin, True, ['(set ps i (x .party))'], ['(length-set ps i (x .party))'], '(x .answer)', BEGUN.field('answer', 'x', 'ix'),
             '(begin-inside h ps ls gs i o key x said)')
 
-    b = w.branch()
-    b.bind('(λ past.')
     b.call(idle, [], [], [], 21, 'p', 'ys', 'is-idle', 'ip')
     for p, k, into in ((row, 2, 22), (locks, 3, 23), (pages, 4, 24)):
         b.length(p, k, into)
     b.call(core, ['p'], ['is', PARTY.spelt('p', 'ip')], [8, 21, 22, 23, 24, 5, 6, 7], 11, 'x', 'zs', 'said', 'ix', primes='′')
     b.copy(b.field(11, 1), 0, BEGIN_ANSWER.typed('(x .answer)', BEGUN.field('answer', 'x', 'ix')))
-    b.open += w.open
     b.leave(begin, True, ['ps'], ['refl'], '(x .answer)', BEGUN.field('answer', 'x', 'ix'),
             '(begin-past h ps ls gs i o key p x (nltb→le i (length ps) past) said)')
     return '\n'.join(x.text('        ') for x in (w, a, b))

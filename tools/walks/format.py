@@ -25,10 +25,7 @@ format = Function(
 
 def body():
     w = Body([])
-    w.enter(format)
-    w.note('the root’s borrow is opened')
-    w.open_root(root, 'is')
-    w.copy(w.behind(1, 'cell'), 6, ROOT.typed('h', 'is'))
+    w.opening(format, root, 6)
     w.length(row, 2, 8)
     w.lend_on(locks, 3, 9, 10)
     w.lend_on(pages, 4, 11, 12)

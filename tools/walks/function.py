@@ -30,6 +30,30 @@ class Body(Walk):
             if p.is_mut and p.stays:
                 self.take_apart(p)
 
+    def opening(self, function, root, into):
+        """The function is entered and the root copied; the borrow of a &mut root stays open."""
+        self.enter(function)
+        if root.is_mut:
+            self.note('the root’s borrow is opened')
+            self.open_root(root, 'is')
+            self.copy(self.behind(1, 'cell'), into, root.row.typed(root.name, 'is'))
+        else:
+            self.note('the root is looked into by a copy of the reference, and shut again')
+            self.copy_root(root, into, 'is')
+
+    def branch_inside(self, row, q, at, length, inside):
+        """Local `at` is q widened to an index, and the walk branches by whether it is inside the row: a walk for each way."""
+        fits = 'wide-fits i i-fits'
+        self.assign(f'(un ! {self.whole(q)} (record {{ fits = {fits} }}))', at, f'(tt, record {{ fits = {fits} }})')
+        self.length(row, 2, length)
+        self.assign(f'(bin ! {self.whole(at)} {self.whole(length)} tt)', inside, '(tt, tt)')
+        self.line(f'first ! $ branches ! {self.whole(inside)}')
+        a, b = self.branch(), self.branch()
+        a.bind('(λ may.')
+        b.bind('(λ past.')
+        b.open += self.open
+        return a, b
+
     def take_apart(self, p):
         """What a &mut owns: what is seen of it, and the borrow."""
         if p.is_slice:
@@ -123,6 +147,20 @@ class Body(Walk):
         self.become(3, ['row', 'row-opened', 'row-seen', 'row-kept'])
         self.bind(f'elem-out ! {row.row} (Is {row.row}) (shows 𝓤 H A {row.row}) {row.spells} {row.tells} fullShare {p.name} {index} {default} {p.b} {p.o} {inside} (λ {name}.')
         self.become(1, ['element', 'element-owned', 'others'])
+
+    def take_record(self, p, at, scaled, pointer, into, inside):
+        """The record of party i, whose index is in local `at`, is copied out of the row."""
+        self.note('the record of the party is copied out of the row')
+        self.point_at(p, 2, 'i', at, scaled, pointer, inside)
+        self.open_row(p, 'i', 'Records.idle', inside, 'ip')
+        self.copy(self.behind(pointer, 'element'), into, p.row.typed(f'(partyAt {p.name} i)', 'ip'))
+
+    def put_record(self, p, at, scaled, pointer, operand, value, fact, inside):
+        """What the operand has goes back into the row as the record of party i."""
+        self.note('the record goes back into the row')
+        self.point_at(p, 2, 'i', at, scaled, pointer, inside)
+        self.store_behind(operand, pointer, 'element', p.row.typed(value, fact))
+        self.close_row(p, 'i', inside, value, fact)
 
     def close_row(self, p, index, inside, value, fact):
         """The record goes back into the row, whose borrow is closed."""

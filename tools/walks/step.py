@@ -22,38 +22,21 @@ step = Function(
 
 def body():
     w = Body([])
-    w.enter(step)
-    w.note('the root’s borrow is opened')
-    w.open_root(root, 'is')
-    w.copy(w.behind(1, 'cell'), 6, ROOT.typed('h', 'is'))
-    w.assign(f'(un ! {w.whole(5)} (record {{ fits = wide-fits i i-fits }}))', 7, '(tt, record { fits = wide-fits i i-fits })')
-    w.length(row, 2, 10)
-    w.assign(f'(bin ! {w.whole(7)} {w.whole(10)} tt)', 11, '(tt, tt)')
-    w.line(f'first ! $ branches ! {w.whole(11)}')
-
-    a = w.branch()
-    inside, party = '(ltb→lt i (length ps) may)', '(partyAt ps i)'
-    a.bind('(λ may.')
-    a.note('the record of the party is copied out of the row')
-    a.point_at(row, 2, 'i', 7, 12, 13, inside)
-    a.open_row(row, 'i', 'Records.idle', inside, 'ip')
-    a.copy(a.behind(13, 'element'), 14, PARTY.typed(party, 'ip'))
+    w.opening(step, root, 6)
+    a, b = w.branch_inside(row, 5, 7, 10, 11)
+    inside, party = '(ltb→lt i (length ps) may)', STEPPED.field('party', 'x', 'ix')
+    a.take_record(row, 7, 12, 13, 14, inside)
     a.length(row, 2, 15)
     a.lend_on(locks, 3, 16, 17)
     a.lend_on(pages, 4, 18, 19)
-    a.call(core, [party], ['is', 'ip'], [6, 14, 15, 5, 17, 19], 8, 'x', 'zs', 'said', 'ix')
-    a.note('the record goes back into the row')
-    a.point_at(row, 2, 'i', 7, 12, 20, inside)
-    a.store_behind(a.field(8, 1), 20, 'element', PARTY.typed('(x .party)', STEPPED.field('party', 'x', 'ix')))
-    a.close_row(row, 'i', inside, '(x .party)', STEPPED.field('party', 'x', 'ix'))
+    a.call(core, ['(partyAt ps i)'], ['is', 'ip'], [6, 14, 15, 5, 17, 19], 8, 'x', 'zs', 'said', 'ix')
+    a.put_record(row, 7, 12, 20, a.field(8, 1), '(x .party)', party, inside)
     a.note('the root is stored')
     a.store_root(root, a.field(8, 0), '(x .root)', STEPPED.field('root', 'x', 'ix'))
     a.copy(a.field(8, 2), 0, STEP_ANSWER.typed('(x .answer)', STEPPED.field('answer', 'x', 'ix')))
     a.leave(step, True, ['(x .root)', '(set ps i (x .party))', '(zs .1 .1 .1 .1 .0)', '(zs .1 .1 .1 .1 .1 .0)'], ['(length-set ps i (x .party))', 'e₂', 'e₃'],
             '(x .answer)', STEPPED.field('answer', 'x', 'ix'), '(step-inside h ps ls gs i x _ _ said)')
 
-    b = w.branch()
-    b.bind('(λ past.')
     b.call(idle, [], [], [], 21, 'p', 'ys', 'is-idle', 'ip')
     b.length(row, 2, 22)
     b.lend_on(locks, 3, 23, 24)
@@ -62,7 +45,6 @@ def body():
     b.note('the root is stored')
     b.store_root(root, b.field(9, 0), '(x .root)', STEPPED.field('root', 'x', 'ix'))
     b.copy(b.field(9, 2), 0, STEP_ANSWER.typed('(x .answer)', STEPPED.field('answer', 'x', 'ix')))
-    b.open += w.open
     b.leave(step, True, ['(x .root)', 'ps', '(zs .1 .1 .1 .1 .0)', '(zs .1 .1 .1 .1 .1 .0)'], ['refl', 'e₂', 'e₃'],
             '(x .answer)', STEPPED.field('answer', 'x', 'ix'), '(step-past h ps ls gs i p x _ _ (nltb→le i (length ps) past) said)')
     return '\n'.join(x.text('        ') for x in (w, a, b))
