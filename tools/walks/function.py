@@ -2,7 +2,7 @@
 import os
 from context import Walk, HERE, numbered, local
 from shapes import Declared, Number, Plain, Lent, U32, tuple_of, product_of, place
-from imports import imports_for
+from imports import imports_for, use_of
 
 CRATES = os.path.join(os.path.dirname(os.path.abspath(__file__)), '..', '..', 'crates')
 
@@ -260,7 +260,8 @@ def typed_param(p):
 
 
 class Function:
-    """A function that is walked. `says` gives what it ensures, from the text of its result and of the last values."""
+    """A function that is walked. `says` gives what it ensures, from the text of its result and of the last values. `uses` are `use`
+    lines, or a module and names of which those that occur are used."""
 
     def __init__(self, crate, name, params, result, callees, locals, says, about, uses, rows, script=None):
         self.script = script or name
@@ -411,7 +412,9 @@ class Function:
         me = f'Rattle.{self.crate}.proofs.{self.name}'
         own = [f'use {me}.Key.{{name as {self.symbol}}}', f'use {me} as it', f'use {me}.Statement as stated', f'use {me}.Code as code']
         about = [f'-- `{self.crate}::{self.name}` meets its contract: a walk of its MIR, made by tools/walks/{self.script}.py.'] + [f'-- {line}' for line in self.about]
-        head = about + imports_for(text, [r.name for r in self.rows]) + rows + [u.replace('CRATE', f'Rattle.{self.crate}.proofs').replace('SPECS', f'Rattle.{self.crate}.specs') for u in self.uses] + callees + own
+        uses = [line for u in self.uses for line in ([u] if isinstance(u, str) else use_of(u[0], u[1].split(), text))]
+        uses = [u.replace('CRATE', f'Rattle.{self.crate}.proofs').replace('SPECS', f'Rattle.{self.crate}.specs') for u in uses]
+        head = about + imports_for(text, [r.name for r in self.rows]) + rows + uses + callees + own
         folder = os.path.join(CRATES, self.crate, 'proofs', self.name)
         os.makedirs(folder, exist_ok=True)
         with open(os.path.join(folder, 'Proof.antt'), 'w') as file:

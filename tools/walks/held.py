@@ -8,13 +8,16 @@ from shapes import U32, USIZE, Callee, Lent, Plain, number
 FIRST, LONG, ROW_OF = '(lentRow n (f .row))', '(row-length (f .row) (row-of f is-f))', '(row-of f is-f)'
 FEW = f'n (f .row) (counted .1) {LONG}'
 RECORDS = Records()
+USES = [('Rattle.model.specs.Calls', 'called beginCall stepCall'), ('Rattle.calls.specs.Lent', 'lent'), ('SPECS.Held', 'recordsLent memoryOf firstOf heldFormat heldBegin heldStep'),
+        ('CRATE.Rows', 'Row rowMir rowVal row-typed row-length first-length first-room root-of row-of parties-of sizes-parties held-made format-made begin-made step-made'),
+        ('CRATE.Lending', 'lentRow rowWith LentLies LentPart RestLies root-lies root-again shared-back row-cut row-joined'), ('CRATE.Ends', 'formatWith held-left')]
 
 
 class Held:
     """One of the three. `rest` are its parameters after the words and `given` the text of their values, `index` and `held` the
     definitions of the call, `parties` the number of parties (its text, its relation and the field that has it)."""
 
-    def __init__(self, name, shared, rest, given, answer, result, index, held, parties, locals, about, uses):
+    def __init__(self, name, shared, rest, given, answer, result, index, held, parties, locals):
         self.shared, self.answer, self.result, self.parties = shared, answer, result, parties
         self.root_local = 4 + len(rest)
         kind = 'Shr' if shared else 'Mut'
@@ -29,11 +32,9 @@ class Held:
         self.function = Function(
             'held', name, [Plain(HELD, 'f', 'is-f'), self.locks, self.pages, *rest], result, [self.count, self.call], locals,
             lambda r, last: f'called ({r} .answer) (memoryOf ({r} .held) {"ls gs" if shared else " ".join(last)}) ≡ {held} (memoryOf f ls gs) {given}',
-            about,
-            [f'use Rattle.model.specs.Calls.{{called{", " + index if index.endswith("Call") else ""}}}', 'use Rattle.calls.specs.Lent.{lent}', f'use SPECS.Held.{{recordsLent, memoryOf, firstOf, {held}}}',
-             f'use CRATE.Rows.{{Row, rowMir, rowVal, row-typed, row-length, root-of, row-of, {uses[0]}, first-length, first-room, held-made, {self.made}}}',
-             f'use CRATE.Lending.{{lentRow, rowWith, LentLies, LentPart, RestLies, root-lies, root-again, {uses[1]}row-cut, row-joined}}', f'use CRATE.Ends.{{{uses[2]}held-left}}'],
-            [ROOT, PARTY, *[p.row for p in rest if p.row in (SIZES, OPERATION)], answer, HELD, result], script='held')
+            [f'The root and the first records of the row, in locals, are lent for one call of `index::{name}`, with the words {"only looked at" if shared else "passed on for good"};',
+             'they come back, and what is held is put together again.'],
+            USES, [ROOT, PARTY, *[p.row for p in rest if p.row in (SIZES, OPERATION)], answer, HELD, result], script='held')
 
     def left(self, ends):
         """The memory that the call of `index` left."""
@@ -54,7 +55,7 @@ class Held:
         to_root, to_row, first = next(after), next(after), next(after)
         w.address(to_root)
         w.address(to_row)
-        w.slice_of(self.row, to_row, n, 'n', '(in′ .1)', first, f'(first-length {FEW})')
+        w.slice_of(self.row, to_row, n, '(in′ .1)', first, f'(first-length {FEW})')
         words = [2, 3]
         if not self.shared:
             for k, p in enumerate((self.locks, self.pages)):
@@ -88,14 +89,7 @@ class Held:
         self.function.write(self.body())
 
 
-i, key, ROOTS = number('i'), number('key'), ('(f .root .parties)', '(parties-of (f .root) (root-of f is-f))', 'root')
-ABOUT = 'come back, and what is held is put together again.'
-Held('format', False, [Plain(SIZES, 'z', 'iz')], 'z', FORMAT_ANSWER, HELD_FORMAT, 'formatWith', 'heldFormat', ('(z .parties)', '(sizes-parties z iz)', (4, 4)), 19,
-     ['The root and the first records of the row, in locals, are lent for one call of `index::format`, with the words passed on for good; they', ABOUT],
-     ('sizes-parties', '', 'formatWith, ')).write()
-Held('begin', True, [i, Plain(OPERATION, 'o', 'io'), key], 'i o key', BEGIN_ANSWER, HELD_BEGIN, 'beginCall', 'heldBegin', ROOTS, 18,
-     ['The root and the first records of the row, in locals, are lent for one call of `index::begin`, with the words only looked at; they', ABOUT],
-     ('parties-of', 'shared-back, ', '')).write()
-Held('step', False, [i], 'i', STEP_ANSWER, HELD_STEP, 'stepCall', 'heldStep', ROOTS, 20,
-     ['The root and the first records of the row, in locals, are lent for one call of `index::step`, with the words passed on for good; they', ABOUT],
-     ('parties-of', '', '')).write()
+i, key, OF_ROOT = number('i'), number('key'), ('(f .root .parties)', '(parties-of (f .root) (root-of f is-f))', 'root')
+Held('format', False, [Plain(SIZES, 'z', 'iz')], 'z', FORMAT_ANSWER, HELD_FORMAT, 'formatWith', 'heldFormat', ('(z .parties)', '(sizes-parties z iz)', (4, 4)), 19).write()
+Held('begin', True, [i, Plain(OPERATION, 'o', 'io'), key], 'i o key', BEGIN_ANSWER, HELD_BEGIN, 'beginCall', 'heldBegin', OF_ROOT, 18).write()
+Held('step', False, [i], 'i', STEP_ANSWER, HELD_STEP, 'stepCall', 'heldStep', OF_ROOT, 20).write()

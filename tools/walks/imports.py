@@ -67,12 +67,16 @@ def occurs(name, text):
     return f' {symbol} ' in text or f'({symbol}' in text or f'{symbol})' in text or symbol in '[]'
 
 
+def use_of(module, names, text):
+    """The `use` line of those of the names that occur, if any does."""
+    found = [n for n in names if occurs(n, text)]
+    return [f'use {module}.{{{", ".join(found)}}}'] if found else []
+
+
 def imports_for(text, declared=()):
     """A name that the text's own types have is not the kit's."""
     code = '\n'.join(line for line in text.split('\n') if not line.strip().startswith('--'))
     lines = []
     for module, names in NAMES:
-        found = [n for n in names.split() if n not in declared and occurs(n, code)]
-        if found:
-            lines.append(f'use {module}.{{{", ".join(found)}}}')
+        lines += use_of(module, [n for n in names.split() if n not in declared], code)
     return lines + [f'use {module} as {name}' for module, name in WHOLE if re.search(r'(?<!' + PART + ')' + name + r'\.', code)]

@@ -41,8 +41,8 @@ class Lender(Body):
         """The address of a local."""
         self.assign('(addr ! (from ! (stop !)))', into, '(tt, tt)')
 
-    def slice_of(self, p, pointer, count, n, fits, into, short):
-        """The slice of the first n elements, of a pointer and a count that are in locals."""
+    def slice_of(self, p, pointer, count, fits, into, short):
+        """The slice of the first elements, of a pointer and a count that are in locals."""
         self.assign(f'(agg ! {self.operands([self.whole(pointer), self.whole(count)])})', into, f'(tt, (tt, (record {{ fits = {fits} }}, tt)))')
         self.line(f'rewrite ! {self.at(f"L{into}")} (λ (k : ℕ). ‵ (fat fullShare (sliceTy (tyRef erased mut (pointee ({p.row.row} .written)))) {local(into)} 0 '
                   f'(sliceVal ({p.b}, 0) k))) (sym {short}) refl $')

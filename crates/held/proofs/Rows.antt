@@ -2,7 +2,7 @@
 -- Main statements: row-tells, row-typed, row-length (the row); root-of, row-of, parties-of, sizes-parties (parts of what is held); held-made, format-made, begin-made, step-made (what is put together of parts).
 use mathlib.Core.Path.{_≡_, refl, sym, _∙_, subst}
 use mathlib.Core.List.{List, [], _∷_, map}
-use Prim.Native.Nat.{ℕ, _<_, _≤_, _*_, _^_, min}
+use Prim.Native.Nat.{ℕ, _≤_, min}
 use native.Mathlib.Nat.{min-eq-left}
 use native.Mathlib.Omega.{arith}
 use lib.Dec.{T}
@@ -29,13 +29,10 @@ use Rattle.model.proofs.Party.Laws as P′
 use Rattle.model.specs.declared.FileSizes.{FileSizes}
 use Rattle.model.proofs.FileSizes as Z
 use Rattle.model.proofs.FileSizes.Laws as Z′
-use Rattle.model.specs.declared.FormatAnswer.{FormatAnswer}
 use Rattle.model.proofs.FormatAnswer as F
 use Rattle.model.proofs.FormatAnswer.Laws as F′
-use Rattle.model.specs.declared.BeginAnswer.{BeginAnswer}
 use Rattle.model.proofs.BeginAnswer as B
 use Rattle.model.proofs.BeginAnswer.Laws as B′
-use Rattle.model.specs.declared.StepAnswer.{StepAnswer}
 use Rattle.model.proofs.StepAnswer as N
 use Rattle.model.proofs.StepAnswer.Laws as N′
 use Rattle.held.specs.declared.Held.{Held}

@@ -1,6 +1,5 @@
 -- The file held by value: which memory a call is lent, and what is held after it.
 -- Main definitions: recordsLent, memoryOf; heldFormat, heldBegin, heldStep: each gives the answer, all that is held and all lent words afterwards.
-use mathlib.Core.Bool.{cond}
 use mathlib.Core.List.{List, _++_}
 use Prim.Native.Nat.{ℕ, min}
 use lib.ListN.{take, drop}

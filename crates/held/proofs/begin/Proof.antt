@@ -1,6 +1,6 @@
 -- `held::begin` meets its contract: a walk of its MIR, made by tools/walks/held.py.
--- The root and the first records of the row, in locals, are lent for one call of `index::begin`, with the words only looked at; they
--- come back, and what is held is put together again.
+-- The root and the first records of the row, in locals, are lent for one call of `index::begin`, with the words only looked at;
+-- they come back, and what is held is put together again.
 use mathlib.Core.Path.{_≡_, refl, sym, ap, subst}
 use Prim.Native.Nat.{ℕ, _<_, _≤_, _^_}
 use mathlib.Core.List.{[], _∷_, List}
@@ -65,7 +65,7 @@ use Rattle.held.proofs.HeldBegin.Laws as E′
 use Rattle.model.specs.Calls.{called, beginCall}
 use Rattle.calls.specs.Lent.{lent}
 use Rattle.held.specs.Held.{recordsLent, memoryOf, firstOf, heldBegin}
-use Rattle.held.proofs.Rows.{Row, rowMir, rowVal, row-typed, row-length, root-of, row-of, parties-of, first-length, first-room, held-made, begin-made}
+use Rattle.held.proofs.Rows.{Row, rowMir, rowVal, row-typed, row-length, first-length, first-room, root-of, row-of, parties-of, held-made, begin-made}
 use Rattle.held.proofs.Lending.{lentRow, rowWith, LentLies, LentPart, RestLies, root-lies, root-again, shared-back, row-cut, row-joined}
 use Rattle.held.proofs.Ends.{held-left}
 use Rattle.held.proofs.records_lent as count

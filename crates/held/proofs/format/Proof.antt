@@ -1,6 +1,6 @@
 -- `held::format` meets its contract: a walk of its MIR, made by tools/walks/held.py.
--- The root and the first records of the row, in locals, are lent for one call of `index::format`, with the words passed on for good; they
--- come back, and what is held is put together again.
+-- The root and the first records of the row, in locals, are lent for one call of `index::format`, with the words passed on for good;
+-- they come back, and what is held is put together again.
 use mathlib.Core.Path.{_≡_, refl, sym, ap, subst}
 use Prim.Native.Nat.{ℕ, _≤_}
 use mathlib.Core.List.{[], _∷_, List}
@@ -65,7 +65,7 @@ use Rattle.held.proofs.HeldFormat.Laws as E′
 use Rattle.model.specs.Calls.{called}
 use Rattle.calls.specs.Lent.{lent}
 use Rattle.held.specs.Held.{recordsLent, memoryOf, firstOf, heldFormat}
-use Rattle.held.proofs.Rows.{Row, rowMir, rowVal, row-typed, row-length, root-of, row-of, sizes-parties, first-length, first-room, held-made, format-made}
+use Rattle.held.proofs.Rows.{Row, rowMir, rowVal, row-typed, row-length, first-length, first-room, root-of, row-of, sizes-parties, held-made, format-made}
 use Rattle.held.proofs.Lending.{lentRow, rowWith, LentLies, LentPart, RestLies, root-lies, root-again, row-cut, row-joined}
 use Rattle.held.proofs.Ends.{formatWith, held-left}
 use Rattle.held.proofs.records_lent as count

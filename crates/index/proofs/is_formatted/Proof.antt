@@ -1,6 +1,5 @@
 -- `index::is_formatted` meets its contract.
 use borrow.Author.Needs.{needs}
-use Rattle.index.specs.Answered.{isFormatted}
 use Rattle.index.proofs.is_formatted.Statement.{statement}
 use Rattle.index.proofs.is_formatted.Tie as tie
 
