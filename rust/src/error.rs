@@ -1,0 +1,151 @@
+//! Why a call was refused, and why an operation could not be run to its end.
+
+use crate::answers::unknown;
+use crate::wait::Wait;
+use std::error;
+use std::fmt;
+
+/// Why a call was refused: the causes of the specification's table, with its numbers. A refused call alters nothing.
+///
+/// The causes are tested in this order, and the first one met is given.
+///
+/// ```
+/// use bead_index::{File, Operation, Refusal, Sizes};
+///
+/// let mut file = File::new(Sizes::new().parties(2)).unwrap();
+/// let refusal = file.begin(2, Operation::find(7)).unwrap_err();
+/// assert_eq!(refusal, Refusal::Party);
+/// assert_eq!(refusal.number(), 3);
+/// assert_eq!(refusal.to_string(), "there is no such party (refusal 3)");
+/// ```
+#[derive(Clone, Copy, Debug, PartialEq, Eq, Hash)]
+#[non_exhaustive]
+pub enum Refusal {
+    /// A size is outside its limits: of those given to make a file, else of the root record's.
+    Size = 2,
+    /// The memory lent is longer or shorter than the sizes ask for.
+    Length = 1,
+    /// The party's number is not below the number of parties.
+    Party = 3,
+    /// An operation is begun for a party whose last one is not done.
+    Busy = 4,
+    /// A step is asked of a party that has no operation under way.
+    Idle = 5,
+    /// A number that the call needs is damaged. Where only the library wrote, that does not happen.
+    Damage = 6,
+}
+
+impl Refusal {
+    /// The number in the specification's table.
+    #[must_use]
+    pub const fn number(self) -> u32 {
+        self as u32
+    }
+
+    /// What a number of the library means: 0 is no refusal.
+    pub(crate) fn check(number: u32) -> Result<(), Refusal> {
+        Err(match number {
+            0 => return Ok(()),
+            1 => Refusal::Length,
+            2 => Refusal::Size,
+            3 => Refusal::Party,
+            4 => Refusal::Busy,
+            5 => Refusal::Idle,
+            6 => Refusal::Damage,
+            _ => unknown("refusal", number),
+        })
+    }
+}
+
+impl fmt::Display for Refusal {
+    fn fmt(&self, out: &mut fmt::Formatter<'_>) -> fmt::Result {
+        let cause = match self {
+            Refusal::Size => "a size is outside its limits",
+            Refusal::Length => "the memory lent has another length than the sizes ask for",
+            Refusal::Party => "there is no such party",
+            Refusal::Busy => "the party's last operation is not done",
+            Refusal::Idle => "the party has no operation under way",
+            Refusal::Damage => "a number in the file is damaged",
+        };
+        write!(out, "{cause} (refusal {})", self.number())
+    }
+}
+
+impl error::Error for Refusal {}
+
+/// Why an operation could not be run to its end, or the keys not be listed.
+#[derive(Clone, Debug, PartialEq, Eq)]
+#[non_exhaustive]
+pub enum Error {
+    /// A call was refused.
+    Refused(Refusal),
+    /// The operation waits for other parties. It stays under way: step those, then call
+    /// [`finish`](crate::File::finish).
+    Waits(Wait),
+    /// The operation is done and changed nothing: too few overflow pages are free to write the chain anew.
+    NoPage,
+    /// The keys are listed at rest alone, and this party has an operation under way.
+    UnderWay {
+        /// The first such party.
+        party: u32,
+    },
+    /// The party's find goes round in a circle of pages, which only something else than the library can have written.
+    /// The operation stays under way.
+    Circle {
+        /// The party.
+        party: u32,
+    },
+}
+
+impl fmt::Display for Error {
+    fn fmt(&self, out: &mut fmt::Formatter<'_>) -> fmt::Result {
+        match self {
+            Error::Refused(refusal) => refusal.fmt(out),
+            Error::Waits(wait) => write!(out, "{wait}; the operation stays under way"),
+            Error::NoPage => {
+                out.write_str("too few overflow pages are free, and the key is as it was")
+            }
+            Error::UnderWay { party } => write!(
+                out,
+                "the file is not at rest: party {party} has an operation under way"
+            ),
+            Error::Circle { party } => write!(
+                out,
+                "party {party} goes round in a circle of pages: the file is damaged"
+            ),
+        }
+    }
+}
+
+impl error::Error for Error {}
+
+impl From<Refusal> for Error {
+    fn from(refusal: Refusal) -> Self {
+        Error::Refused(refusal)
+    }
+}
+
+#[cfg(test)]
+mod tests {
+    use super::*;
+
+    #[test]
+    fn refusals_have_the_numbers_of_the_table() {
+        for number in 1..=6 {
+            assert_eq!(Refusal::check(number).unwrap_err().number(), number);
+        }
+        assert_eq!(Refusal::check(0), Ok(()));
+    }
+
+    #[test]
+    fn errors_read_well() {
+        assert_eq!(
+            Error::from(Refusal::Busy).to_string(),
+            "the party's last operation is not done (refusal 4)"
+        );
+        assert_eq!(
+            Error::UnderWay { party: 3 }.to_string(),
+            "the file is not at rest: party 3 has an operation under way"
+        );
+    }
+}

@@ -1,0 +1,84 @@
+//! A file of 32-bit keys that up to sixteen parties share, taking turns in any order: a linear hash file under
+//! Ellis's locks, proved for every order of turns and all words of memory.
+//!
+//! One [`File`] is enough for a set that is kept, saved and loaded:
+//!
+//! ```
+//! use bead_index::{File, Sizes};
+//!
+//! # fn main() -> Result<(), bead_index::Error> {
+//! let mut file = File::new(Sizes::new())?;
+//! assert!(file.insert(1042)?); // it was out, and is in
+//! assert!(!file.insert(1042)?); // it was in
+//! assert!(file.find(1042)?);
+//! assert!(file.delete(1042)?);
+//! assert_eq!(file.keys()?.count(), 0);
+//! # Ok(())
+//! # }
+//! ```
+//!
+//! Parties share it step by step. A party [begins](File::begin) an operation, and each call of [`step`](File::step)
+//! performs one step of it. The caller picks whose step is next; locks see to it that every order comes out right. Of
+//! the parties that have an operation under way at least one can always move.
+//!
+//! ```
+//! use bead_index::{Answer, File, Operation, Outcome, Sizes};
+//!
+//! # fn main() -> Result<(), bead_index::Error> {
+//! let mut file = File::new(Sizes::new().parties(2))?;
+//! file.begin(0, Operation::insert(7))?;
+//! file.begin(1, Operation::find(7))?;
+//! let mut answers = Vec::new();
+//! while answers.len() < 2 {
+//!     for party in 0..2 {
+//!         if file.under_way(party)?.is_none() {
+//!             continue;
+//!         }
+//!         match file.step(party)? {
+//!             Outcome::Waiting => println!("{}", file.wait(party).expect("a party waits for somebody")),
+//!             Outcome::Moved => {}
+//!             Outcome::Done { answer, .. } => answers.push((party, answer)),
+//!         }
+//!     }
+//! }
+//! // The find looked at the chain before the insert wrote it.
+//! assert_eq!(answers, [(1, Answer::Absent), (0, Answer::Inserted)]);
+//! # Ok(())
+//! # }
+//! ```
+//!
+//! [`FileRef`] is the same over memory that the caller owns, such as a mapped file. Nothing is kept elsewhere: the
+//! words of a file are the file.
+//!
+//! # What is proved, and what is not
+//!
+//! The library that this crate links is proved: what each call leaves in every word, and what that means for all
+//! parties together. This crate is plain Rust over it. Its calls ([`File::begin`], [`File::step`] and making a file)
+//! pass words on and turn numbers into names; what reads the words itself ([`File::wait`], [`File::keys`], `Debug`) is
+//! tested.
+//!
+//! # Stack
+//!
+//! Most calls need less than 2 KB of stack; the most that one was measured to need is 471 KB, on the longest chain
+//! that there can be.
+
+#![deny(unsafe_code)]
+#![warn(missing_docs)]
+
+mod answers;
+mod chains;
+mod error;
+mod file;
+mod memory;
+mod sizes;
+mod sys;
+mod wait;
+
+pub use answers::{Answer, Kind, Operation, Outcome, Restructuring, UnderWay};
+pub use chains::Keys;
+pub use error::{Error, Refusal};
+pub use file::{File, FileRef};
+pub use memory::{Lent, Memory, Owned, PartyRecord, RootRecord};
+pub use sizes::Sizes;
+pub use sys::words_of_bytes;
+pub use wait::{Lock, Mode, Wait};
