@@ -1,0 +1,253 @@
+//! Parties in a random order against a plain set: every answer is the one that the set gives at the operation's
+//! decisive step, a party waits exactly where it is said to, and somebody can always move.
+
+mod common;
+
+use bead_index::{Answer, File, Kind, Operation, Outcome, Restructuring, Sizes, UnderWay};
+use common::Random;
+use std::collections::HashSet;
+
+/// The set book of the specification: a set of keys, and the answer that each party's operation must give.
+struct Book {
+    keys: HashSet<u32>,
+    notes: Vec<Option<Answer>>,
+}
+
+impl Book {
+    fn new(parties: u32) -> Self {
+        Book {
+            keys: HashSet::new(),
+            notes: vec![None; parties as usize],
+        }
+    }
+
+    /// Enters the step that a party performed. A find is decided by its last step 6, an operation that changes nothing
+    /// by step 10, one that changes something by step 11.
+    fn enter(&mut self, party: u32, under_way: UnderWay) {
+        let key = under_way.operation.key();
+        let is_in = self.keys.contains(&key);
+        let note = match (under_way.step, under_way.operation.kind()) {
+            (6, Kind::Find) if is_in => Answer::Found,
+            (6, Kind::Find) => Answer::Absent,
+            (10, Kind::Insert) if is_in => Answer::Present,
+            (10, Kind::Delete) if !is_in => Answer::Absent,
+            (10, _) => Answer::NoPage,
+            (11, Kind::Insert) if self.keys.insert(key) => Answer::Inserted,
+            (11, Kind::Insert) => Answer::Present,
+            (11, Kind::Delete) if self.keys.remove(&key) => Answer::Deleted,
+            (11, Kind::Delete) => Answer::Absent,
+            _ => return,
+        };
+        self.notes[party as usize] = Some(note);
+    }
+}
+
+/// How often each outcome was met.
+#[derive(Default)]
+struct Met {
+    waits: usize,
+    answers: Vec<Answer>,
+    restructurings: Vec<Restructuring>,
+}
+
+impl Met {
+    fn times(&self, restructuring: Restructuring) -> usize {
+        self.restructurings
+            .iter()
+            .filter(|&&it| it == restructuring)
+            .count()
+    }
+}
+
+/// A file, its book, and what was met.
+struct Run {
+    file: File,
+    book: Book,
+    met: Met,
+    random: Random,
+}
+
+impl Run {
+    fn new(sizes: Sizes, seed: u64) -> Self {
+        let file = File::new(sizes).expect("the sizes are within their limits");
+        Run {
+            file,
+            book: Book::new(sizes.parties),
+            met: Met::default(),
+            random: Random::new(seed),
+        }
+    }
+
+    /// Begins an operation on one of a number of keys; inserts and deletes prevail in turn.
+    fn begin(&mut self, party: u32, keys: u32, growing: bool) {
+        let key = self.random.below(keys).wrapping_mul(2_654_435_761);
+        let operation = match self.random.below(8) {
+            0 | 1 => Operation::find(key),
+            2 => Operation::new(if growing { Kind::Delete } else { Kind::Insert }, key),
+            _ => Operation::new(if growing { Kind::Insert } else { Kind::Delete }, key),
+        };
+        self.file
+            .begin(party, operation)
+            .expect("the party is idle");
+        self.book.notes[party as usize] = None;
+    }
+
+    /// One step of a party that has an operation under way.
+    fn step(&mut self, party: u32, under_way: UnderWay) {
+        let wait = self.file.wait(party);
+        let before = wait.is_some().then(|| self.file.words().to_vec());
+        let outcome = self.file.step(party).expect("nothing is damaged");
+        assert_eq!(
+            outcome == Outcome::Waiting,
+            wait.is_some(),
+            "party {party}, {under_way}: {outcome}, {wait:?}"
+        );
+        if let Some(before) = before {
+            assert!(self.file.words() == before, "a waiting step altered a word");
+            self.met.waits += 1;
+            return;
+        }
+        self.book.enter(party, under_way);
+        if let Outcome::Done {
+            answer,
+            restructuring,
+            ..
+        } = outcome
+        {
+            assert_eq!(
+                Some(answer),
+                self.book.notes[party as usize],
+                "party {party}, {under_way}"
+            );
+            self.met.answers.push(answer);
+            self.met.restructurings.push(restructuring);
+        }
+    }
+
+    /// Brings every operation to its end, in rounds; in each somebody moves.
+    fn settle(&mut self) {
+        while !self.file.is_at_rest() {
+            let parties = 0..self.file.sizes().parties;
+            let busy: Vec<_> = parties
+                .filter_map(|party| Some((party, self.file.under_way(party).unwrap()?)))
+                .collect();
+            assert!(
+                busy.iter()
+                    .any(|&(party, _)| self.file.wait(party).is_none()),
+                "all wait: {:?}",
+                self.file
+            );
+            for (party, under_way) in busy {
+                self.step(party, under_way);
+            }
+        }
+    }
+
+    /// At rest the file has the keys of the set, and as many chains as splits and merges left.
+    fn compare(&self) {
+        let keys: Vec<u32> = self.file.keys().expect("the file is at rest").collect();
+        assert_eq!(
+            keys.len(),
+            self.book.keys.len(),
+            "a key stands twice, or is missing"
+        );
+        assert_eq!(keys.into_iter().collect::<HashSet<_>>(), self.book.keys);
+        let made = self.met.times(Restructuring::Split) - self.met.times(Restructuring::Merged);
+        assert_eq!(
+            self.file.chain_count(),
+            Ok(self.file.sizes().original_chains + made as u32)
+        );
+    }
+
+    /// Turns of parties picked at random, with rests in between.
+    fn turns(&mut self, turns: u32, keys: u32) {
+        for turn in 0..turns {
+            let party = self.random.below(self.file.sizes().parties);
+            match self.file.under_way(party).unwrap() {
+                Some(under_way) => self.step(party, under_way),
+                None => self.begin(party, keys, turn / 2000 % 2 == 0),
+            }
+            if turn % 1000 == 999 {
+                self.settle();
+                self.compare();
+            }
+        }
+    }
+}
+
+#[test]
+fn every_order_answers_as_a_set_does() {
+    let sizes = |chains, keys, most, overflow, parties| {
+        let sizes = Sizes::new()
+            .original_chains(chains)
+            .keys_a_page(keys)
+            .most_chains(most);
+        sizes.overflow_pages(overflow).parties(parties)
+    };
+    let mut all = Met::default();
+    for (seed, (sizes, keys)) in (1..).zip([
+        (sizes(1, 1, 2, 0, 1), 4),
+        (sizes(1, 1, 1, 3, 3), 6),
+        (sizes(2, 2, 16, 8, 5), 50),
+        (sizes(1, 3, 64, 40, 16), 250),
+        (sizes(3, 1, 96, 120, 4), 90),
+        (sizes(1, 12, 256, 752, 16), 3000),
+    ]) {
+        let mut run = Run::new(sizes, seed);
+        run.turns(8000, keys);
+        all.waits += run.met.waits;
+        all.answers.append(&mut run.met.answers);
+        all.restructurings.append(&mut run.met.restructurings);
+    }
+    let answers: HashSet<_> = all.answers.iter().collect();
+    let restructurings: HashSet<_> = all.restructurings.iter().collect();
+    assert_eq!(
+        (answers.len(), restructurings.len()),
+        (6, 5),
+        "not all were met: {answers:?} {restructurings:?}"
+    );
+    assert!(all.waits > 1000, "only {} waits", all.waits);
+}
+
+#[test]
+fn a_saved_file_goes_on_where_it_was() {
+    let mut run = Run::new(
+        Sizes::new()
+            .keys_a_page(2)
+            .most_chains(32)
+            .overflow_pages(40)
+            .parties(6),
+        99,
+    );
+    for _ in 0..40 {
+        run.turns(150, 60);
+        run.file = File::from_words(run.file.clone().into_words()).expect("the words are a file");
+    }
+    run.settle();
+    run.compare();
+}
+
+#[test]
+fn one_party_alone_never_waits() {
+    let mut file = File::new(
+        Sizes::new()
+            .keys_a_page(2)
+            .most_chains(16)
+            .overflow_pages(20)
+            .parties(2),
+    )
+    .unwrap();
+    let mut keys = HashSet::new();
+    let mut random = Random::new(7);
+    for turn in 0..2000 {
+        let key = random.below(40);
+        let party = random.below(2);
+        assert_eq!(file.find_as(party, key), Ok(keys.contains(&key)));
+        if (turn / 200) % 2 == 0 {
+            assert_eq!(file.insert_as(party, key), Ok(keys.insert(key)));
+        } else {
+            assert_eq!(file.delete_as(party, key), Ok(keys.remove(&key)));
+        }
+    }
+    assert_eq!(file.keys().unwrap().collect::<HashSet<_>>(), keys);
+}
