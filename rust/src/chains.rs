@@ -153,6 +153,9 @@ impl fmt::Debug for ChainShown<'_> {
             Err(_) => return out.write_str(" damaged"),
         };
         write!(out, " (level {}):", pages[0].level())?;
+        if pages[0].count() == 0 {
+            return out.write_str(" empty");
+        }
         for (number, page) in pages.into_iter().enumerate() {
             if number > 0 {
                 out.write_str(" |")?;
