@@ -284,7 +284,7 @@ impl<M: Memory> File<M> {
 
     /// The chain that splits next.
     #[must_use]
-    pub fn next(&self) -> u32 {
+    pub fn next_to_split(&self) -> u32 {
         self.memory.parts().root.next
     }
 

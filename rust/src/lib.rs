@@ -50,6 +50,25 @@
 //! [`FileRef`] is the same over memory that the caller owns, such as a mapped file. Nothing is kept elsewhere: the
 //! words of a file are the file.
 //!
+//! # Threads
+//!
+//! One call at a time: parties that are threads share the file under a mutex, and lock it for a step.
+//!
+//! ```
+//! use bead_index::{File, Operation, Sizes};
+//! use std::{sync::Mutex, thread};
+//!
+//! let file = Mutex::new(File::new(Sizes::new().parties(4)).unwrap());
+//! let step = |party| file.lock().unwrap().step(party).unwrap();
+//! thread::scope(|scope| {
+//!     for party in 0..4 {
+//!         file.lock().unwrap().begin(party, Operation::insert(100 + party)).unwrap();
+//!         scope.spawn(move || while step(party).answer().is_none() {});
+//!     }
+//! });
+//! assert_eq!(file.into_inner().unwrap().keys().unwrap().len(), 4);
+//! ```
+//!
 //! # What is proved, and what is not
 //!
 //! The library that this crate links is proved: what each call leaves in every word, and what that means for all
