@@ -109,32 +109,31 @@ impl<'a> Parts<'a> {
         }
     }
 
-    /// Shows the file under a name.
-    pub(crate) fn show(self, name: &str, out: &mut fmt::Formatter<'_>) -> fmt::Result {
+    /// Shows the file: its root record, its chains, and the operations under way.
+    pub(crate) fn show(self, out: &mut fmt::Formatter<'_>) -> fmt::Result {
         let root = self.root;
-        let shown = |chain| ChainShown { parts: self, chain };
-        let chains: Vec<_> = (0..self.chain_count().unwrap_or(root.primaries))
-            .map(shown)
+        let (n, b, p, v, q) = (
+            root.originals,
+            root.capacity,
+            root.primaries,
+            root.overflow,
+            root.parties,
+        );
+        let count = self.chain_count().unwrap_or(p);
+        let chains: Vec<_> = (0..count)
+            .map(|chain| ChainShown { parts: self, chain })
             .collect();
-        let busy = (0..)
-            .zip(self.parties)
-            .filter(|(_, record)| record.operation != 0);
-        let under_way: Vec<_> = busy
-            .filter_map(|(party, _)| self.under_way(party).map(|it| format!("{party}: {it}")))
-            .collect();
-        out.debug_struct(name)
-            .field(
-                "sizes",
-                &format_args!(
-                    "N {} b {} P {} V {} Q {}",
-                    root.originals, root.capacity, root.primaries, root.overflow, root.parties
-                ),
-            )
+        let under_way = |party| Some(format!("{party}: {}", self.under_way(party)?));
+        out.debug_struct("File")
+            .field("sizes", &format_args!("N {n} b {b} P {p} V {v} Q {q}"))
             .field("level", &root.level)
             .field("next", &root.next)
             .field("free", &root.free)
             .field("chains", &chains)
-            .field("under_way", &under_way)
+            .field(
+                "under_way",
+                &(0..q).filter_map(under_way).collect::<Vec<_>>(),
+            )
             .finish()
     }
 }
@@ -153,7 +152,7 @@ impl fmt::Debug for ChainShown<'_> {
             Err(_) => return out.write_str(" damaged"),
         };
         write!(out, " (level {}):", pages[0].level())?;
-        if pages[0].count() == 0 {
+        if pages.iter().all(|page| page.keys().is_empty()) {
             return out.write_str(" empty");
         }
         for (number, page) in pages.into_iter().enumerate() {

@@ -89,6 +89,8 @@ mod chains;
 mod error;
 mod file;
 mod memory;
+mod reading;
+mod running;
 mod sizes;
 mod sys;
 mod wait;
@@ -101,3 +103,8 @@ pub use memory::{Lent, Memory, Owned, PartyRecord, RootRecord};
 pub use sizes::Sizes;
 pub use sys::words_of_bytes;
 pub use wait::{Lock, Mode, Wait};
+
+/// The example of README.md, which is run with those of the documentation.
+#[cfg(doctest)]
+#[doc = include_str!("../README.md")]
+struct Readme;

@@ -64,7 +64,8 @@ pub(crate) fn format(lent: Lent<'_>, sizes: &Sizes) -> u32 {
         locks,
         pages,
     } = lent;
-    // SAFETY: four parts that are lent for writing do not overlap, and each goes with its own length. The library takes any words and any sizes.
+    // SAFETY: four parts that are lent for writing do not overlap, and each goes with its own length.
+    // The library takes any words and any sizes.
     unsafe {
         bead_format(
             root,
