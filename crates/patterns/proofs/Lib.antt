@@ -4,3 +4,5 @@ pub mod Scanning
 pub mod Spelling
 pub mod Matching
 pub mod Filling
+pub mod Numerals
+pub mod Theorems
