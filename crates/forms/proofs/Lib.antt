@@ -1,0 +1,2 @@
+-- Laws that the proofs of this crate share, and the theorems on forms and replies.
+pub mod Rows

@@ -1,0 +1,45 @@
+-- The forms that turns reads (document 01, "turns"): each has a pattern and the numbers in it.
+-- Main definitions: formPattern and formNumbers, a row for each form; FormLine (the lines that the grammar derives for a form); formText (as it is printed).
+use mathlib.Core.List.{List, [], _∷_}
+use Prim.Native.Nat.{ℕ}
+use Rattle.model.specs.declared.FileSizes.{FileSizes}
+use Rattle.model.specs.declared.Operation.{Operation}
+use Rattle.model.specs.declared.Operation.the-variants as Operation
+use Rattle.patterns.specs.Texts.{bytes}
+use Rattle.patterns.specs.Patterns.{filled}
+use Rattle.patterns.specs.Grammar.{Derives}
+use Rattle.forms.specs.declared.Form.{Form}
+use Rattle.forms.specs.declared.Form.the-variants as Form
+
+abbrev pub stepForm : List ℕ
+stepForm = bytes "(step #)"
+
+abbrev pub formatForm : List ℕ
+formatForm = bytes "(format # # # # #)"
+
+abbrev pub beginForm : Operation → List ℕ
+beginForm Operation.Find = bytes "(begin # (find #))"
+beginForm Operation.Insert = bytes "(begin # (insert #))"
+beginForm Operation.Delete = bytes "(begin # (delete #))"
+
+unfoldable pub formPattern : Form → List ℕ
+formPattern (Form.Format s) = formatForm
+formPattern (Form.Begin q o k) = beginForm o
+formPattern (Form.Step q) = stepForm
+
+-- "(format N b P V Q)".
+unfoldable pub sizeNumbers : FileSizes → List ℕ
+sizeNumbers s = s .originals ∷ (s .capacity ∷ (s .primaries ∷ (s .overflow ∷ (s .parties ∷ []))))
+
+unfoldable pub formNumbers : Form → List ℕ
+formNumbers (Form.Format s) = sizeNumbers s
+formNumbers (Form.Begin q o k) = q ∷ (k ∷ [])
+formNumbers (Form.Step q) = q ∷ []
+
+-- The lines that are this form: numbers of one to ten digits, single spaces, nothing before or after.
+unfoldable pub FormLine : Form → List ℕ → Type 0
+FormLine f line = Derives (formPattern f) (formNumbers f) line
+
+-- A form as it is printed, its numbers without leading zeros.
+unfoldable pub formText : Form → List ℕ
+formText f = filled (formPattern f) (formNumbers f)

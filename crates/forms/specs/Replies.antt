@@ -1,0 +1,115 @@
+-- The replies that turns prints (document 01, "turns"): each has a pattern and the numbers in it.
+-- Main definitions: replyPattern and replyNumbers, a row for each reply; a step that is done has a row for its answer and one for the restructuring;
+-- ReplyLine, replyText.
+use mathlib.Core.List.{List, [], _∷_, _++_}
+use Prim.Native.Nat.{ℕ}
+use Rattle.model.specs.declared.BeginAnswer.{BeginAnswer}
+use Rattle.model.specs.declared.BeginAnswer.the-variants as BeginAnswer
+use Rattle.model.specs.declared.FormatAnswer.{FormatAnswer}
+use Rattle.model.specs.declared.FormatAnswer.the-variants as FormatAnswer
+use Rattle.model.specs.declared.OperationAnswer.{OperationAnswer}
+use Rattle.model.specs.declared.OperationAnswer.the-variants as OperationAnswer
+use Rattle.model.specs.declared.Restructuring.{Restructuring}
+use Rattle.model.specs.declared.Restructuring.the-variants as Restructuring
+use Rattle.model.specs.declared.StepAnswer.{StepAnswer}
+use Rattle.model.specs.declared.StepAnswer.the-variants as StepAnswer
+use Rattle.patterns.specs.Texts.{bytes}
+use Rattle.patterns.specs.Patterns.{filled}
+use Rattle.patterns.specs.Grammar.{Derives}
+use Rattle.forms.specs.declared.Reply.{Reply}
+use Rattle.forms.specs.declared.Reply.the-variants as Reply
+
+-- ---- Patterns
+
+abbrev pub unreadReply : List ℕ
+unreadReply = bytes "(unread)"
+
+abbrev pub formatOk : List ℕ
+formatOk = bytes "(format ok)"
+
+abbrev pub formatRefused : List ℕ
+formatRefused = bytes "(format (refused #))"
+
+abbrev pub beginOk : List ℕ
+beginOk = bytes "(begin # ok)"
+
+abbrev pub beginRefused : List ℕ
+beginRefused = bytes "(begin # (refused #))"
+
+abbrev pub stepMoved : List ℕ
+stepMoved = bytes "(step # moved)"
+
+abbrev pub stepWaiting : List ℕ
+stepWaiting = bytes "(step # waiting)"
+
+abbrev pub stepRefused : List ℕ
+stepRefused = bytes "(step # (refused #))"
+
+-- "(step q (done A R))": the part before A, the answers and what stands behind them.
+abbrev pub stepDone : List ℕ
+stepDone = bytes "(step # (done "
+
+abbrev pub answerText : OperationAnswer → List ℕ
+answerText OperationAnswer.Found = bytes "found "
+answerText OperationAnswer.Absent = bytes "absent "
+answerText OperationAnswer.Inserted = bytes "inserted "
+answerText OperationAnswer.Present = bytes "present "
+answerText OperationAnswer.Deleted = bytes "deleted "
+answerText OperationAnswer.NoPage = bytes "no-page "
+
+abbrev pub restructuringText : Restructuring → List ℕ
+restructuringText Restructuring.None = bytes "none))"
+restructuringText Restructuring.Split = bytes "split))"
+restructuringText Restructuring.SplitSkipped = bytes "split-skipped))"
+restructuringText Restructuring.Merged = bytes "merged))"
+restructuringText Restructuring.MergeSkipped = bytes "merge-skipped))"
+
+-- ---- The rows
+
+unfoldable pub formatPattern : FormatAnswer → List ℕ
+formatPattern FormatAnswer.Formatted = formatOk
+formatPattern (FormatAnswer.Refused n) = formatRefused
+
+unfoldable pub beginPattern : BeginAnswer → List ℕ
+beginPattern BeginAnswer.Begun = beginOk
+beginPattern (BeginAnswer.Refused n) = beginRefused
+
+unfoldable pub stepPattern : StepAnswer → List ℕ
+stepPattern StepAnswer.Waiting = stepWaiting
+stepPattern StepAnswer.Moved = stepMoved
+stepPattern (StepAnswer.Done a r) = stepDone ++ (answerText a ++ restructuringText r)
+stepPattern (StepAnswer.Refused n) = stepRefused
+
+unfoldable pub replyPattern : Reply → List ℕ
+replyPattern Reply.Unread = unreadReply
+replyPattern (Reply.Format a) = formatPattern a
+replyPattern (Reply.Begin q a) = beginPattern a
+replyPattern (Reply.Step q a) = stepPattern a
+
+unfoldable pub formatNumbers : FormatAnswer → List ℕ
+formatNumbers FormatAnswer.Formatted = []
+formatNumbers (FormatAnswer.Refused n) = n ∷ []
+
+unfoldable pub beginNumbers : BeginAnswer → List ℕ
+beginNumbers BeginAnswer.Begun = []
+beginNumbers (BeginAnswer.Refused n) = n ∷ []
+
+unfoldable pub stepNumbers : StepAnswer → List ℕ
+stepNumbers StepAnswer.Waiting = []
+stepNumbers StepAnswer.Moved = []
+stepNumbers (StepAnswer.Done a r) = []
+stepNumbers (StepAnswer.Refused n) = n ∷ []
+
+unfoldable pub replyNumbers : Reply → List ℕ
+replyNumbers Reply.Unread = []
+replyNumbers (Reply.Format a) = formatNumbers a
+replyNumbers (Reply.Begin q a) = q ∷ beginNumbers a
+replyNumbers (Reply.Step q a) = q ∷ stepNumbers a
+
+-- The lines that are this reply.
+unfoldable pub ReplyLine : Reply → List ℕ → Type 0
+ReplyLine r line = Derives (replyPattern r) (replyNumbers r) line
+
+-- A reply as it is printed, its numbers without leading zeros.
+unfoldable pub replyText : Reply → List ℕ
+replyText r = filled (replyPattern r) (replyNumbers r)
