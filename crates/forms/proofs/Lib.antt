@@ -1,2 +1,4 @@
 -- Laws that the proofs of this crate share, and the theorems on forms and replies.
 pub mod Rows
+pub mod Puts
+pub mod Words

@@ -1,7 +1,7 @@
 -- Patterns and the grammar: a line is matched exactly where the grammar derives it, with the numbers derived; a line is derived by one pattern, with one list of
 -- numbers; what is filled is derived, so it is matched again.
 -- Main statements: match-complete, match-sound; line-matched, matched-line (for whole lines); same-pattern, same-numbers; filled-derived, filled-matched;
--- derives-append (patterns joined), filled-append.
+-- derives-append, derives-split, filled-append (patterns joined); filled-literal, literal-derived, literal-line (patterns without holes).
 use mathlib.Core.Path.{_≡_, refl, sym, ap, _∙_, subst₂}
 use mathlib.Core.Bool.{Bool, true, false, cond, not, _&&_, true≢false}
 use mathlib.Core.List.{List, [], _∷_, _++_, append-assoc, append-nil}
@@ -219,3 +219,62 @@ filled-append (b ∷ p) q ns ms long = go (tell (eqb b hole)) ns long (filled-ap
     go (holds t) [] e ih = absurd (omega (arith, rw t at e))
     go (holds t) (n ∷ xs) e ih = rw t (ap (λ (x : List ℕ). decimal n ++ x) (ih xs ms (omega (arith, rw t at e))) ∙ sym (append-assoc (decimal n) (filled p xs) (filled q ms)))
     go (fails t) xs e ih = rw t (ap (λ (x : List ℕ). b ∷ x) (ih xs ms (omega (arith, rw t at e))))
+
+pub record Split (p q ns l : List ℕ) : Type 0 where
+  pub numbers : List ℕ
+  pub others : List ℕ
+  pub front : List ℕ
+  pub rest : List ℕ
+  pub all : ns ≡ numbers ++ others
+  pub whole : l ≡ front ++ rest
+  pub one : Derives p numbers front
+  pub other : Derives q others rest
+
+pub derives-split : (p q ns l : List ℕ) → Derives (p ++ q) ns l → Split p q ns l
+derives-split [] q ns l d = record { numbers = []; others = ns; front = []; rest = l; all = refl; whole = refl; one = end; other = d }
+derives-split (b ∷ p) q ns l d = go d (λ ms m. derives-split p q ms m)
+  where
+    go : {ms m : List ℕ} → Derives (b ∷ (p ++ q)) ms m → ((xs x : List ℕ) → Derives (p ++ q) xs x → Split p q xs x) → Split (b ∷ p) q ms m
+    go (byte {ns = ms} {l = m} e f) ih =
+        let s = ih ms m f in
+        record { numbers = s .numbers; others = s .others; front = b ∷ s .front; rest = s .rest; all = s .all; whole = ap (λ (x : List ℕ). b ∷ x) (s .whole); one = byte e (s .one); other = s .other }
+    go (number {v = v} {ns = ms} {ds = ds} {l = m} e n f) ih =
+        let s = ih ms m f in
+        record {
+          numbers = v ∷ s .numbers;
+          others = s .others;
+          front = ds ++ s .front;
+          rest = s .rest;
+          all = ap (λ (x : List ℕ). v ∷ x) (s .all);
+          whole = ap (λ (x : List ℕ). ds ++ x) (s .whole) ∙ sym (append-assoc ds (s .front) (s .rest));
+          one = number e n (s .one);
+          other = s .other;
+        }
+
+-- ---- Patterns without holes
+
+pub filled-literal : (p ns : List ℕ) → holes p ≡ 0 → filled p ns ≡ p
+unfolding filled symbolText numbersAfter holes
+filled-literal [] ns h = refl
+filled-literal (b ∷ p) ns h = go (tell (eqb b hole)) (filled-literal p ns)
+  where
+    go : Told (eqb b hole) → (holes p ≡ 0 → filled p ns ≡ p) → cond (eqb b hole) (decimal (getD ns 0 0)) (b ∷ []) ++ filled p (cond (eqb b hole) (drop 1 ns) ns) ≡ b ∷ p
+    go (holds t) ih = absurd (omega (arith, rw t at h))
+    go (fails t) ih = rw t (ap (λ (x : List ℕ). b ∷ x) (ih (omega (arith, rw t at h))))
+
+pub literal-derived : (p : List ℕ) → holes p ≡ 0 → Derives p [] p
+unfolding holes
+literal-derived [] h = end
+literal-derived (b ∷ p) h = go (tell (eqb b hole)) (literal-derived p)
+  where
+    go : Told (eqb b hole) → (holes p ≡ 0 → Derives p [] p) → Derives (b ∷ p) [] (b ∷ p)
+    go (holds t) ih = absurd (omega (arith, rw t at h))
+    go (fails t) ih = byte (eqb-false b hole t) (ih (omega (arith, rw t at h)))
+
+pub literal-line : {p ns l : List ℕ} → Derives p ns l → holes p ≡ 0 → (l ≡ p) × (ns ≡ [])
+unfolding holes
+literal-line end h = (refl, refl)
+literal-line (byte {b} {p} {ns} {l} e d) h =
+    let same = literal-line d (omega (arith, rw (ne-eqb b hole e) at h)) in
+    (ap (λ (x : List ℕ). b ∷ x) (same .0), same .1)
+literal-line (number {b} {v} {p} {ns} {ds} {l} e n d) h = absurd (omega (arith, rw (eq-eqb b hole e) at h))

@@ -1,33 +1,37 @@
+-- `forms::print_form` meets its contract.
+use mathlib.Core.Path.{sym}
+use native.Mathlib.Omega.{arith}
+use lib.ListN.{length}
+use Rattle.forms.specs.Forms.{formText}
+use Rattle.forms.proofs.Puts.{put-as, put-nothing, is-given, not-given}
 use borrow.Author.Needs.{needs}
 use Rattle.forms.proofs.print_form.Statement.{statement}
 use Rattle.forms.proofs.print_form.Tie as tie
-use Rattle.forms.proofs.print_form.Reads as reads
-use Rattle.forms.proofs.print_form.Lts as lts
-use Rattle.forms.proofs.put_form.Reads as put-form-reads
 
--- src/lib.rt:262:9
 returns : tie.Need-returns
-returns c = ?
+returns c =
+    let a = c .before .before .args in
+    put-nothing (a .at) (a .out .now) _ (not-given (length (a .out .now)) (a .at) 63 (formText (a .form)) (omega (arith, c .if1 .taken)))
 
--- src/lib.rt:264:8
 sub-if2 : tie.Need-sub-if2
 sub-if2 c = search needs
 
--- src/lib.rt:265:9
 returns-2 : tie.Need-returns-2
-returns-2 c = ?
+returns-2 c =
+    let a = c .before .before .before .args in
+    put-nothing (a .at) (a .out .now) _ (not-given (length (a .out .now)) (a .at) 63 (formText (a .form)) (omega (arith, c .if2 .taken, c .before .if1 .left)))
 
--- src/lib.rt:267:5
 put-form-requires : tie.Need-put-form-requires
 put-form-requires c κs = search needs
 
--- src/lib.rt:257:1
 same-length : tie.Need-same-length
 same-length c = search needs
 
--- src/lib.rt:257:1
 returns-3 : tie.Need-returns-3
-returns-3 c = ?
+returns-3 c =
+    let if2 = c .before .before .before .before in
+    let a = if2 .before .before .before .args in
+    put-as _ _ _ _ (sym (is-given (length (a .out .now)) (a .at) 63 (formText (a .form)) (omega (arith, if2 .if2 .left, if2 .before .if1 .left)))) (c .before .before .put-form .ensures)
 
 pub print-form-spec : {M : Type 1} → statement M
 print-form-spec =

@@ -1,69 +1,71 @@
+-- `forms::put_begin` meets its contract.
+use mathlib.Core.Path.{sym, ap}
+use Rattle.model.specs.declared.Operation.{Operation}
+use Rattle.forms.specs.declared.Form.the-variants as Form
+use Rattle.patterns.specs.Patterns.{filled, symbolText, numbersAfter}
+use Rattle.forms.specs.Forms.{formPattern, sizeNumbers, formNumbers, formText}
+use Rattle.patterns.proofs.Theorems.{longest}
+use Rattle.forms.proofs.Puts.{room, put-as}
 use borrow.Author.Needs.{needs}
 use Rattle.forms.proofs.put_begin.Statement.{statement}
 use Rattle.forms.proofs.put_begin.Tie as tie
-use Rattle.forms.proofs.put_begin.Reads as reads
-use Rattle.forms.proofs.put_begin.Lts as lts
-use Rattle.patterns.proofs.fill.Reads as fill-reads
 
--- src/lib.rt:293:43
 enum-told : tie.Need-enum-told
 enum-told c = search needs
 
--- src/lib.rt:293:43
 slice-aggregate-fill : tie.Need-slice-aggregate-fill
 slice-aggregate-fill c = search needs
 
--- src/lib.rt:293:28
 fill-requires : tie.Need-fill-requires
-fill-requires c κs = ?
+unfolding longest
+fill-requires c κs = room _ _ _ _ _ tt (c .before .before .before .before .before .pre)
 
--- src/lib.rt:294:45
 enum-told-2 : tie.Need-enum-told-2
 enum-told-2 c = search needs
 
--- src/lib.rt:294:45
 slice-aggregate-fill-2 : tie.Need-slice-aggregate-fill-2
 slice-aggregate-fill-2 c = search needs
 
--- src/lib.rt:294:30
 fill-requires-2 : tie.Need-fill-requires-2
-fill-requires-2 c κs = ?
+unfolding longest
+fill-requires-2 c κs = room _ _ _ _ _ tt (c .before .before .before .before .before .pre)
 
--- src/lib.rt:295:45
 enum-told-3 : tie.Need-enum-told-3
 enum-told-3 c = search needs
 
--- src/lib.rt:295:45
 slice-aggregate-fill-3 : tie.Need-slice-aggregate-fill-3
 slice-aggregate-fill-3 c = search needs
 
--- src/lib.rt:295:30
 fill-requires-3 : tie.Need-fill-requires-3
-fill-requires-3 c κs = ?
+unfolding longest
+fill-requires-3 c κs = room _ _ _ _ _ tt (c .before .before .before .before .before .pre)
 
--- src/lib.rt:287:1
 same-length : tie.Need-same-length
 same-length c = search needs
 
--- src/lib.rt:287:1
 returns : tie.Need-returns
-returns c = ?
+unfolding formText formPattern formNumbers sizeNumbers filled symbolText numbersAfter
+returns c =
+    let a = c .before .before .before .before .before .before .before .before .args in
+    put-as _ _ _ _ (sym (ap (λ (x : Operation). formText (Form.Begin (a .q) x (a .k))) (c .before .before .before .before .before .enum-told .given .1))) (c .before .before .fill .ensures)
 
--- src/lib.rt:287:1
 same-length-2 : tie.Need-same-length-2
 same-length-2 c = search needs
 
--- src/lib.rt:287:1
 returns-2 : tie.Need-returns-2
-returns-2 c = ?
+unfolding formText formPattern formNumbers sizeNumbers filled symbolText numbersAfter
+returns-2 c =
+    let a = c .before .before .before .before .before .before .before .before .args in
+    put-as _ _ _ _ (sym (ap (λ (x : Operation). formText (Form.Begin (a .q) x (a .k))) (c .before .before .before .before .before .enum-told2 .given .1))) (c .before .before .fill2 .ensures)
 
--- src/lib.rt:287:1
 same-length-3 : tie.Need-same-length-3
 same-length-3 c = search needs
 
--- src/lib.rt:287:1
 returns-3 : tie.Need-returns-3
-returns-3 c = ?
+unfolding formText formPattern formNumbers sizeNumbers filled symbolText numbersAfter
+returns-3 c =
+    let a = c .before .before .before .before .before .before .before .before .args in
+    put-as _ _ _ _ (sym (ap (λ (x : Operation). formText (Form.Begin (a .q) x (a .k))) (c .before .before .before .before .before .enum-told3 .given .1))) (c .before .before .fill3 .ensures)
 
 pub put-begin-spec : {M : Type 1} → statement M
 put-begin-spec =

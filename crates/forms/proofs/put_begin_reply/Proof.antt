@@ -1,49 +1,52 @@
+-- `forms::put_begin_reply` meets its contract.
+use mathlib.Core.Path.{sym, ap}
+use Rattle.model.specs.declared.BeginAnswer.{BeginAnswer}
+use Rattle.forms.specs.declared.Reply.the-variants as Reply
+use Rattle.patterns.specs.Patterns.{filled, symbolText, numbersAfter}
+use Rattle.forms.specs.Replies.{replyPattern, replyNumbers, formatPattern, formatNumbers, beginPattern, beginNumbers, stepPattern, stepNumbers, replyText}
+use Rattle.patterns.proofs.Theorems.{longest}
+use Rattle.forms.proofs.Puts.{room, put-as}
 use borrow.Author.Needs.{needs}
 use Rattle.forms.proofs.put_begin_reply.Statement.{statement}
 use Rattle.forms.proofs.put_begin_reply.Tie as tie
-use Rattle.forms.proofs.put_begin_reply.Reads as reads
-use Rattle.forms.proofs.put_begin_reply.Lts as lts
-use Rattle.patterns.proofs.fill.Reads as fill-reads
 
--- src/lib.rt:350:46
 enum-told : tie.Need-enum-told
 enum-told c = search needs
 
--- src/lib.rt:350:46
 slice-aggregate-fill : tie.Need-slice-aggregate-fill
 slice-aggregate-fill c = search needs
 
--- src/lib.rt:350:31
 fill-requires : tie.Need-fill-requires
-fill-requires c κs = ?
+unfolding longest
+fill-requires c κs = room _ _ _ _ _ tt (c .before .before .before .before .before .pre)
 
--- src/lib.rt:351:30
 enum-known-answer : tie.Need-enum-known-answer
 enum-known-answer c = search needs
 
--- src/lib.rt:352:13
 slice-aggregate-fill-2 : tie.Need-slice-aggregate-fill-2
 slice-aggregate-fill-2 c = search needs
 
--- src/lib.rt:351:36
 fill-requires-2 : tie.Need-fill-requires-2
-fill-requires-2 c κs = ?
+unfolding longest
+fill-requires-2 c κs = room _ _ _ _ _ tt (c .before .before .before .before .before .before .pre)
 
--- src/lib.rt:344:1
 same-length : tie.Need-same-length
 same-length c = search needs
 
--- src/lib.rt:344:1
 returns : tie.Need-returns
-returns c = ?
+unfolding replyText replyPattern replyNumbers formatPattern formatNumbers beginPattern beginNumbers stepPattern stepNumbers filled symbolText numbersAfter
+returns c =
+    let a = c .before .before .before .before .before .before .before .before .args in
+    put-as _ _ _ _ (sym (ap (λ (x : BeginAnswer). replyText (Reply.Begin (a .q) x)) (c .before .before .before .before .before .enum-told .given .1))) (c .before .before .fill .ensures)
 
--- src/lib.rt:344:1
 same-length-2 : tie.Need-same-length-2
 same-length-2 c = search needs
 
--- src/lib.rt:344:1
 returns-2 : tie.Need-returns-2
-returns-2 c = ?
+unfolding replyText replyPattern replyNumbers formatPattern formatNumbers beginPattern beginNumbers stepPattern stepNumbers filled symbolText numbersAfter
+returns-2 c =
+    let a = c .before .before .before .before .before .before .before .before .before .args in
+    put-as _ _ _ _ (sym (ap (λ (x : BeginAnswer). replyText (Reply.Begin (a .q) x)) (c .before .before .before .before .before .before .answer .given .1))) (c .before .before .fill2 .ensures)
 
 pub put-begin-reply-spec : {M : Type 1} → statement M
 put-begin-reply-spec =

@@ -1,66 +1,59 @@
+-- `forms::put_form` meets its contract.
+use mathlib.Core.Path.{sym, ap}
+use Rattle.forms.specs.declared.Form.{Form}
+use Rattle.patterns.specs.Patterns.{filled, symbolText, numbersAfter}
+use Rattle.forms.specs.Forms.{formPattern, sizeNumbers, formNumbers, formText}
+use Rattle.patterns.proofs.Theorems.{longest}
+use Rattle.forms.proofs.Puts.{room, put-as}
 use borrow.Author.Needs.{needs}
 use Rattle.forms.proofs.put_form.Statement.{statement}
 use Rattle.forms.proofs.put_form.Tie as tie
-use Rattle.forms.proofs.put_form.Reads as reads
-use Rattle.forms.proofs.put_form.Lts as lts
-use Rattle.forms.proofs.put_begin.Reads as put-begin-reads
-use Rattle.patterns.proofs.fill.Reads as fill-reads
 
--- src/lib.rt:276:20
 enum-known-form : tie.Need-enum-known-form
 enum-known-form c = search needs
 
--- src/lib.rt:276:41
 slice-aggregate-fill : tie.Need-slice-aggregate-fill
 slice-aggregate-fill c = search needs
 
--- src/lib.rt:276:26
 fill-requires : tie.Need-fill-requires
-fill-requires c κs = ?
+unfolding longest
+fill-requires c κs = room _ _ _ _ _ tt (c .before .before .before .before .before .before .pre)
 
--- src/lib.rt:277:21
 enum-known-form-2 : tie.Need-enum-known-form-2
 enum-known-form-2 c = search needs
 
--- src/lib.rt:277:41
 put-begin-requires : tie.Need-put-begin-requires
 put-begin-requires c κs = search needs
 
--- src/lib.rt:278:22
 enum-known-form-3 : tie.Need-enum-known-form-3
 enum-known-form-3 c = search needs
 
--- src/lib.rt:279:13
 slice-aggregate-fill-2 : tie.Need-slice-aggregate-fill-2
 slice-aggregate-fill-2 c = search needs
 
--- src/lib.rt:278:28
 fill-requires-2 : tie.Need-fill-requires-2
-fill-requires-2 c κs = ?
+unfolding longest
+fill-requires-2 c κs = room _ _ _ _ _ tt (c .before .before .before .before .before .before .pre)
 
--- src/lib.rt:270:1
 same-length : tie.Need-same-length
 same-length c = search needs
 
--- src/lib.rt:270:1
 returns : tie.Need-returns
-returns c = ?
+unfolding formText formPattern formNumbers sizeNumbers filled symbolText numbersAfter
+returns c = put-as _ _ _ _ (sym (ap (λ (x : Form). formText x) (c .before .before .before .before .before .before .form .given .1))) (c .before .before .fill .ensures)
 
--- src/lib.rt:270:1
 same-length-2 : tie.Need-same-length-2
 same-length-2 c = search needs
 
--- src/lib.rt:270:1
 returns-2 : tie.Need-returns-2
-returns-2 c = ?
+returns-2 c = put-as _ _ _ _ (sym (ap (λ (x : Form). formText x) (c .before .before .before .before .before .form2 .given .1))) (c .before .before .put-begin .ensures)
 
--- src/lib.rt:270:1
 same-length-3 : tie.Need-same-length-3
 same-length-3 c = search needs
 
--- src/lib.rt:270:1
 returns-3 : tie.Need-returns-3
-returns-3 c = ?
+unfolding formText formPattern formNumbers sizeNumbers filled symbolText numbersAfter
+returns-3 c = put-as _ _ _ _ (sym (ap (λ (x : Form). formText x) (c .before .before .before .before .before .before .form3 .given .1))) (c .before .before .fill2 .ensures)
 
 pub put-form-spec : {M : Type 1} → statement M
 put-form-spec =

@@ -1,109 +1,98 @@
+-- `forms::put_restructuring` meets its contract.
+use mathlib.Core.Path.{sym, ap}
+use Rattle.model.specs.declared.Restructuring.{Restructuring}
+use Rattle.patterns.specs.Patterns.{filled, symbolText, numbersAfter}
+use Rattle.forms.specs.Replies.{restructuringText}
+use Rattle.patterns.proofs.Theorems.{longest}
+use Rattle.forms.proofs.Puts.{room, put-as}
 use borrow.Author.Needs.{needs}
 use Rattle.forms.proofs.put_restructuring.Statement.{statement}
 use Rattle.forms.proofs.put_restructuring.Tie as tie
-use Rattle.forms.proofs.put_restructuring.Reads as reads
-use Rattle.forms.proofs.put_restructuring.Lts as lts
-use Rattle.patterns.proofs.fill.Reads as fill-reads
 
--- src/lib.rt:398:47
 enum-told : tie.Need-enum-told
 enum-told c = search needs
 
--- src/lib.rt:398:47
 slice-aggregate-fill : tie.Need-slice-aggregate-fill
 slice-aggregate-fill c = search needs
 
--- src/lib.rt:398:32
 fill-requires : tie.Need-fill-requires
-fill-requires c κs = ?
+unfolding longest
+fill-requires c κs = room _ _ _ _ _ tt (c .before .before .before .before .before .pre)
 
--- src/lib.rt:399:48
 enum-told-2 : tie.Need-enum-told-2
 enum-told-2 c = search needs
 
--- src/lib.rt:399:48
 slice-aggregate-fill-2 : tie.Need-slice-aggregate-fill-2
 slice-aggregate-fill-2 c = search needs
 
--- src/lib.rt:399:33
 fill-requires-2 : tie.Need-fill-requires-2
-fill-requires-2 c κs = ?
+unfolding longest
+fill-requires-2 c κs = room _ _ _ _ _ tt (c .before .before .before .before .before .pre)
 
--- src/lib.rt:400:55
 enum-told-3 : tie.Need-enum-told-3
 enum-told-3 c = search needs
 
--- src/lib.rt:400:55
 slice-aggregate-fill-3 : tie.Need-slice-aggregate-fill-3
 slice-aggregate-fill-3 c = search needs
 
--- src/lib.rt:400:40
 fill-requires-3 : tie.Need-fill-requires-3
-fill-requires-3 c κs = ?
+unfolding longest
+fill-requires-3 c κs = room _ _ _ _ _ tt (c .before .before .before .before .before .pre)
 
--- src/lib.rt:401:49
 enum-told-4 : tie.Need-enum-told-4
 enum-told-4 c = search needs
 
--- src/lib.rt:401:49
 slice-aggregate-fill-4 : tie.Need-slice-aggregate-fill-4
 slice-aggregate-fill-4 c = search needs
 
--- src/lib.rt:401:34
 fill-requires-4 : tie.Need-fill-requires-4
-fill-requires-4 c κs = ?
+unfolding longest
+fill-requires-4 c κs = room _ _ _ _ _ tt (c .before .before .before .before .before .pre)
 
--- src/lib.rt:402:55
 enum-told-5 : tie.Need-enum-told-5
 enum-told-5 c = search needs
 
--- src/lib.rt:402:55
 slice-aggregate-fill-5 : tie.Need-slice-aggregate-fill-5
 slice-aggregate-fill-5 c = search needs
 
--- src/lib.rt:402:40
 fill-requires-5 : tie.Need-fill-requires-5
-fill-requires-5 c κs = ?
+unfolding longest
+fill-requires-5 c κs = room _ _ _ _ _ tt (c .before .before .before .before .before .pre)
 
--- src/lib.rt:392:1
 same-length : tie.Need-same-length
 same-length c = search needs
 
--- src/lib.rt:392:1
 returns : tie.Need-returns
-returns c = ?
+unfolding filled symbolText numbersAfter
+returns c = put-as _ _ _ _ (sym (ap (λ (x : Restructuring). restructuringText x) (c .before .before .before .before .before .enum-told .given .1))) (c .before .before .fill .ensures)
 
--- src/lib.rt:392:1
 same-length-2 : tie.Need-same-length-2
 same-length-2 c = search needs
 
--- src/lib.rt:392:1
 returns-2 : tie.Need-returns-2
-returns-2 c = ?
+unfolding filled symbolText numbersAfter
+returns-2 c = put-as _ _ _ _ (sym (ap (λ (x : Restructuring). restructuringText x) (c .before .before .before .before .before .enum-told2 .given .1))) (c .before .before .fill2 .ensures)
 
--- src/lib.rt:392:1
 same-length-3 : tie.Need-same-length-3
 same-length-3 c = search needs
 
--- src/lib.rt:392:1
 returns-3 : tie.Need-returns-3
-returns-3 c = ?
+unfolding filled symbolText numbersAfter
+returns-3 c = put-as _ _ _ _ (sym (ap (λ (x : Restructuring). restructuringText x) (c .before .before .before .before .before .enum-told3 .given .1))) (c .before .before .fill3 .ensures)
 
--- src/lib.rt:392:1
 same-length-4 : tie.Need-same-length-4
 same-length-4 c = search needs
 
--- src/lib.rt:392:1
 returns-4 : tie.Need-returns-4
-returns-4 c = ?
+unfolding filled symbolText numbersAfter
+returns-4 c = put-as _ _ _ _ (sym (ap (λ (x : Restructuring). restructuringText x) (c .before .before .before .before .before .enum-told4 .given .1))) (c .before .before .fill4 .ensures)
 
--- src/lib.rt:392:1
 same-length-5 : tie.Need-same-length-5
 same-length-5 c = search needs
 
--- src/lib.rt:392:1
 returns-5 : tie.Need-returns-5
-returns-5 c = ?
+unfolding filled symbolText numbersAfter
+returns-5 c = put-as _ _ _ _ (sym (ap (λ (x : Restructuring). restructuringText x) (c .before .before .before .before .before .enum-told5 .given .1))) (c .before .before .fill5 .ensures)
 
 pub put-restructuring-spec : {M : Type 1} → statement M
 put-restructuring-spec =

@@ -1,99 +1,125 @@
+-- `forms::put_step_reply` meets its contract.
+use mathlib.Core.Path.{_≡_, sym, ap, _∙_}
+use mathlib.Core.List.{[], _∷_, _++_}
+use native.Mathlib.Omega.{arith}
+use lib.ListN.{length}
+use lib.Seq.{length-sets}
+use Rattle.model.specs.declared.StepAnswer.{StepAnswer}
+use Rattle.forms.specs.declared.Reply.the-variants as Reply
+use Rattle.patterns.specs.Patterns.{filled, symbolText, numbersAfter}
+use Rattle.forms.specs.Replies.{replyPattern, replyNumbers, formatPattern, formatNumbers, beginPattern, beginNumbers, stepPattern, stepNumbers, replyText, stepDone, answerText, restructuringText}
+use Rattle.patterns.proofs.Theorems.{longest, filled-short}
+use Rattle.forms.proofs.Puts.{room, put-as, put-then}
+use Rattle.forms.proofs.Words.{answer-short, done-text}
 use borrow.Author.Needs.{needs}
 use Rattle.forms.proofs.put_step_reply.Statement.{statement}
 use Rattle.forms.proofs.put_step_reply.Tie as tie
-use Rattle.forms.proofs.put_step_reply.Reads as reads
-use Rattle.forms.proofs.put_step_reply.Lts as lts
-use Rattle.forms.proofs.put_answer.Reads as put-answer-reads
-use Rattle.forms.proofs.put_restructuring.Reads as put-restructuring-reads
-use Rattle.patterns.proofs.fill.Reads as fill-reads
 
--- src/lib.rt:366:45
 enum-told : tie.Need-enum-told
 enum-told c = search needs
 
--- src/lib.rt:366:45
 slice-aggregate-fill : tie.Need-slice-aggregate-fill
 slice-aggregate-fill c = search needs
 
--- src/lib.rt:366:30
 fill-requires : tie.Need-fill-requires
-fill-requires c κs = ?
+unfolding longest
+fill-requires c κs = room _ _ _ _ _ tt (c .before .before .before .before .before .pre)
 
--- src/lib.rt:367:47
 enum-told-2 : tie.Need-enum-told-2
 enum-told-2 c = search needs
 
--- src/lib.rt:367:47
 slice-aggregate-fill-2 : tie.Need-slice-aggregate-fill-2
 slice-aggregate-fill-2 c = search needs
 
--- src/lib.rt:367:32
 fill-requires-2 : tie.Need-fill-requires-2
-fill-requires-2 c κs = ?
+unfolding longest
+fill-requires-2 c κs = room _ _ _ _ _ tt (c .before .before .before .before .before .pre)
 
--- src/lib.rt:368:29
 enum-known-answer : tie.Need-enum-known-answer
 enum-known-answer c = search needs
 
--- src/lib.rt:368:50
 slice-aggregate-fill-3 : tie.Need-slice-aggregate-fill-3
 slice-aggregate-fill-3 c = search needs
 
--- src/lib.rt:368:35
 fill-requires-3 : tie.Need-fill-requires-3
-fill-requires-3 c κs = ?
+unfolding longest
+fill-requires-3 c κs = room _ _ _ _ _ tt (c .before .before .before .before .before .before .pre)
 
--- src/lib.rt:369:26
 enum-known-answer-2 : tie.Need-enum-known-answer-2
 enum-known-answer-2 c = search needs
 
--- src/lib.rt:370:39
 slice-aggregate-fill-4 : tie.Need-slice-aggregate-fill-4
 slice-aggregate-fill-4 c = search needs
 
--- src/lib.rt:370:17
 fill-requires-4 : tie.Need-fill-requires-4
-fill-requires-4 c κs = ?
+unfolding longest
+fill-requires-4 c κs = room _ _ _ _ _ tt (c .before .before .before .before .before .before .pre)
 
--- src/lib.rt:371:17
 put-answer-requires : tie.Need-put-answer-requires
-put-answer-requires c κs = ?
+unfolding longest
+put-answer-requires c κs =
+    let start = c .before .before .before .before .before .before .before .before .before .before in
+    let a = start .args in
+    let head = c .before .before .before .fill4 .ensures in
+    let ns = a .q ∷ (0 ∷ (0 ∷ (0 ∷ (0 ∷ [])))) in
+    omega (arith, start .pre, head .0, ap length (head .1), length-sets (a .out .now) (a .at) (filled stepDone ns), filled-short stepDone ns)
 
--- src/lib.rt:372:13
 put-restructuring-requires : tie.Need-put-restructuring-requires
-put-restructuring-requires c κs = ?
+unfolding longest
+put-restructuring-requires c κs =
+    let start = c .before .before .before .before .before .before .before .before .before .before .before .before .before .before in
+    let a = start .args in
+    let head = c .before .before .before .before .before .before .before .fill4 in
+    let word = c .before .before .before .put-answer .ensures in
+    let answer = c .before .before .before .before .before .before .before .before .before .before .before .answer2 .given .0 .0 in
+    let ns = a .q ∷ (0 ∷ (0 ∷ (0 ∷ (0 ∷ [])))) in
+    let first = length-sets (a .out .now) (a .at) (filled stepDone ns) in
+    let then = length-sets (head .last .1 .1 .0) (head .result) (answerText answer) in
+    omega (arith, start .pre, head .ensures .0, ap length (head .ensures .1), first, filled-short stepDone ns, word .0, ap length (word .1), then, answer-short answer)
 
--- src/lib.rt:360:1
 same-length : tie.Need-same-length
 same-length c = search needs
 
--- src/lib.rt:360:1
 returns : tie.Need-returns
-returns c = ?
+unfolding replyText replyPattern replyNumbers formatPattern formatNumbers beginPattern beginNumbers stepPattern stepNumbers filled symbolText numbersAfter
+returns c =
+    let a = c .before .before .before .before .before .before .before .before .args in
+    put-as _ _ _ _ (sym (ap (λ (x : StepAnswer). replyText (Reply.Step (a .q) x)) (c .before .before .before .before .before .enum-told .given .1))) (c .before .before .fill .ensures)
 
--- src/lib.rt:360:1
 same-length-2 : tie.Need-same-length-2
 same-length-2 c = search needs
 
--- src/lib.rt:360:1
 returns-2 : tie.Need-returns-2
-returns-2 c = ?
+unfolding replyText replyPattern replyNumbers formatPattern formatNumbers beginPattern beginNumbers stepPattern stepNumbers filled symbolText numbersAfter
+returns-2 c =
+    let a = c .before .before .before .before .before .before .before .before .args in
+    put-as _ _ _ _ (sym (ap (λ (x : StepAnswer). replyText (Reply.Step (a .q) x)) (c .before .before .before .before .before .enum-told2 .given .1))) (c .before .before .fill2 .ensures)
 
--- src/lib.rt:360:1
 same-length-3 : tie.Need-same-length-3
 same-length-3 c = search needs
 
--- src/lib.rt:360:1
 returns-3 : tie.Need-returns-3
-returns-3 c = ?
+unfolding replyText replyPattern replyNumbers formatPattern formatNumbers beginPattern beginNumbers stepPattern stepNumbers filled symbolText numbersAfter
+returns-3 c =
+    let a = c .before .before .before .before .before .before .before .before .before .args in
+    put-as _ _ _ _ (sym (ap (λ (x : StepAnswer). replyText (Reply.Step (a .q) x)) (c .before .before .before .before .before .before .answer .given .1))) (c .before .before .fill3 .ensures)
 
--- src/lib.rt:360:1
 same-length-4 : tie.Need-same-length-4
 same-length-4 c = search needs
 
--- src/lib.rt:360:1
 returns-4 : tie.Need-returns-4
-returns-4 c = ?
+returns-4 c =
+    let a = c .before .before .before .before .before .before .before .before .before .before .before .before .before .before .before .before .before .args in
+    let told = c .before .before .before .before .before .before .before .before .before .before .before .before .before .before .answer2 .given .1 in
+    let bound = c .before .before .before .before .before .before .before .before .before .before .before .before .before .before .answer2 .given .0 in
+    let answer = bound .0 in
+    let made = bound .1 .0 in
+    let head = c .before .before .before .before .before .before .before .before .before .before .fill4 in
+    let word = c .before .before .before .before .before .before .put-answer .ensures in
+    let text = filled stepDone (a .q ∷ (0 ∷ (0 ∷ (0 ∷ (0 ∷ []))))) in
+    let rest = put-then (head .result) (head .last .1 .1 .0) (answerText answer) (restructuringText made) word (c .before .before .put-restructuring .ensures) in
+    let whole = put-then (a .at) (a .out .now) text (answerText answer ++ restructuringText made) (head .ensures) rest in
+    put-as (a .at) (a .out .now) _ _ (done-text (a .q) answer made ∙ sym (ap (λ (x : StepAnswer). replyText (Reply.Step (a .q) x)) told)) whole
 
 pub put-step-reply-spec : {M : Type 1} → statement M
 put-step-reply-spec =
