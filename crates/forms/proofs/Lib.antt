@@ -2,3 +2,6 @@
 pub mod Rows
 pub mod Puts
 pub mod Words
+pub mod Table
+pub mod FormTheorems
+pub mod ReplyTheorems

@@ -1,0 +1,158 @@
+-- Forms: a line is read exactly where the grammar derives it, as the one form that it is; reading what was printed gives the form again.
+-- Main statements: form-read, read-form; one-form; unread-form; printed-form-read.
+use mathlib.Core.Path.{_≡_, refl, sym, ap, _∙_, subst}
+use mathlib.Core.List.{List, [], _∷_}
+use Prim.Native.Nat.{ℕ, zero, suc, _≤_}
+use native.Mathlib.Omega.{arith}
+use lib.ListN.{length, getD}
+use lib.Dec.{lit≤}
+use Rattle.model.specs.declared.FileSizes.{FileSizes}
+use Rattle.model.specs.declared.Operation.{Operation}
+use Rattle.model.specs.declared.Operation.the-variants as Operation
+use Rattle.patterns.specs.Numbers.{isDigit, largest}
+use Rattle.patterns.specs.Patterns.{padded}
+use Rattle.patterns.specs.Grammar.{Derives, plain, holes, Plain}
+use Rattle.patterns.proofs.Theorems.{Small, none, more, filled-derived}
+use Rattle.forms.specs.declared.Form.{Form}
+use Rattle.forms.specs.declared.Form.the-variants as Form
+use Rattle.forms.specs.declared.FormRead.{FormRead}
+use Rattle.forms.specs.declared.FormRead.the-variants as FormRead
+use Rattle.forms.specs.Forms.{stepForm, formatForm, beginForm, formPattern, sizeNumbers, formNumbers, FormLine, formText}
+use Rattle.forms.specs.Reading.{orElse, wholly, asStep, asBegin, asFormat, readFormat, readBegin, readForm}
+use Rattle.forms.proofs.Table.{alike, take-row, skip-row, row-sound}
+
+-- ---- The patterns
+
+plain-step : Plain stepForm
+unfolding plain holes isDigit
+plain-step = record { parted = refl; held = lit≤ tt }
+
+plain-format : Plain formatForm
+unfolding plain holes isDigit
+plain-format = record { parted = refl; held = lit≤ tt }
+
+plain-begin : (o : Operation) → Plain (beginForm o)
+unfolding plain holes isDigit
+plain-begin Operation.Find = record { parted = refl; held = lit≤ tt }
+plain-begin Operation.Insert = record { parted = refl; held = lit≤ tt }
+plain-begin Operation.Delete = record { parted = refl; held = lit≤ tt }
+
+-- ---- A line that the grammar derives is read
+
+begin-read : (q : ℕ) (o : Operation) (k : ℕ) (line : List ℕ) → Derives (beginForm o) (q ∷ (k ∷ [])) line → readForm line ≡ FormRead.Read (Form.Begin q o k)
+unfolding readForm readBegin alike padded
+begin-read q Operation.Find k line d =
+    skip-row stepForm asStep _ (plain-begin Operation.Find) plain-step refl d
+    ∙ take-row (asBegin Operation.Find) _ (plain-begin Operation.Find) d
+begin-read q Operation.Insert k line d =
+    let p = plain-begin Operation.Insert in
+    skip-row stepForm asStep _ p plain-step refl d
+    ∙ skip-row (beginForm Operation.Find) (asBegin Operation.Find) _ p (plain-begin Operation.Find) refl d
+    ∙ take-row (asBegin Operation.Insert) _ p d
+begin-read q Operation.Delete k line d =
+    let p = plain-begin Operation.Delete in
+    skip-row stepForm asStep _ p plain-step refl d
+    ∙ skip-row (beginForm Operation.Find) (asBegin Operation.Find) _ p (plain-begin Operation.Find) refl d
+    ∙ skip-row (beginForm Operation.Insert) (asBegin Operation.Insert) _ p (plain-begin Operation.Insert) refl d
+    ∙ take-row (asBegin Operation.Delete) _ p d
+
+format-read : (s : FileSizes) (line : List ℕ) → Derives formatForm (sizeNumbers s) line → readForm line ≡ FormRead.Read (Form.Format s)
+unfolding readForm readBegin readFormat alike padded sizeNumbers
+format-read s line d =
+    skip-row stepForm asStep _ plain-format plain-step refl d
+    ∙ skip-row (beginForm Operation.Find) (asBegin Operation.Find) _ plain-format (plain-begin Operation.Find) refl d
+    ∙ skip-row (beginForm Operation.Insert) (asBegin Operation.Insert) _ plain-format (plain-begin Operation.Insert) refl d
+    ∙ skip-row (beginForm Operation.Delete) (asBegin Operation.Delete) _ plain-format (plain-begin Operation.Delete) refl d
+    ∙ take-row asFormat _ plain-format d
+
+pub form-read : (f : Form) (line : List ℕ) → FormLine f line → readForm line ≡ FormRead.Read f
+unfolding FormLine formPattern formNumbers readForm padded
+form-read (Form.Format s) line d = format-read s line d
+form-read (Form.Begin q o k) line d = begin-read q o k line d
+form-read (Form.Step q) line d = take-row asStep _ plain-step d
+
+-- ---- A line that is read is derived by the grammar
+
+-- Numbers as many as a pattern has holes.
+pub one-number : (ns : List ℕ) → length ns ≡ 1 → getD (padded ns) 0 0 ∷ [] ≡ ns
+unfolding padded
+one-number [] h = absurd (omega arith)
+one-number (a ∷ []) h = refl
+one-number (a ∷ (b ∷ ns)) h = absurd (omega arith)
+
+pub two-numbers : (ns : List ℕ) → length ns ≡ 2 → getD (padded ns) 0 0 ∷ (getD (padded ns) 1 0 ∷ []) ≡ ns
+unfolding padded
+two-numbers [] h = absurd (omega arith)
+two-numbers (a ∷ []) h = absurd (omega arith)
+two-numbers (a ∷ (b ∷ [])) h = refl
+two-numbers (a ∷ (b ∷ (c ∷ ns))) h = absurd (omega arith)
+
+five-numbers : (ns : List ℕ) → length ns ≡ 5
+    → getD (padded ns) 0 0 ∷ (getD (padded ns) 1 0 ∷ (getD (padded ns) 2 0 ∷ (getD (padded ns) 3 0 ∷ (getD (padded ns) 4 0 ∷ [])))) ≡ ns
+unfolding padded
+five-numbers [] h = absurd (omega arith)
+five-numbers (a ∷ []) h = absurd (omega arith)
+five-numbers (a ∷ (b ∷ [])) h = absurd (omega arith)
+five-numbers (a ∷ (b ∷ (c ∷ []))) h = absurd (omega arith)
+five-numbers (a ∷ (b ∷ (c ∷ (d ∷ [])))) h = absurd (omega arith)
+five-numbers (a ∷ (b ∷ (c ∷ (d ∷ (e ∷ []))))) h = refl
+five-numbers (a ∷ (b ∷ (c ∷ (d ∷ (e ∷ (g ∷ ns)))))) h = absurd (omega arith)
+
+-- A row's form is read as itself.
+row-form : (f g : Form) (ns line : List ℕ) → formNumbers g ≡ ns → Derives (formPattern g) ns line → FormRead.Read g ≡ FormRead.Read f → FormLine f line
+unfolding FormLine
+row-form f g ns line same d e =
+    let equal : g ≡ f = cc in
+    let derived : Derives (formPattern g) (formNumbers g) line = rw same d in
+    subst (λ (x : Form). Derives (formPattern x) (formNumbers x) line) equal derived
+
+begin-row : (f : Form) (o : Operation) (line ns : List ℕ) → length ns ≡ 2 → Derives (beginForm o) ns line → asBegin o (padded ns) ≡ FormRead.Read f → FormLine f line
+unfolding formPattern formNumbers
+begin-row f o line ns long d e = row-form f (Form.Begin (getD (padded ns) 0 0) o (getD (padded ns) 1 0)) ns line (two-numbers ns long) d e
+
+format-row : (f : Form) (line : List ℕ) → readFormat line ≡ FormRead.Read f → FormLine f line
+unfolding readFormat formPattern formNumbers sizeNumbers holes
+format-row f line =
+    row-sound formatForm line asFormat FormRead.Unread
+    (λ ns long d e. row-form f (Form.Format (record { originals = getD (padded ns) 0 0; capacity = getD (padded ns) 1 0; primaries = getD (padded ns) 2 0; overflow = getD (padded ns) 3 0; parties = getD (padded ns) 4 0 })) ns line (five-numbers ns long) d e)
+    (λ e. absurd (let z : _≡_ {A = ℕ} 0 1 = cc in omega arith))
+
+pub read-form : (f : Form) (line : List ℕ) → readForm line ≡ FormRead.Read f → FormLine f line
+unfolding readForm readBegin formPattern formNumbers holes
+read-form f line =
+    row-sound stepForm line asStep (readBegin line) (λ ns long d e. row-form f (Form.Step (getD (padded ns) 0 0)) ns line (one-number ns long) d e)
+    (row-sound (beginForm Operation.Find) line (asBegin Operation.Find) _ (begin-row f Operation.Find line)
+    (row-sound (beginForm Operation.Insert) line (asBegin Operation.Insert) _ (begin-row f Operation.Insert line)
+    (row-sound (beginForm Operation.Delete) line (asBegin Operation.Delete) _ (begin-row f Operation.Delete line) (format-row f line))))
+
+-- ---- What follows
+
+-- A line is at most one form.
+pub one-form : (f g : Form) (line : List ℕ) → FormLine f line → FormLine g line → f ≡ g
+one-form f g line d e =
+    let as-f = form-read f line d in
+    let as-g = form-read g line e in
+    cc
+
+-- A line that is unread is no form.
+pub unread-form : (line : List ℕ) → readForm line ≡ FormRead.Unread → (f : Form) → FormLine f line → ⊥
+unread-form line e f d =
+    let as-f = form-read f line d in
+    let z : _≡_ {A = ℕ} 0 1 = cc in
+    omega arith
+
+-- The numbers of a form fit 32 bits, as those of the code do.
+unfoldable pub FormFits : Form → Type 0
+FormFits f = Small (formNumbers f)
+
+form-holes : (f : Form) → length (formNumbers f) ≡ holes (formPattern f)
+unfolding formNumbers formPattern sizeNumbers holes
+form-holes (Form.Format s) = refl
+form-holes (Form.Begin q Operation.Find k) = refl
+form-holes (Form.Begin q Operation.Insert k) = refl
+form-holes (Form.Begin q Operation.Delete k) = refl
+form-holes (Form.Step q) = refl
+
+pub printed-form-read : (f : Form) → FormFits f → readForm (formText f) ≡ FormRead.Read f
+unfolding FormFits FormLine formText
+printed-form-read f small = form-read f (formText f) (filled-derived (formPattern f) (formNumbers f) (form-holes f) small)

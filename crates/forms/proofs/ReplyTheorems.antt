@@ -1,0 +1,274 @@
+-- Replies: a line is read exactly where the grammar derives it, as the one reply that it is; reading what was printed gives the reply again.
+-- Main statements: reply-read, read-reply; one-reply; unread-reply; printed-reply-read.
+use mathlib.Core.Path.{_≡_, refl, sym, ap, _∙_, subst, subst₂}
+use mathlib.Core.Bool.{true, false}
+use mathlib.Core.List.{List, [], _∷_, _++_, append-nil}
+use Prim.Native.Nat.{ℕ, _+_, _≤_}
+use native.Mathlib.Omega.{arith}
+use lib.ListN.{length, getD}
+use lib.Dec.{lit≤}
+use Rattle.model.specs.declared.BeginAnswer.{BeginAnswer}
+use Rattle.model.specs.declared.BeginAnswer.the-variants as BeginAnswer
+use Rattle.model.specs.declared.FormatAnswer.{FormatAnswer}
+use Rattle.model.specs.declared.FormatAnswer.the-variants as FormatAnswer
+use Rattle.model.specs.declared.OperationAnswer.{OperationAnswer}
+use Rattle.model.specs.declared.Restructuring.{Restructuring}
+use Rattle.model.specs.declared.StepAnswer.{StepAnswer}
+use Rattle.model.specs.declared.StepAnswer.the-variants as StepAnswer
+use Rattle.patterns.specs.Numbers.{isDigit}
+use Rattle.patterns.specs.Patterns.{Matching, no, yes, matchFrom, padded}
+use Rattle.patterns.specs.Grammar.{Derives, plain, holes, Plain}
+use Rattle.patterns.proofs.Theorems.{Small, match-complete, match-sound, derives-holes, derives-append, derives-split, literal-line, literal-derived, filled-derived}
+use Rattle.forms.specs.declared.Reply.{Reply}
+use Rattle.forms.specs.declared.Reply.the-variants as Reply
+use Rattle.forms.specs.declared.ReplyRead.{ReplyRead}
+use Rattle.forms.specs.declared.ReplyRead.the-variants as ReplyRead
+use Rattle.forms.specs.declared.RestructuringRead.{RestructuringRead}
+use Rattle.forms.specs.declared.RestructuringRead.the-variants as RestructuringRead
+use Rattle.forms.specs.Replies.{
+  unreadReply,
+  formatOk,
+  formatRefused,
+  beginOk,
+  beginRefused,
+  stepMoved,
+  stepWaiting,
+  stepRefused,
+  stepDone,
+  answerText,
+  restructuringText,
+  formatPattern,
+  beginPattern,
+  stepPattern,
+  replyPattern,
+  formatNumbers,
+  beginNumbers,
+  stepNumbers,
+  replyNumbers,
+  ReplyLine,
+  replyText,
+}
+use Rattle.forms.specs.Reading.{AnswerAt, none, at, readAnswer, readRestructuring, doneAs, doneFrom, doneAfter, readDone, readStepReply, readBeginReply, readReply}
+use Rattle.forms.proofs.Table.{alike, take-row, skip-row, row-sound}
+use Rattle.forms.proofs.FormTheorems.{one-number, two-numbers}
+use Rattle.forms.proofs.Words.{holes-append, tail-literal, tail-plain, tail-stops, answer-complete, answer-sound, restructuring-complete, restructuring-sound}
+
+-- ---- The patterns
+
+plain-unread : Plain unreadReply
+unfolding plain holes isDigit
+plain-unread = record { parted = refl; held = lit≤ tt }
+
+plain-format : (a : FormatAnswer) → Plain (formatPattern a)
+unfolding formatPattern plain holes isDigit
+plain-format FormatAnswer.Formatted = record { parted = refl; held = lit≤ tt }
+plain-format (FormatAnswer.Refused n) = record { parted = refl; held = lit≤ tt }
+
+plain-begin : (a : BeginAnswer) → Plain (beginPattern a)
+unfolding beginPattern plain holes isDigit
+plain-begin BeginAnswer.Begun = record { parted = refl; held = lit≤ tt }
+plain-begin (BeginAnswer.Refused n) = record { parted = refl; held = lit≤ tt }
+
+plain-head : plain false stepDone ≡ true
+unfolding plain isDigit
+plain-head = refl
+
+plain-step : (a : StepAnswer) → Plain (stepPattern a)
+unfolding stepPattern plain holes isDigit
+plain-step StepAnswer.Waiting = record { parted = refl; held = lit≤ tt }
+plain-step StepAnswer.Moved = record { parted = refl; held = lit≤ tt }
+plain-step (StepAnswer.Done a r) = record { parted = tail-plain a r; held = omega (arith, tail-literal a r) }
+plain-step (StepAnswer.Refused n) = record { parted = refl; held = lit≤ tt }
+
+plain-formatOk : Plain formatOk
+unfolding formatPattern
+plain-formatOk = plain-format FormatAnswer.Formatted
+
+plain-formatRefused : Plain formatRefused
+unfolding formatPattern
+plain-formatRefused = plain-format (FormatAnswer.Refused 0)
+
+plain-beginOk : Plain beginOk
+unfolding beginPattern
+plain-beginOk = plain-begin BeginAnswer.Begun
+
+plain-beginRefused : Plain beginRefused
+unfolding beginPattern
+plain-beginRefused = plain-begin (BeginAnswer.Refused 0)
+
+plain-moved : Plain stepMoved
+unfolding stepPattern
+plain-moved = plain-step StepAnswer.Moved
+
+plain-waiting : Plain stepWaiting
+unfolding stepPattern
+plain-waiting = plain-step StepAnswer.Waiting
+
+plain-refused : Plain stepRefused
+unfolding stepPattern
+plain-refused = plain-step (StepAnswer.Refused 0)
+
+-- ---- A line that the grammar derives is read
+
+-- Rows that are skipped.
+module _ {p ns line : List ℕ} (h : Plain p) (d : Derives p ns line) where
+  past-format : alike p unreadReply ≡ false → alike p formatOk ≡ false → alike p formatRefused ≡ false → readReply line ≡ readBeginReply line
+  unfolding readReply
+  past-format u o r = skip-row unreadReply _ _ h plain-unread u d ∙ skip-row formatOk _ _ h plain-formatOk o d ∙ skip-row formatRefused _ _ h plain-formatRefused r d
+
+  past-begin : alike p beginOk ≡ false → alike p beginRefused ≡ false → readBeginReply line ≡ readStepReply line
+  unfolding readBeginReply
+  past-begin o r = skip-row beginOk _ _ h plain-beginOk o d ∙ skip-row beginRefused _ _ h plain-beginRefused r d
+
+  past-step : alike p stepMoved ≡ false → alike p stepWaiting ≡ false → alike p stepRefused ≡ false → readStepReply line ≡ readDone line
+  unfolding readStepReply
+  past-step m w r = skip-row stepMoved _ _ h plain-moved m d ∙ skip-row stepWaiting _ _ h plain-waiting w d ∙ skip-row stepRefused _ _ h plain-refused r d
+
+done-read : (q : ℕ) (a : OperationAnswer) (r : Restructuring) (line : List ℕ) → Derives (stepDone ++ (answerText a ++ restructuringText r)) (q ∷ []) line
+    → readDone line ≡ ReplyRead.Read (Reply.Step q (StepAnswer.Done a r))
+unfolding readDone doneAfter doneFrom doneAs padded
+done-read q a r line d =
+    let tail = answerText a ++ restructuringText r in
+    let s = derives-split stepDone tail (q ∷ []) line d in
+    let words = literal-line (s .other) (tail-literal a r) in
+    let numbers : s .numbers ≡ q ∷ [] = sym (s .all ∙ ap (λ (x : List ℕ). s .numbers ++ x) (words .1) ∙ append-nil (s .numbers)) in
+    let whole : line ≡ s .front ++ tail = s .whole ∙ ap (λ (x : List ℕ). s .front ++ x) (words .0) in
+    let few : 0 + length (s .numbers) ≤ 5 = rw numbers (lit≤ tt) in
+    let head : matchFrom stepDone [] line ≡ yes (q ∷ []) tail =
+    ap (matchFrom stepDone []) whole ∙ match-complete false plain-head (s .one) [] tail (tail-stops a r) few ∙ ap (λ (x : List ℕ). yes x tail) numbers in
+    ap doneAfter head ∙ ap (doneFrom q) (answer-complete a (restructuringText r)) ∙ ap (doneAs q a) (restructuring-complete r)
+
+format-read : (a : FormatAnswer) (line : List ℕ) → Derives (formatPattern a) (formatNumbers a) line → readReply line ≡ ReplyRead.Read (Reply.Format a)
+unfolding readReply formatPattern formatNumbers alike padded
+format-read FormatAnswer.Formatted line d = skip-row unreadReply _ _ plain-formatOk plain-unread refl d ∙ take-row _ _ plain-formatOk d
+format-read (FormatAnswer.Refused n) line d =
+    skip-row unreadReply _ _ plain-formatRefused plain-unread refl d ∙ skip-row formatOk _ _ plain-formatRefused plain-formatOk refl d ∙ take-row _ _ plain-formatRefused d
+
+begin-read : (q : ℕ) (a : BeginAnswer) (line : List ℕ) → Derives (beginPattern a) (q ∷ beginNumbers a) line → readReply line ≡ ReplyRead.Read (Reply.Begin q a)
+unfolding readBeginReply beginPattern beginNumbers alike padded
+begin-read q BeginAnswer.Begun line d = past-format plain-beginOk d refl refl refl ∙ take-row _ _ plain-beginOk d
+begin-read q (BeginAnswer.Refused n) line d =
+    past-format plain-beginRefused d refl refl refl ∙ skip-row beginOk _ _ plain-beginRefused plain-beginOk refl d ∙ take-row _ _ plain-beginRefused d
+
+step-read : (q : ℕ) (a : StepAnswer) (line : List ℕ) → Derives (stepPattern a) (q ∷ stepNumbers a) line → readReply line ≡ ReplyRead.Read (Reply.Step q a)
+unfolding readStepReply stepPattern stepNumbers alike padded
+step-read q StepAnswer.Moved line d = past-format plain-moved d refl refl refl ∙ past-begin plain-moved d refl refl ∙ take-row _ _ plain-moved d
+step-read q StepAnswer.Waiting line d =
+    past-format plain-waiting d refl refl refl ∙ past-begin plain-waiting d refl refl ∙ skip-row stepMoved _ _ plain-waiting plain-moved refl d ∙ take-row _ _ plain-waiting d
+step-read q (StepAnswer.Refused n) line d =
+    past-format plain-refused d refl refl refl
+    ∙ past-begin plain-refused d refl refl
+    ∙ skip-row stepMoved _ _ plain-refused plain-moved refl d
+    ∙ skip-row stepWaiting _ _ plain-refused plain-waiting refl d
+    ∙ take-row _ _ plain-refused d
+step-read q (StepAnswer.Done a r) line d =
+    let p = plain-step (StepAnswer.Done a r) in
+    past-format p d refl refl refl ∙ past-begin p d refl refl ∙ past-step p d refl refl refl ∙ done-read q a r line d
+
+pub reply-read : (r : Reply) (line : List ℕ) → ReplyLine r line → readReply line ≡ ReplyRead.Read r
+unfolding ReplyLine replyPattern replyNumbers readReply
+reply-read Reply.Unread line d = take-row _ _ plain-unread d
+reply-read (Reply.Format a) line d = format-read a line d
+reply-read (Reply.Begin q a) line d = begin-read q a line d
+reply-read (Reply.Step q a) line d = step-read q a line d
+
+-- ---- A line that is read is derived by the grammar
+
+no-number : (ns : List ℕ) → length ns ≡ 0 → [] ≡ ns
+no-number [] h = refl
+no-number (a ∷ ns) h = absurd (omega arith)
+
+-- A row's reply is read as itself.
+row-reply : (r g : Reply) (ns line : List ℕ) → replyNumbers g ≡ ns → Derives (replyPattern g) ns line → ReplyRead.Read g ≡ ReplyRead.Read r → ReplyLine r line
+unfolding ReplyLine
+row-reply r g ns line same d e =
+    let equal : g ≡ r = cc in
+    let derived : Derives (replyPattern g) (replyNumbers g) line = rw same d in
+    subst (λ (x : Reply). Derives (replyPattern x) (replyNumbers x) line) equal derived
+
+done-derived : (r : Reply) (line ns rest : List ℕ) (a : OperationAnswer) (m : Restructuring) → matchFrom stepDone [] line ≡ yes ns rest → rest ≡ answerText a ++ restructuringText m
+    → ReplyRead.Read (Reply.Step (getD (padded ns) 0 0) (StepAnswer.Done a m)) ≡ ReplyRead.Read r → ReplyLine r line
+unfolding replyPattern replyNumbers stepPattern stepNumbers holes
+done-derived r line ns rest a m q words e =
+    let tail = answerText a ++ restructuringText m in
+    let d = match-sound stepDone [] line ns rest q in
+    let long : length ns ≡ 1 = ap length (d .all) ∙ derives-holes (d .derived) in
+    let both = derives-append (d .derived) (literal-derived tail (tail-literal a m)) in
+    let numbers : d .found ++ [] ≡ ns = append-nil (d .found) ∙ sym (d .all) in
+    let whole : d .text ++ tail ≡ line = sym (d .whole ∙ ap (λ (x : List ℕ). d .text ++ x) words) in
+    let derived : Derives (stepDone ++ tail) ns line = subst₂ (λ (x y : List ℕ). Derives (stepDone ++ tail) x y) numbers whole both in
+    row-reply r (Reply.Step (getD (padded ns) 0 0) (StepAnswer.Done a m)) ns line (one-number ns long) derived e
+
+done-sound : (r : Reply) (line : List ℕ) → readDone line ≡ ReplyRead.Read r → ReplyLine r line
+unfolding readDone doneAfter doneFrom doneAs
+done-sound r line = go (matchFrom stepDone [] line) refl
+  where
+    third : (ns rest : List ℕ) → matchFrom stepDone [] line ≡ yes ns rest → (a : OperationAnswer) (left : List ℕ) → readAnswer rest ≡ at a left → (m : RestructuringRead) → readRestructuring left ≡ m
+        → doneAs (getD (padded ns) 0 0) a m ≡ ReplyRead.Read r → ReplyLine r line
+    third ns rest q a left w RestructuringRead.Unread v e = absurd (let z : _≡_ {A = ℕ} 0 1 = cc in omega arith)
+    third ns rest q a left w (RestructuringRead.Read m) v e =
+        done-derived r line ns rest a m q (answer-sound rest a left w ∙ ap (λ (x : List ℕ). answerText a ++ x) (restructuring-sound left m v)) e
+
+    second : (ns rest : List ℕ) → matchFrom stepDone [] line ≡ yes ns rest → (s : AnswerAt) → readAnswer rest ≡ s → doneFrom (getD (padded ns) 0 0) s ≡ ReplyRead.Read r → ReplyLine r line
+    second ns rest q none w e = absurd (let z : _≡_ {A = ℕ} 0 1 = cc in omega arith)
+    second ns rest q (at a left) w e = third ns rest q a left w (readRestructuring left) refl e
+
+    go : (m : Matching) → matchFrom stepDone [] line ≡ m → doneAfter m ≡ ReplyRead.Read r → ReplyLine r line
+    go no q e = absurd (let z : _≡_ {A = ℕ} 0 1 = cc in omega arith)
+    go (yes ns rest) q e = second ns rest q (readAnswer rest) refl e
+
+step-sound : (r : Reply) (line : List ℕ) → readStepReply line ≡ ReplyRead.Read r → ReplyLine r line
+unfolding readStepReply replyPattern replyNumbers stepPattern stepNumbers holes
+step-sound r line =
+    row-sound stepMoved line _ _ (λ ns long d e. row-reply r (Reply.Step (getD (padded ns) 0 0) StepAnswer.Moved) ns line (one-number ns long) d e)
+    (row-sound stepWaiting line _ _ (λ ns long d e. row-reply r (Reply.Step (getD (padded ns) 0 0) StepAnswer.Waiting) ns line (one-number ns long) d e)
+    (row-sound stepRefused line _ _ (λ ns long d e. row-reply r (Reply.Step (getD (padded ns) 0 0) (StepAnswer.Refused (getD (padded ns) 1 0))) ns line (two-numbers ns long) d e) (done-sound r line)))
+
+begin-sound : (r : Reply) (line : List ℕ) → readBeginReply line ≡ ReplyRead.Read r → ReplyLine r line
+unfolding readBeginReply replyPattern replyNumbers beginPattern beginNumbers holes
+begin-sound r line =
+    row-sound beginOk line _ _ (λ ns long d e. row-reply r (Reply.Begin (getD (padded ns) 0 0) BeginAnswer.Begun) ns line (one-number ns long) d e)
+    (row-sound beginRefused line _ _ (λ ns long d e. row-reply r (Reply.Begin (getD (padded ns) 0 0) (BeginAnswer.Refused (getD (padded ns) 1 0))) ns line (two-numbers ns long) d e) (step-sound r line))
+
+pub read-reply : (r : Reply) (line : List ℕ) → readReply line ≡ ReplyRead.Read r → ReplyLine r line
+unfolding readReply replyPattern replyNumbers formatPattern formatNumbers holes
+read-reply r line =
+    row-sound unreadReply line _ _ (λ ns long d e. row-reply r Reply.Unread ns line (no-number ns long) d e)
+    (row-sound formatOk line _ _ (λ ns long d e. row-reply r (Reply.Format FormatAnswer.Formatted) ns line (no-number ns long) d e)
+    (row-sound formatRefused line _ _ (λ ns long d e. row-reply r (Reply.Format (FormatAnswer.Refused (getD (padded ns) 0 0))) ns line (one-number ns long) d e) (begin-sound r line)))
+
+-- ---- What follows
+
+-- A line is at most one reply.
+pub one-reply : (r s : Reply) (line : List ℕ) → ReplyLine r line → ReplyLine s line → r ≡ s
+one-reply r s line d e =
+    let as-r = reply-read r line d in
+    let as-s = reply-read s line e in
+    cc
+
+-- A line that is unread is no reply.
+pub unread-reply : (line : List ℕ) → readReply line ≡ ReplyRead.Unread → (r : Reply) → ReplyLine r line → ⊥
+unread-reply line e r d =
+    let as-r = reply-read r line d in
+    let z : _≡_ {A = ℕ} 0 1 = cc in
+    omega arith
+
+-- The numbers of a reply fit 32 bits, as those of the code do.
+unfoldable pub ReplyFits : Reply → Type 0
+ReplyFits r = Small (replyNumbers r)
+
+reply-holes : (r : Reply) → length (replyNumbers r) ≡ holes (replyPattern r)
+unfolding replyNumbers replyPattern formatNumbers formatPattern beginNumbers beginPattern stepNumbers stepPattern holes
+reply-holes Reply.Unread = refl
+reply-holes (Reply.Format FormatAnswer.Formatted) = refl
+reply-holes (Reply.Format (FormatAnswer.Refused n)) = refl
+reply-holes (Reply.Begin q BeginAnswer.Begun) = refl
+reply-holes (Reply.Begin q (BeginAnswer.Refused n)) = refl
+reply-holes (Reply.Step q StepAnswer.Waiting) = refl
+reply-holes (Reply.Step q StepAnswer.Moved) = refl
+reply-holes (Reply.Step q (StepAnswer.Done a r)) = omega (arith, tail-literal a r)
+reply-holes (Reply.Step q (StepAnswer.Refused n)) = refl
+
+pub printed-reply-read : (r : Reply) → ReplyFits r → readReply (replyText r) ≡ ReplyRead.Read r
+unfolding ReplyFits ReplyLine replyText
+printed-reply-read r small = reply-read r (replyText r) (filled-derived (replyPattern r) (replyNumbers r) (reply-holes r) small)
