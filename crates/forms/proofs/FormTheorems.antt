@@ -1,24 +1,27 @@
 -- Forms: a line is read exactly where the grammar derives it, as the one form that it is; reading what was printed gives the form again.
--- Main statements: form-read, read-form; one-form; unread-form; printed-form-read.
+-- Main statements: form-read, read-form; one-form; unread-form; printed-form-read, printed-form-there; form-short.
 use mathlib.Core.Path.{_≡_, refl, sym, ap, _∙_, subst}
 use mathlib.Core.List.{List, [], _∷_}
-use Prim.Native.Nat.{ℕ, zero, suc, _≤_}
+use Prim.Native.Nat.{ℕ, _+_, _≤_}
 use native.Mathlib.Omega.{arith}
-use lib.ListN.{length, getD}
+use lib.ListN.{length, getD, take, drop}
+use lib.Seq.{sets}
 use lib.Dec.{lit≤}
 use Rattle.model.specs.declared.FileSizes.{FileSizes}
 use Rattle.model.specs.declared.Operation.{Operation}
 use Rattle.model.specs.declared.Operation.the-variants as Operation
-use Rattle.patterns.specs.Numbers.{isDigit, largest}
+use Rattle.patterns.specs.Numbers.{isDigit}
 use Rattle.patterns.specs.Patterns.{padded}
 use Rattle.patterns.specs.Grammar.{Derives, plain, holes, Plain}
-use Rattle.patterns.proofs.Theorems.{Small, none, more, filled-derived}
+use Rattle.patterns.proofs.Theorems.{Small, filled-derived, longest, filled-short}
 use Rattle.forms.specs.declared.Form.{Form}
 use Rattle.forms.specs.declared.Form.the-variants as Form
 use Rattle.forms.specs.declared.FormRead.{FormRead}
 use Rattle.forms.specs.declared.FormRead.the-variants as FormRead
 use Rattle.forms.specs.Forms.{stepForm, formatForm, beginForm, formPattern, sizeNumbers, formNumbers, FormLine, formText}
 use Rattle.forms.specs.Reading.{orElse, wholly, asStep, asBegin, asFormat, readFormat, readBegin, readForm}
+use Rattle.forms.specs.Printing.{longestForm, given}
+use Rattle.forms.proofs.Puts.{is-given, put-there}
 use Rattle.forms.proofs.Table.{alike, take-row, skip-row, row-sound}
 
 -- ---- The patterns
@@ -156,3 +159,20 @@ form-holes (Form.Step q) = refl
 pub printed-form-read : (f : Form) → FormFits f → readForm (formText f) ≡ FormRead.Read f
 unfolding FormFits FormLine formText
 printed-form-read f small = form-read f (formText f) (filled-derived (formPattern f) (formNumbers f) (form-holes f) small)
+
+-- ---- How long a form is
+
+pub form-short : (f : Form) → length (formText f) ≤ longestForm
+unfolding formText formPattern longest
+form-short (Form.Format s) = filled-short formatForm (formNumbers (Form.Format s))
+form-short (Form.Begin q Operation.Find k) = omega (arith, filled-short (beginForm Operation.Find) (formNumbers (Form.Begin q Operation.Find k)))
+form-short (Form.Begin q Operation.Insert k) = omega (arith, filled-short (beginForm Operation.Insert) (formNumbers (Form.Begin q Operation.Insert k)))
+form-short (Form.Begin q Operation.Delete k) = omega (arith, filled-short (beginForm Operation.Delete) (formNumbers (Form.Begin q Operation.Delete k)))
+form-short (Form.Step q) = omega (arith, filled-short stepForm (formNumbers (Form.Step q)))
+
+-- A form that is printed stands at its place and is read again from there.
+pub printed-form-there : (f : Form) (out : List ℕ) (at : ℕ) → FormFits f → at + longestForm ≤ length out
+    → readForm (take (length (formText f)) (drop at (sets out at (given (length out) at longestForm (formText f))))) ≡ FormRead.Read f
+printed-form-there f out at small room =
+    let text : given (length out) at longestForm (formText f) ≡ formText f = is-given (length out) at longestForm (formText f) room in
+    rw (text, put-there at out (formText f) (omega (arith, form-short f))) (printed-form-read f small)

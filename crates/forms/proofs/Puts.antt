@@ -1,12 +1,13 @@
 -- Texts put at a place: room for them, and one text for another.
--- Main statements: room (a pattern filled is no longer than its longest text), put-as, put-then, put-nothing; is-given, not-given.
+-- Main statements: room (a pattern filled is no longer than its longest text), put-as, put-then, put-nothing; is-given, not-given; put-there (what was put
+-- stands at its place).
 use mathlib.Core.Path.{_≡_, refl, sym, ap, _∙_}
-use mathlib.Core.List.{List, [], _++_}
+use mathlib.Core.List.{List, [], _++_, append-assoc}
 use Prim.Native.Nat.{ℕ, _+_, _≤_, _<_}
 use native.Mathlib.Nat.{add-zero}
 use native.Mathlib.Omega.{arith}
-use lib.ListN.{length, length-append}
-use lib.Seq.{sets}
+use lib.ListN.{length, take, drop, length-append}
+use lib.Seq.{sets, sets-eq, length-take-le, take-at, drop-at}
 use lib.Dec.{T, leb, leb→le}
 use borrow.Author.Tests.{le-leb, lt-leb}
 use Rattle.patterns.specs.Patterns.{filled}
@@ -39,3 +40,13 @@ is-given n at most text h = rw (le-leb (at + most) n h)
 pub not-given : (n at most : ℕ) (text : List ℕ) → n < at + most → given n at most text ≡ []
 unfolding given
 not-given n at most text h = rw (lt-leb (at + most) n h)
+
+-- ---- What was put stands there
+
+-- The text from its place on, and all else as it was.
+pub put-there : (at : ℕ) (first t : List ℕ) → at + length t ≤ length first → take (length t) (drop at (sets first at t)) ≡ t
+put-there at first t h =
+    let front : length (take at first) ≡ at = length-take-le at first (omega arith) in
+    ap (λ (l : List ℕ). take (length t) (drop at l)) (sets-eq t first at h ∙ append-assoc (take at first) t (drop (at + length t) first))
+    ∙ ap (take (length t)) (drop-at (take at first) (t ++ drop (at + length t) first) at front)
+    ∙ take-at t (drop (at + length t) first) (length t) refl

@@ -1,11 +1,12 @@
 -- Replies: a line is read exactly where the grammar derives it, as the one reply that it is; reading what was printed gives the reply again.
--- Main statements: reply-read, read-reply; one-reply; unread-reply; printed-reply-read.
+-- Main statements: reply-read, read-reply; one-reply; unread-reply; printed-reply-read, printed-reply-there; reply-short.
 use mathlib.Core.Path.{_≡_, refl, sym, ap, _∙_, subst, subst₂}
 use mathlib.Core.Bool.{true, false}
 use mathlib.Core.List.{List, [], _∷_, _++_, append-nil}
 use Prim.Native.Nat.{ℕ, _+_, _≤_}
 use native.Mathlib.Omega.{arith}
-use lib.ListN.{length, getD}
+use lib.ListN.{length, getD, take, drop, length-append}
+use lib.Seq.{sets}
 use lib.Dec.{lit≤}
 use Rattle.model.specs.declared.BeginAnswer.{BeginAnswer}
 use Rattle.model.specs.declared.BeginAnswer.the-variants as BeginAnswer
@@ -16,9 +17,9 @@ use Rattle.model.specs.declared.Restructuring.{Restructuring}
 use Rattle.model.specs.declared.StepAnswer.{StepAnswer}
 use Rattle.model.specs.declared.StepAnswer.the-variants as StepAnswer
 use Rattle.patterns.specs.Numbers.{isDigit}
-use Rattle.patterns.specs.Patterns.{Matching, no, yes, matchFrom, padded}
+use Rattle.patterns.specs.Patterns.{Matching, no, yes, matchFrom, padded, filled}
 use Rattle.patterns.specs.Grammar.{Derives, plain, holes, Plain}
-use Rattle.patterns.proofs.Theorems.{Small, match-complete, match-sound, derives-holes, derives-append, derives-split, literal-line, literal-derived, filled-derived}
+use Rattle.patterns.proofs.Theorems.{Small, match-complete, match-sound, derives-holes, derives-append, derives-split, literal-line, literal-derived, filled-derived, longest, filled-short}
 use Rattle.forms.specs.declared.Reply.{Reply}
 use Rattle.forms.specs.declared.Reply.the-variants as Reply
 use Rattle.forms.specs.declared.ReplyRead.{ReplyRead}
@@ -49,9 +50,11 @@ use Rattle.forms.specs.Replies.{
   replyText,
 }
 use Rattle.forms.specs.Reading.{AnswerAt, none, at, readAnswer, readRestructuring, doneAs, doneFrom, doneAfter, readDone, readStepReply, readBeginReply, readReply}
+use Rattle.forms.specs.Printing.{longestReply, given}
+use Rattle.forms.proofs.Puts.{is-given, put-there}
 use Rattle.forms.proofs.Table.{alike, take-row, skip-row, row-sound}
 use Rattle.forms.proofs.FormTheorems.{one-number, two-numbers}
-use Rattle.forms.proofs.Words.{holes-append, tail-literal, tail-plain, tail-stops, answer-complete, answer-sound, restructuring-complete, restructuring-sound}
+use Rattle.forms.proofs.Words.{answer-short, restructuring-short, done-text, tail-literal, tail-plain, tail-stops, answer-complete, answer-sound, restructuring-complete, restructuring-sound}
 
 -- ---- The patterns
 
@@ -272,3 +275,32 @@ reply-holes (Reply.Step q (StepAnswer.Refused n)) = refl
 pub printed-reply-read : (r : Reply) → ReplyFits r → readReply (replyText r) ≡ ReplyRead.Read r
 unfolding ReplyFits ReplyLine replyText
 printed-reply-read r small = reply-read r (replyText r) (filled-derived (replyPattern r) (replyNumbers r) (reply-holes r) small)
+
+-- ---- How long a reply is
+
+done-short : (q : ℕ) (a : OperationAnswer) (r : Restructuring) → length (replyText (Reply.Step q (StepAnswer.Done a r))) ≤ longestReply
+unfolding longest
+done-short q a r =
+    let ns = q ∷ (0 ∷ (0 ∷ (0 ∷ (0 ∷ [])))) in
+    let words = length-append (answerText a) (restructuringText r) in
+    let whole = length-append (filled stepDone ns) (answerText a ++ restructuringText r) in
+    omega (arith, ap length (done-text q a r), whole, words, filled-short stepDone ns, answer-short a, restructuring-short r)
+
+pub reply-short : (r : Reply) → length (replyText r) ≤ longestReply
+unfolding replyText replyPattern formatPattern beginPattern stepPattern longest
+reply-short Reply.Unread = omega (arith, filled-short unreadReply (replyNumbers Reply.Unread))
+reply-short (Reply.Format FormatAnswer.Formatted) = omega (arith, filled-short formatOk (replyNumbers (Reply.Format FormatAnswer.Formatted)))
+reply-short (Reply.Format (FormatAnswer.Refused n)) = omega (arith, filled-short formatRefused (replyNumbers (Reply.Format (FormatAnswer.Refused n))))
+reply-short (Reply.Begin q BeginAnswer.Begun) = omega (arith, filled-short beginOk (replyNumbers (Reply.Begin q BeginAnswer.Begun)))
+reply-short (Reply.Begin q (BeginAnswer.Refused n)) = omega (arith, filled-short beginRefused (replyNumbers (Reply.Begin q (BeginAnswer.Refused n))))
+reply-short (Reply.Step q StepAnswer.Waiting) = omega (arith, filled-short stepWaiting (replyNumbers (Reply.Step q StepAnswer.Waiting)))
+reply-short (Reply.Step q StepAnswer.Moved) = omega (arith, filled-short stepMoved (replyNumbers (Reply.Step q StepAnswer.Moved)))
+reply-short (Reply.Step q (StepAnswer.Done a r)) = done-short q a r
+reply-short (Reply.Step q (StepAnswer.Refused n)) = omega (arith, filled-short stepRefused (replyNumbers (Reply.Step q (StepAnswer.Refused n))))
+
+-- A reply that is printed stands at its place and is read again from there.
+pub printed-reply-there : (r : Reply) (out : List ℕ) (place : ℕ) → ReplyFits r → place + longestReply ≤ length out
+    → readReply (take (length (replyText r)) (drop place (sets out place (given (length out) place longestReply (replyText r))))) ≡ ReplyRead.Read r
+printed-reply-there r out place small room =
+    let text : given (length out) place longestReply (replyText r) ≡ replyText r = is-given (length out) place longestReply (replyText r) room in
+    rw (text, put-there place out (replyText r) (omega (arith, reply-short r))) (printed-reply-read r small)

@@ -1,5 +1,5 @@
 -- The words for an operation's answer and for a restructuring: no number is in them, they are short and no digit begins them.
--- Main statements: answer-short, tail-literal, tail-plain, tail-stops; done-text (a step that is done, printed in parts); answer-complete, answer-sound,
+-- Main statements: answer-short, restructuring-short, tail-literal, tail-plain, tail-stops; done-text (a step that is done, printed in parts); answer-complete, answer-sound,
 -- restructuring-complete, restructuring-sound (the words are read as they are printed, and nothing else is).
 use mathlib.Core.Path.{_≡_, refl, sym, ap, _∙_}
 use mathlib.Core.Bool.{true, false}
@@ -32,6 +32,13 @@ answer-short OperationAnswer.Inserted = lit≤ tt
 answer-short OperationAnswer.Present = lit≤ tt
 answer-short OperationAnswer.Deleted = lit≤ tt
 answer-short OperationAnswer.NoPage = lit≤ tt
+
+pub restructuring-short : (r : Restructuring) → length (restructuringText r) ≤ 15
+restructuring-short Restructuring.None = lit≤ tt
+restructuring-short Restructuring.Split = lit≤ tt
+restructuring-short Restructuring.SplitSkipped = lit≤ tt
+restructuring-short Restructuring.Merged = lit≤ tt
+restructuring-short Restructuring.MergeSkipped = lit≤ tt
 
 pub restructuring-literal : (r : Restructuring) → holes (restructuringText r) ≡ 0
 unfolding holes

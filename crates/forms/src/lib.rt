@@ -12,7 +12,7 @@ ghost use lib.Dec.{leb};
 ghost use Rattle.forms.specs.Forms.{formText};
 ghost use Rattle.forms.specs.Replies.{replyText, answerText, restructuringText};
 ghost use Rattle.forms.specs.Reading.{readForm, readBegin, readFormat, readReply, readBeginReply, readStepReply, readDone, readAnswer, answerRead, readRestructuring};
-ghost use Rattle.forms.specs.Printing.{given};
+ghost use Rattle.forms.specs.Printing.{longestForm, longestReply, given};
 use model::BeginAnswer;
 use model::FileSizes;
 use model::FormatAnswer;
@@ -255,8 +255,8 @@ fn read_restructuring(line: &[u8], at: usize) -> RestructuringRead
 
 // Prints a form at place `at`; the place behind it. Where `out` has not room for the longest form from there on, nothing is printed.
 pub fn print_form(form: Form, out: &mut [u8], at: usize) -> usize
-    ensures { λ r. ⌜ r ≡ at + length (given (length (now (out .entry))) at 63 (formText form)) ⌝ }
-    ensures { λ _. ⌜ now (out .exit) ≡ sets (now (out .entry)) at (given (length (now (out .entry))) at 63 (formText form)) ⌝ }
+    ensures { λ r. ⌜ r ≡ at + length (given (length (now (out .entry))) at longestForm (formText form)) ⌝ }
+    ensures { λ _. ⌜ now (out .exit) ≡ sets (now (out .entry)) at (given (length (now (out .entry))) at longestForm (formText form)) ⌝ }
 {
     if out.len() < LONGEST_FORM {
         return at;
@@ -268,7 +268,7 @@ pub fn print_form(form: Form, out: &mut [u8], at: usize) -> usize
 }
 
 fn put_form(form: Form, out: &mut [u8], at: usize) -> usize
-    requires { ⌜ at + 63 ≤ length (now out) ⌝ }
+    requires { ⌜ at + longestForm ≤ length (now out) ⌝ }
     ensures { λ r. ⌜ r ≡ at + length (formText form) ⌝ }
     ensures { λ _. ⌜ now (out .exit) ≡ sets (now (out .entry)) at (formText form) ⌝ }
 {
@@ -285,7 +285,7 @@ fn put_form(form: Form, out: &mut [u8], at: usize) -> usize
 }
 
 fn put_begin(q: u32, operation: Operation, k: u32, out: &mut [u8], at: usize) -> usize
-    requires { ⌜ at + 63 ≤ length (now out) ⌝ }
+    requires { ⌜ at + longestForm ≤ length (now out) ⌝ }
     ensures { λ r. ⌜ r ≡ at + length (formText (Form.Begin q operation k)) ⌝ }
     ensures { λ _. ⌜ now (out .exit) ≡ sets (now (out .entry)) at (formText (Form.Begin q operation k)) ⌝ }
 {
@@ -300,8 +300,8 @@ fn put_begin(q: u32, operation: Operation, k: u32, out: &mut [u8], at: usize) ->
 
 // Prints a reply at place `at`; the place behind it. Where `out` has not room for the longest reply from there on, nothing is printed.
 pub fn print_reply(reply: Reply, out: &mut [u8], at: usize) -> usize
-    ensures { λ r. ⌜ r ≡ at + length (given (length (now (out .entry))) at 47 (replyText reply)) ⌝ }
-    ensures { λ _. ⌜ now (out .exit) ≡ sets (now (out .entry)) at (given (length (now (out .entry))) at 47 (replyText reply)) ⌝ }
+    ensures { λ r. ⌜ r ≡ at + length (given (length (now (out .entry))) at longestReply (replyText reply)) ⌝ }
+    ensures { λ _. ⌜ now (out .exit) ≡ sets (now (out .entry)) at (given (length (now (out .entry))) at longestReply (replyText reply)) ⌝ }
 {
     if out.len() < LONGEST_REPLY {
         return at;
@@ -313,7 +313,7 @@ pub fn print_reply(reply: Reply, out: &mut [u8], at: usize) -> usize
 }
 
 fn put_reply(reply: Reply, out: &mut [u8], at: usize) -> usize
-    requires { ⌜ at + 47 ≤ length (now out) ⌝ }
+    requires { ⌜ at + longestReply ≤ length (now out) ⌝ }
     ensures { λ r. ⌜ r ≡ at + length (replyText reply) ⌝ }
     ensures { λ _. ⌜ now (out .exit) ≡ sets (now (out .entry)) at (replyText reply) ⌝ }
 {
@@ -326,7 +326,7 @@ fn put_reply(reply: Reply, out: &mut [u8], at: usize) -> usize
 }
 
 fn put_format_reply(answer: FormatAnswer, out: &mut [u8], at: usize) -> usize
-    requires { ⌜ at + 47 ≤ length (now out) ⌝ }
+    requires { ⌜ at + longestReply ≤ length (now out) ⌝ }
     ensures { λ r. ⌜ r ≡ at + length (replyText (Reply.Format answer)) ⌝ }
     ensures { λ _. ⌜ now (out .exit) ≡ sets (now (out .entry)) at (replyText (Reply.Format answer)) ⌝ }
 {
@@ -342,7 +342,7 @@ fn put_format_reply(answer: FormatAnswer, out: &mut [u8], at: usize) -> usize
 }
 
 fn put_begin_reply(q: u32, answer: BeginAnswer, out: &mut [u8], at: usize) -> usize
-    requires { ⌜ at + 47 ≤ length (now out) ⌝ }
+    requires { ⌜ at + longestReply ≤ length (now out) ⌝ }
     ensures { λ r. ⌜ r ≡ at + length (replyText (Reply.Begin q answer)) ⌝ }
     ensures { λ _. ⌜ now (out .exit) ≡ sets (now (out .entry)) at (replyText (Reply.Begin q answer)) ⌝ }
 {
@@ -358,7 +358,7 @@ fn put_begin_reply(q: u32, answer: BeginAnswer, out: &mut [u8], at: usize) -> us
 }
 
 fn put_step_reply(q: u32, answer: StepAnswer, out: &mut [u8], at: usize) -> usize
-    requires { ⌜ at + 47 ≤ length (now out) ⌝ }
+    requires { ⌜ at + longestReply ≤ length (now out) ⌝ }
     ensures { λ r. ⌜ r ≡ at + length (replyText (Reply.Step q answer)) ⌝ }
     ensures { λ _. ⌜ now (out .exit) ≡ sets (now (out .entry)) at (replyText (Reply.Step q answer)) ⌝ }
 {
