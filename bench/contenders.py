@@ -1,0 +1,88 @@
+"""The contenders of the benchmark: each is bench/work.c, built in a temporary folder with what makes a set of it (bench/set.h)."""
+import shutil
+import subprocess
+from collections import namedtuple
+from pathlib import Path
+
+HERE = Path(__file__).resolve().parent
+ROOT = HERE.parent
+LIBRARY, PORT = 'the library', 'the port'
+COMPILE = ['cc', '-std=c11', '-D_GNU_SOURCE', '-O2', '-Wall', '-Wextra', '-Werror', f'-I{ROOT}/include', f'-I{HERE}', HERE / 'work.c']
+# Those from Debian: the package that has the header, the contender's source, what is linked, and the name where it is not there.
+DEBIAN = [('libsqlite3-dev', 'sqlite.c', '-lsqlite3', 'SQLite'), ('liblmdb-dev', 'lmdb.c', '-llmdb', 'LMDB')]
+
+# A contender: its name, and its program; None where it could not be had.
+Contender = namedtuple('Contender', 'name program')
+
+
+class Failed(Exception):
+    """What ended the run; the message says what."""
+
+
+def output(*words, **more):
+    """What a command prints; where it fails, that it did, with what it said."""
+    try:
+        return subprocess.run([str(word) for word in words], check=True, text=True, capture_output=True, **more).stdout
+    except FileNotFoundError:
+        raise Failed(f'there is no {words[0]}') from None
+    except subprocess.CalledProcessError as failed:
+        raise Failed(f'{failed.stderr.strip() or failed.stdout.strip()}\n{Path(words[0]).name} ended with {failed.returncode}') from None
+
+
+def install(package):
+    """Installs a Debian package: whether that went well."""
+    try:
+        if subprocess.run(['dpkg', '-s', package], capture_output=True).returncode != 0:
+            output('apt-get', 'update', '-qq')
+            output('apt-get', 'install', '-y', '-qq', package)
+    except (Failed, FileNotFoundError):
+        return False
+    return True
+
+
+def need(command, package):
+    """Sees to a command that the benchmark cannot do without."""
+    if not shutil.which(command) and not (install(package) and shutil.which(command)):
+        raise Failed(f'{command} is needed, and Debian’s package {package} cannot be installed')
+
+
+def built(room, name, *words):
+    """A contender's program, and its own word for its name."""
+    program = room / name
+    output(*COMPILE, *words, '-o', program)
+    return Contender(output(program, 'name').strip(), program)
+
+
+def library(room, archive=None):
+    """The library: the archive given, else the one that tests/staticlib builds, which says on standard error what it does."""
+    if archive is None:
+        built_now = subprocess.run([ROOT / 'tests/staticlib'], stdout=subprocess.PIPE, text=True)
+        if built_now.returncode != 0:
+            raise Failed('tests/staticlib built no library')
+        archive = built_now.stdout.split()[-1]
+    return built(room, 'library', f'-DNAME="{LIBRARY}"', HERE / 'bead.c', archive)
+
+
+def port(room):
+    output('cargo', 'build', '-j1', '--offline', '--locked', '--release', '--quiet', '--lib', '--manifest-path', ROOT / 'tests/port/Cargo.toml', '--target-dir', room / 'cargo')
+    return built(room, 'port', f'-DNAME="{PORT}"', HERE / 'bead.c', room / 'cargo/release/libbead_port.a')
+
+
+def standard(room, kind):
+    """One of Rust's own sets: hash or tree."""
+    archive = room / f'lib{kind}.a'
+    output('rustc', '--edition', '2021', '-C', 'opt-level=3', '-C', 'panic=abort', '--crate-type', 'staticlib', '--cfg', kind, HERE / 'std_sets.rs', '-o', archive)
+    return built(room, kind, archive)
+
+
+def debian(room, package, source, linked, name):
+    if not install(package):
+        return Contender(f'{name} (its package {package} did not install)', None)
+    return built(room, Path(source).stem, HERE / source, linked)
+
+
+def every(room, archive, say):
+    """All contenders, in the table's order."""
+    say('building the contenders')
+    pair = [library(room, archive), port(room)]
+    return pair + [standard(room, kind) for kind in ('hash', 'tree')] + [debian(room, *kind) for kind in DEBIAN]
