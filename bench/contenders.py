@@ -32,7 +32,8 @@ def output(*words, **more):
 def install(package):
     """Installs a Debian package: whether that went well."""
     try:
-        if subprocess.run(['dpkg', '-s', package], capture_output=True).returncode != 0:
+        stands = subprocess.run(['dpkg-query', '-W', '-f', '${Status}', package], capture_output=True, text=True)
+        if stands.stdout != 'install ok installed':
             output('apt-get', 'update', '-qq')
             output('apt-get', 'install', '-y', '-qq', package)
     except (Failed, FileNotFoundError):

@@ -11,13 +11,13 @@ TOP, HIGH, HEIGHT, MOST, PITCH = 136, 308, 500, 7000, 1000
 Panel = namedtuple('Panel', 'left wide title along marks')
 KEYS = Panel(66, 364, 'By keys in the file', 'keys', [0, 1500, 3000, 4500, 6000, 7500, 9000])
 PARTIES = Panel(504, 364, 'By parties in turn, a call each, round and round', 'parties', [1, 4, 8, 12, 16])
-# A curve: its panel, the points that are on it (their kind, and either their keys or their parties), its line, its dots, and its words over the last point.
-Curve = namedtuple('Curve', 'panel kind only line dots words')
+# A curve: its panel, the kind of its points, its line, its dots, its words, and the point where these end.
+Curve = namedtuple('Curve', 'panel kind line dots words end')
 CURVES = [
-    Curve(KEYS, 'change', 1, 'selective-edge', 'selective-ink', 'insert and delete'),
-    Curve(KEYS, 'find', 1, 'read-edge', 'read-ink', 'find'),
-    Curve(PARTIES, 'change', 10, 'selective-edge', 'selective-ink', 'insert and delete, among 30 keys'),
-    Curve(PARTIES, 'mixed', 8738, 'ring', 'accent', 'eight finds, insert and delete, among 8,758 keys'),
+    Curve(KEYS, 'change', 'selective-edge', 'selective-ink', 'insert and delete', (9000, 4200)),
+    Curve(KEYS, 'find', 'read-edge', 'read-ink', 'find', (9000, 2450)),
+    Curve(PARTIES, 'crowd', 'selective-edge', 'selective-ink', 'insert and delete, among 30 keys', (12.4, 5150)),
+    Curve(PARTIES, 'mixed', 'ring', 'accent', 'eight finds, an insert and a delete, among 8,758 keys', (16, 1600)),
 ]
 SAYS = ['The file is 1 12 256 752 16, and every operation is counted from begin to done. Up to some 3,000 keys a chain is split for every new overflow page; then',
         'all 256 chains are there, and grow. Parties wait for one another where few chains are changed by many; waiting calls are counted too.']
@@ -34,9 +34,8 @@ def points(curve, counts):
     found = []
     for label, instructions in counts.items():
         kind, keys, parties = label.split()
-        along, other = (parties, keys) if curve.panel is PARTIES else (keys, parties)
-        if kind == curve.kind and int(other) == curve.only:
-            found.append((int(along), instructions))
+        if kind == curve.kind:
+            found.append((int(parties if curve.panel is PARTIES else keys), instructions))
     return sorted(found)
 
 
@@ -54,17 +53,13 @@ def draw_panel(picture, panel):
 
 
 def draw_curve(picture, curve, grown):
-    """The library's line with dots, the port's broken; the words stand over the library's last points."""
-    for name, kind in ((PORT, ' dashed'), (LIBRARY, '')):
-        corners = [place(curve.panel, *point) for point in points(curve, grown[name])]
-        picture.path(corners, curve.line + kind, arrow=False)
-        if name == LIBRARY:
-            for x, y in corners:
-                picture.circle(x, y, 2.4, curve.dots)
-    long = width_of(curve.words, 12, bold=True)
-    over = min(y for x, y in corners if x > corners[-1][0] - long - 8)
-    clear = curve.panel is PARTIES and curve.only == 10
-    picture.text(corners[-1][0] - (44 if clear else 0), over - (4 if clear else 10), curve.words, 12, 'ink bold', 'end')
+    """The port's line, broken; the library's, with dots; the words."""
+    picture.path([place(curve.panel, *point) for point in points(curve, grown[PORT])], f'{curve.line} dashed', arrow=False)
+    corners = [place(curve.panel, *point) for point in points(curve, grown[LIBRARY])]
+    picture.path(corners, curve.line, arrow=False)
+    for x, y in corners:
+        picture.circle(x, y, 2.4, curve.dots)
+    picture.text(*place(curve.panel, *curve.end), curve.words, 12, 'ink bold', 'end')
 
 
 def draw(grown):

@@ -40,7 +40,7 @@ def times_the_port(found, rows, middle):
 def counted(contenders, counts):
     """The lines of instructions, without a head."""
     rows = list(counts[LIBRARY])
-    return [*block('instructions', contenders, counts, rows, lambda value: f'{value:.0f}'), times_the_port(counts, rows, lambda value: value)]
+    return [*block('instructions', contenders, counts, rows, lambda value: f'{value:,.0f}'), times_the_port(counts, rows, lambda value: value)]
 
 
 def timed(contenders, times):
@@ -83,4 +83,4 @@ def written():
     numbers = re.search(rf'^\| instructions \| {LIBRARY} \| (.*) \|$', text, re.M)
     if not names or not numbers:
         return {}
-    return dict(zip(names[1].split(' | '), map(int, numbers[1].split(' | '))))
+    return dict(zip(names[1].split(' | '), map(int, numbers[1].replace(',', '').split(' | '))))

@@ -173,7 +173,7 @@ static void growth(void)
         count_point("change", CHANGES, keys, 1);
     }
     for (uint32_t parties = 1; parties <= 16; parties++) {
-        count_point("change", CHANGES, FEW_KEYS, parties);
+        count_point("crowd", CHANGES, FEW_KEYS, parties);
         count_point("mixed", MIXED, KEYS, parties);
     }
 }
