@@ -9,7 +9,7 @@ from contenders import Failed, ROOT, output
 # How often everything is timed, and how long one row of one contender is repeated, in seconds of processor time.
 ROUNDS, SECONDS = 9, 0.1
 # The rounds of turns, and about how many lines it is given in each.
-TURNS_ROUNDS, TURNS_LINES = 5, 100000
+TURNS_ROUNDS, TURNS_LINES = 5, 50000
 
 
 class Spread(namedtuple('Spread', 'middle least most')):
@@ -53,11 +53,11 @@ def processor_time():
 
 
 def turns(say):
-    """Lines a second of processor time of the turns program on the stored runs, over and over; None where it is not built."""
+    """Lines a second of processor time of the turns program on the stored runs that begin with a format, over and over; None where it is not built."""
     program = ROOT / 'target/bin/turns'
     if not program.exists():
         return None
-    runs = [run for run in sorted((ROOT / 'tests/transcripts').glob('run-*.in')) if run.read_text().startswith('(format')]
+    runs = [run for run in sorted((ROOT / 'tests/transcripts').glob('run-*.out')) if run.read_text().startswith('(format ok)')]
     asked, answered = (''.join(run.with_suffix(end).read_text() for run in runs) for end in ('.in', '.out'))
     over = TURNS_LINES // asked.count('\n') + 1
     say('timing turns')

@@ -2,7 +2,10 @@
 //! HashSet's hasher is the one it has by default, with fixed keys in place of random ones, so that its instructions are the same in every run.
 
 #[cfg(hash)]
-type Set = std::collections::HashSet<u32, std::hash::BuildHasherDefault<std::collections::hash_map::DefaultHasher>>;
+type Set = std::collections::HashSet<
+    u32,
+    std::hash::BuildHasherDefault<std::collections::hash_map::DefaultHasher>,
+>;
 #[cfg(hash)]
 const NAME: &[u8] = b"Rust's HashSet\0";
 

@@ -25,7 +25,7 @@ def head(rows):
 
 
 def block(unit, contenders, found, rows, as_words):
-    """A unit's lines: one a contender, then how many times the port's number the library's is."""
+    """A unit's lines, one a contender."""
     lines = []
     for contender in contenders:
         numbers = found.get(contender.name, {})
@@ -34,6 +34,7 @@ def block(unit, contenders, found, rows, as_words):
 
 
 def times_the_port(found, rows, middle):
+    """How many times the port's number the library's is."""
     return line(['', 'library : port', *(f'{middle(found[LIBRARY][row]) / middle(found[PORT][row]):.2f}' for row in rows)])
 
 
@@ -52,7 +53,7 @@ def machine():
     """The processor and the compilers, which the numbers depend on."""
     models = re.findall(r'^model name\s*: (.*)$', Path('/proc/cpuinfo').read_text(), re.M)
     versions = [f'gcc {output("cc", "-dumpfullversion").strip()}', ' '.join(output('rustc', '--version').split()[:2]), output('valgrind', '--version').strip().replace('-', ' ')]
-    return f'{models[0] if models else "Unknown processor"}, {len(models)} of them; {", ".join(versions)}.'
+    return f'Measured on {len(models)} × {models[0] if models else "a processor without a name"}, with {", ".join(versions)}.'
 
 
 def of_turns(found):
