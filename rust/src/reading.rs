@@ -6,7 +6,7 @@ use crate::error::{Error, Refusal};
 use crate::file::File;
 use crate::memory::Memory;
 use crate::sizes::Sizes;
-use crate::wait::Wait;
+use crate::wait::{Lock, Mode, Wait};
 use std::fmt;
 
 /// What stands in the file.
@@ -52,6 +52,22 @@ impl<M: Memory> File<M> {
         } else {
             Err(Refusal::Party)
         }
+    }
+
+    /// The lock that a party's next step asks for, granted or not; none where it asks for none.
+    ///
+    /// ```
+    /// use bead_index::{File, Lock, Mode, Operation, Sizes};
+    ///
+    /// let mut file = File::new(Sizes::new())?;
+    /// assert_eq!(file.wanted(0), None);
+    /// file.begin(0, Operation::insert(7))?;
+    /// assert_eq!(file.wanted(0), Some((Lock::Root, Mode::Read)));
+    /// # Ok::<(), bead_index::Refusal>(())
+    /// ```
+    #[must_use]
+    pub fn wanted(&self, party: u32) -> Option<(Lock, Mode)> {
+        self.memory.parts().wanted(party)
     }
 
     /// Why a party's next step would wait; none where it would not.

@@ -116,7 +116,7 @@ impl Parts<'_> {
     }
 
     /// The lock that a party's next step asks for.
-    fn wanted(self, party: u32) -> Option<(Lock, Mode)> {
+    pub(crate) fn wanted(self, party: u32) -> Option<(Lock, Mode)> {
         let record = self.record(party)?;
         let shared = match Kind::of(record.operation)? {
             Kind::Find => Mode::Read,

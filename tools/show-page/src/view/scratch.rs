@@ -1,0 +1,34 @@
+//! The scratch pages that are in use, and the new pages that stand behind them until they are written into the file.
+
+use crate::cells::{Cell, Row};
+use crate::memory::Memory;
+use crate::view::chains;
+
+/// A row for each party whose scratch page has something in it.
+pub fn rows(memory: &Memory) -> Vec<Row> {
+    (0..memory.root.parties)
+        .filter_map(|party| {
+            let page = memory.page(memory.scratch_page(party))?;
+            let record = memory.parties.get(party as usize)?;
+            if page.is_zero() {
+                return None;
+            }
+            let mut cells = vec![
+                Cell::new("level", [page.level()]),
+                chains::keys(page.number, page),
+            ];
+            if leads_to_new_pages(record.step) {
+                let new = memory.pages_from(page.next());
+                cells.extend(new.iter().map(|page| chains::keys(page.number, *page)));
+            } else {
+                cells.extend(page.next().map(|next| Cell::new("link to page", [next])));
+            }
+            Some(Row::new(party, format!("scratch of party {party}"), cells))
+        })
+        .collect()
+}
+
+/// Whether the next step is one before the scratch page is written as a primary page.
+fn leads_to_new_pages(step: u32) -> bool {
+    matches!(step, 11 | 18 | 27 | 28)
+}
