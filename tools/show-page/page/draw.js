@@ -2,6 +2,8 @@
 
 // How many lines of the script are shown before and after the line.
 const linesAround = 6;
+// From so many rows on a section may show them side by side.
+const manyRows = 12;
 
 function byId(id) {
   return document.getElementById(id);
@@ -70,6 +72,8 @@ function drawnSection(title, before, after) {
   const heading = make("h2", "", title);
   heading.id = `${id}-title`;
   const list = make("div", "rows", ...(rows.length > 0 ? rows : [make("p", "none", "none")]));
+  list.classList.toggle("many", rows.length >= manyRows);
+  list.setAttribute("role", "list");
   const section = make("section", id, heading, list);
   section.setAttribute("aria-labelledby", heading.id);
   return section;
@@ -79,6 +83,7 @@ function drawnRow(place, oldNumbers, numbers) {
   const [old, now] = [rowOf(oldNumbers), rowOf(numbers)];
   const cells = now.cells.map((cell) => drawnCell(cell, old.cells.find((other) => other.name === cell.name)));
   const row = make("div", "row", make("span", "title", now.title), ...cells);
+  row.setAttribute("role", "listitem");
   row.dataset.place = place;
   row.style.setProperty("--party", place);
   if (oldNumbers !== numbers) row.classList.add("changed");
@@ -90,6 +95,7 @@ function drawnCell(cell, old) {
   const items = cell.items.map((item) => {
     const drawn = make("span", old && old.items.includes(item) ? "item" : "item new", item);
     drawn.style.setProperty("--party", /\d*$/.exec(item)[0]);
+    drawn.classList.toggle("empty", item === "empty" || item === "idle");
     return drawn;
   });
   const drawn = make("span", `cell ${classOf(cell.name)}`, make("span", "name", cell.name), ...items);
