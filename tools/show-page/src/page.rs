@@ -94,12 +94,14 @@ fn view_splices(before: &View, after: &View, cells: &mut CellTable) -> Vec<Strin
 fn row_splice(section: usize, (before, after): Pair<'_>, cells: &mut CellTable) -> String {
     let place = before.or(after).map_or(0, |row| row.place) as usize;
     let (old, new) = (cells.row(before), cells.row(after));
-    let alike = |pairs: &mut dyn Iterator<Item = (&usize, &usize)>| {
-        pairs.take_while(|(old, new)| old == new).count()
-    };
-    let start = alike(&mut old.iter().zip(&new));
-    let end = alike(&mut old[start..].iter().rev().zip(new[start..].iter().rev()));
+    let start = alike(old.iter(), new.iter());
+    let end = alike(old[start..].iter().rev(), new[start..].iter().rev());
     let mut numbers = vec![section, place, start, old.len() - start - end];
     numbers.extend(&new[start..new.len() - end]);
     list(numbers.iter().map(ToString::to_string))
+}
+
+/// How many numbers two rows begin with alike.
+fn alike<'a>(old: impl Iterator<Item = &'a usize>, new: impl Iterator<Item = &'a usize>) -> usize {
+    old.zip(new).take_while(|(old, new)| old == new).count()
 }

@@ -64,8 +64,8 @@ fn write_section(out: &mut String, before: &Section, after: &Section, is_new: bo
     for row in &after.rows {
         let is_marked = !is_new && changed.contains(&row.place);
         let mut line = if is_marked { "* " } else { "  " }.to_string();
-        for (text, width) in texts(row).iter().zip(&widths) {
-            if *width > 0 {
+        for (text, &width) in texts(row).iter().zip(&widths) {
+            if width > 0 {
                 let _ = write!(line, "{text:width$}  ");
             }
         }
