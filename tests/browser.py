@@ -3,13 +3,18 @@ import base64
 import fcntl
 import json
 import os
+import select
 import shutil
 import subprocess
 import tempfile
+import time
 
 # Running as root needs --no-sandbox; the rest keeps the browser from reaching out.
 FLAGS = ["--headless", "--no-sandbox", "--disable-gpu", "--disable-dev-shm-usage", "--no-first-run", "--disable-extensions", "--disable-background-networking",
          "--disable-component-update", "--hide-scrollbars", "--remote-debugging-pipe"]
+
+# Seconds that the browser may be silent, or a page take to open.
+PATIENCE = 60
 
 
 class Wrong(Exception):
@@ -66,9 +71,10 @@ class Browser:
     def message(self):
         """The next message of the browser."""
         while b"\0" not in self.buffer:
-            chunk = os.read(self.from_browser, 1 << 20)
+            ready, _, _ = select.select([self.from_browser], [], [], PATIENCE)
+            chunk = os.read(self.from_browser, 1 << 20) if ready else b""
             if not chunk:
-                raise Wrong("the browser ended")
+                raise Wrong("the browser ended" if ready else "the browser says nothing")
             self.buffer += chunk
         message, self.buffer = self.buffer.split(b"\0", 1)
         return json.loads(message)
@@ -99,8 +105,18 @@ class Browser:
         """Opens a page and waits until it is loaded."""
         self.call("Page.navigate", url="about:blank")
         self.call("Page.navigate", url=address)
-        while (message := self.message()).get("method") != "Page.loadEventFired" or self.value("location.href") == "about:blank":
-            self.note(message)
+        end = time.monotonic() + PATIENCE
+        while not self.is_at(address.split("#")[0]):
+            if time.monotonic() > end:
+                raise Wrong(f"{address} does not open")
+            time.sleep(0.02)
+
+    def is_at(self, address):
+        """Whether a page is loaded; a page that is on its way cannot be asked."""
+        try:
+            return self.value("document.readyState === 'complete' && location.href.split('#')[0]") == address
+        except Wrong:
+            return False
 
     def value(self, expression):
         result = self.call("Runtime.evaluate", expression=expression, returnByValue=True, awaitPromise=True)

@@ -1,7 +1,14 @@
 // The strip under the slider: where the script waits, ends operations, is refused or cannot be read.
 
 // The kinds of lines that the strip shows, the more notable later, with their colours in the style.
-const stripKinds = { begun: "--begun", done: "--done", waiting: "--waiting", refused: "--refused", unread: "--refused" };
+const stripKinds = {
+  begun: "--begun",
+  formatted: "--formatted",
+  done: "--done",
+  waiting: "--waiting",
+  refused: "--refused",
+  unread: "--unread",
+};
 
 function drawStrip() {
   const strip = byId("strip");
