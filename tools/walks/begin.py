@@ -24,7 +24,8 @@ begin = Function(
 def body():
     w = Body([])
     w.opening(begin, root, 8)
-    a, b = w.branch_inside(row, 5, 9, 12, 13)
+    w.test_inside(row, 5, 9, 12, 13)
+    a, b = w.branch_on(13)
     inside, party = '(ltb→lt i (length ps) may)', BEGUN.field('party', 'x', 'ix')
     a.take_record(row, 9, 14, 15, 16, inside)
     for p, k, into in ((row, 2, 17), (locks, 3, 18), (pages, 4, 19)):

@@ -5,6 +5,7 @@ use mathlib.Core.Bool.{Bool, true, false, not}
 use mathlib.Core.List.{List, [], _∷_}
 use Prim.Native.Nat.{ℕ, zero, suc, _<_, _≤_, _*_, _^_}
 use native.Mathlib.Omega.{arith}
+use mir.Syntax.{Ty, Local, local}
 use lib.Dec.{T}
 use lib.ListN.{length, set, replicate}
 use Rattle.model.specs.declared.Root.{Root}
@@ -21,6 +22,12 @@ use Rattle.calls.specs.declared.Formatted.{Formatted}
 use Rattle.calls.specs.declared.Begun.{Begun}
 use Rattle.calls.specs.Lent.{lent, rowAfter, leftByFormat, leftByBegin, leftByStep}
 use Rattle.index.specs.Answered.{isFormatted}
+
+-- The locals of a function at their addresses.
+abbrev pub framed : List Local → List ℕ → List (Ty × ℕ)
+framed [] at = []
+framed (local t h ∷ ls) [] = []
+framed (local t h ∷ ls) (a ∷ at) = (t, a) ∷ framed ls at
 
 -- The place of a record of 36 bytes does not wrap.
 pub place-fits : (i n : ℕ) → i < n → n * 36 < 2 ^ 63 → i * 36 < 2 ^ 64

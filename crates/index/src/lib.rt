@@ -112,14 +112,12 @@ pub fn step(
 {
     let former = *root;
     let at = q as usize;
-    if at < parties.len() {
-        let stepped = calls::step(former, parties[at], parties.len(), q, locks, pages);
+    let inside = at < parties.len();
+    let party = if inside { parties[at] } else { records::idle() };
+    let stepped = calls::step(former, party, parties.len(), q, locks, pages);
+    *root = stepped.root;
+    if inside {
         parties[at] = stepped.party;
-        *root = stepped.root;
-        return stepped.answer;
-    } else {
-        let refused = calls::step(former, records::idle(), parties.len(), q, locks, pages);
-        *root = refused.root;
-        return refused.answer;
     }
+    stepped.answer
 }
