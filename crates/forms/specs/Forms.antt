@@ -1,4 +1,4 @@
--- The forms that turns reads (document 01, "turns"): each has a pattern and the numbers in it.
+-- The forms that turns reads (document 01, "The turns program"): each has a pattern and the numbers in it.
 -- Main definitions: formPattern and formNumbers, a row for each form; FormLine (the lines that the grammar derives for a form); formText (as it is printed).
 use mathlib.Core.List.{List, [], _∷_}
 use Prim.Native.Nat.{ℕ}

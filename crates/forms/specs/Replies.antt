@@ -1,4 +1,4 @@
--- The replies that turns prints (document 01, "turns"): each has a pattern and the numbers in it.
+-- The replies that turns prints (document 01, "The turns program"): each has a pattern and the numbers in it.
 -- Main definitions: replyPattern and replyNumbers, a row for each reply; a step that is done has a row for its answer and one for the restructuring;
 -- ReplyLine, replyText.
 use mathlib.Core.List.{List, [], _∷_, _++_}

@@ -1,4 +1,4 @@
-// The forms of the program turns (document 01, "turns"): the five that it reads and the replies that it prints, each read and printed by its pattern.
+// The forms of the program turns (document 01, "The turns program"): the five that it reads and the replies that it prints, each read and printed by its pattern.
 // Main statements: read_form and read_reply are readForm and readReply; print_form and print_reply write textOf a form and of a reply. That a line is
 // read exactly where the grammar derives it, and that what is printed is read again: proofs/Theorems.
 
