@@ -3,5 +3,6 @@ pub mod Rows
 pub mod Puts
 pub mod Words
 pub mod Table
+pub mod StepLine
 pub mod FormTheorems
 pub mod ReplyTheorems

@@ -9,9 +9,10 @@ ghost use Prim.Native.Nat.{_+_, _≤_};
 ghost use lib.ListN.{length, drop};
 ghost use lib.Seq.{sets};
 ghost use lib.Dec.{leb};
-ghost use Rattle.forms.specs.Forms.{formText};
+ghost use Rattle.patterns.specs.Patterns.{matched};
+ghost use Rattle.forms.specs.Forms.{stepForm, formText};
 ghost use Rattle.forms.specs.Replies.{replyText, answerText, restructuringText};
-ghost use Rattle.forms.specs.Reading.{readForm, readBegin, readFormat, readReply, readBeginReply, readStepReply, readDone, readAnswer, answerRead, readRestructuring};
+ghost use Rattle.forms.specs.Reading.{wholly, readForm, readBegin, readFormat, readReply, readBeginReply, readStepReply, readDone, readAnswer, answerRead, readRestructuring};
 ghost use Rattle.forms.specs.Printing.{longestForm, longestReply, given};
 use model::BeginAnswer;
 use model::FileSizes;
@@ -20,6 +21,8 @@ use model::Operation;
 use model::OperationAnswer;
 use model::Restructuring;
 use model::StepAnswer;
+use patterns::Match;
+use patterns::Number;
 
 // The longest text of a form, `(format` with five numbers of ten digits, and of a reply, an insert done with a split or a merge skipped.
 pub const LONGEST_FORM: usize = 63;
@@ -65,11 +68,38 @@ enum RestructuringRead {
 
 // ---- Reading forms
 
+// The pattern of a step as the whole line. Most lines are steps, so their text is compared in one piece.
+fn match_step(line: &[u8]) -> Match
+    ensures { λ r. ⌜ r ≡ matched (length (now (line .entry))) (wholly stepForm (now (line .entry))) ⌝ }
+{
+    if !patterns::text_at(b"(step ", line, 0) {
+        return patterns::unmatched();
+    }
+    let Number::Read { value, next } = patterns::read_number(line, 6) else {
+        return patterns::unmatched();
+    };
+    if line.len() <= next {
+        return patterns::unmatched();
+    }
+    if line[next] != b')' {
+        return patterns::unmatched();
+    }
+    if next + 1 == line.len() {
+        Match {
+            matched: true,
+            next: next + 1,
+            numbers: [value, 0, 0, 0, 0],
+        }
+    } else {
+        patterns::unmatched()
+    }
+}
+
 // The form that a line is.
 pub fn read_form(line: &[u8]) -> FormRead
     ensures { λ r. ⌜ r ≡ readForm (now (line .entry)) ⌝ }
 {
-    let m = patterns::match_rest(b"(step #)", line, 0);
+    let m = match_step(line);
     if m.matched {
         let n = m.numbers;
         return FormRead::Read(Form::Step(n[0]));
@@ -357,14 +387,36 @@ fn put_begin_reply(q: u32, answer: BeginAnswer, out: &mut [u8], at: usize) -> us
     }
 }
 
+// The reply that comes most often, put in pieces.
+fn put_moved(q: u32, out: &mut [u8], at: usize) -> usize
+    requires { ⌜ at + longestReply ≤ length (now out) ⌝ }
+    ensures { λ r. ⌜ r ≡ at + length (replyText (Reply.Step q StepAnswer.Moved)) ⌝ }
+    ensures { λ _. ⌜ now (out .exit) ≡ sets (now (out .entry)) at (replyText (Reply.Step q StepAnswer.Moved)) ⌝ }
+{
+    let next = patterns::put_text(b"(step ", out, at);
+    let then = patterns::put_number(q, out, next);
+    patterns::put_text(b" moved)", out, then)
+}
+
+// A waiting step, put in pieces.
+fn put_waiting(q: u32, out: &mut [u8], at: usize) -> usize
+    requires { ⌜ at + longestReply ≤ length (now out) ⌝ }
+    ensures { λ r. ⌜ r ≡ at + length (replyText (Reply.Step q StepAnswer.Waiting)) ⌝ }
+    ensures { λ _. ⌜ now (out .exit) ≡ sets (now (out .entry)) at (replyText (Reply.Step q StepAnswer.Waiting)) ⌝ }
+{
+    let next = patterns::put_text(b"(step ", out, at);
+    let then = patterns::put_number(q, out, next);
+    patterns::put_text(b" waiting)", out, then)
+}
+
 fn put_step_reply(q: u32, answer: StepAnswer, out: &mut [u8], at: usize) -> usize
     requires { ⌜ at + longestReply ≤ length (now out) ⌝ }
     ensures { λ r. ⌜ r ≡ at + length (replyText (Reply.Step q answer)) ⌝ }
     ensures { λ _. ⌜ now (out .exit) ≡ sets (now (out .entry)) at (replyText (Reply.Step q answer)) ⌝ }
 {
     match answer {
-        StepAnswer::Moved => patterns::fill(b"(step # moved)", [q, 0, 0, 0, 0], out, at),
-        StepAnswer::Waiting => patterns::fill(b"(step # waiting)", [q, 0, 0, 0, 0], out, at),
+        StepAnswer::Moved => put_moved(q, out, at),
+        StepAnswer::Waiting => put_waiting(q, out, at),
         StepAnswer::Refused(n) => patterns::fill(b"(step # (refused #))", [q, n, 0, 0, 0], out, at),
         StepAnswer::Done(answer, made) => {
             let next = patterns::fill(b"(step # (done ", [q, 0, 0, 0, 0], out, at);

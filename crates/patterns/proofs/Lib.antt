@@ -4,5 +4,6 @@ pub mod Scanning
 pub mod Spelling
 pub mod Matching
 pub mod Filling
+pub mod Literals
 pub mod Numerals
 pub mod Theorems

@@ -11,16 +11,9 @@ use lib.Dec.{eqb, leb, ltb, lit<, lit≤}
 use borrow.Author.Tests.{lt-ltb, le-ltb, le-leb, eq-eqb, ne-eqb, ltb-true, leb-true, eqb-false, ltb-false}
 use Rattle.patterns.specs.Numbers.{isDigit, allDigits, valueFrom, valueOf, mostDigits, largest, Scan, unread, read, ended, scan, digits, width, widthOf, decimal}
 use Rattle.patterns.specs.Grammar.{Numeral}
-use Rattle.patterns.proofs.Tests.{Told, holds, fails, tell}
+use Rattle.patterns.proofs.Tests.{Told, holds, fails, tell, both-true}
 use Rattle.patterns.proofs.Scanning.{a-digit}
 use Rattle.patterns.proofs.Spelling.{width-more, width-done, length-digits, length-decimal}
-
--- ---- Tests that are joined
-
-pub both-true : (s t : Bool) → (s && t) ≡ true → (s ≡ true) × (t ≡ true)
-both-true true true e = (refl, refl)
-both-true true false e = absurd (true≢false (sym e))
-both-true false t e = absurd (true≢false (sym e))
 
 -- No digit stands at the head of a line.
 abbrev pub stops : List ℕ → Bool

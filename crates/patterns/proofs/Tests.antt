@@ -1,7 +1,7 @@
 -- A test passes or fails, and what is left of a list at a place.
--- Main statements: tell; next-of, left-from.
-use mathlib.Core.Path.{_≡_, refl}
-use mathlib.Core.Bool.{Bool, true, false}
+-- Main statements: tell, both-true; next-of, left-from.
+use mathlib.Core.Path.{_≡_, refl, sym}
+use mathlib.Core.Bool.{Bool, true, false, _&&_, true≢false}
 use mathlib.Core.List.{List, _∷_}
 use Prim.Native.Nat.{ℕ, _+_, _-_, _≤_, _<_}
 use native.Mathlib.Numerals.{add-one}
@@ -16,6 +16,11 @@ pub data Told (t : Bool) : Type 0 where
 pub tell : (t : Bool) → Told t
 tell true = holds refl
 tell false = fails refl
+
+pub both-true : (s t : Bool) → (s && t) ≡ true → (s ≡ true) × (t ≡ true)
+both-true true true e = (refl, refl)
+both-true true false e = absurd (true≢false (sym e))
+both-true false t e = absurd (true≢false (sym e))
 
 pub next-of : (l : List ℕ) (i : ℕ) → i < length l → drop i l ≡ getD l i 0 ∷ drop (i + 1) l
 next-of l i h = rw add-one (drop-cons l i 0 h)

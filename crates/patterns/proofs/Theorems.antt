@@ -14,8 +14,8 @@ use borrow.Author.Tests.{lt-ltb, eq-eqb, ne-eqb, eqb-true, eqb-false, not-true}
 use Rattle.patterns.specs.Numbers.{isDigit, allDigits, largest, mostDigits, Scan, unread, read, scan, decimal}
 use Rattle.patterns.specs.Patterns.{hole, mostNumbers, Matching, no, yes, andThen, afterNumber, numberIn, byteIn, symbolIn, matchFrom, toEnd, symbolText, numbersAfter, filled}
 use Rattle.patterns.specs.Grammar.{Numeral, Derives, end, byte, number, plain, holes, Plain}
-use Rattle.patterns.proofs.Tests.{Told, holds, fails, tell}
-use Rattle.patterns.proofs.Numerals.{both-true, stops, scan-complete, scan-sound, Read, decimal-numeral, decimal-short}
+use Rattle.patterns.proofs.Tests.{Told, holds, fails, tell, both-true}
+use Rattle.patterns.proofs.Numerals.{stops, scan-complete, scan-sound, Read, decimal-numeral, decimal-short}
 
 -- ---- What is derived is matched
 

@@ -1,6 +1,6 @@
 -- Patterns: lists of bytes in which `#` stands for a number and every other byte for itself.
 -- Main definitions: matchFrom (a pattern at the head of a line), toEnd, filled (the text of a pattern with numbers in its holes).
-use mathlib.Core.Bool.{Bool, true, false, cond}
+use mathlib.Core.Bool.{Bool, true, false, cond, _&&_}
 use mathlib.Core.List.{List, [], _∷_, _++_}
 use Prim.Native.Nat.{ℕ, zero, suc, _+_, _-_}
 use lib.ListN.{length, getD, drop, replicate}
@@ -60,6 +60,12 @@ padded ns = ns ++ replicate (mostNumbers - length ns) 0
 unfoldable pub matched : ℕ → Matching → Match
 matched n no = record { matched = false; next = 0; numbers = replicate mostNumbers 0 }
 matched n (yes ns rest) = record { matched = true; next = n - length rest; numbers = padded ns }
+
+-- Whether a text stands at the head of a line.
+unfoldable pub startsWith : List ℕ → List ℕ → Bool
+startsWith [] l = true
+startsWith (b ∷ p) [] = false
+startsWith (b ∷ p) (c ∷ l) = eqb c b && startsWith p l
 
 -- ---- Printing
 

@@ -1,6 +1,6 @@
 // Lines of text by patterns: `#` in a pattern stands for a number, every other byte for itself.
 // Main statements: read_number, match_at and match_line are what specs/ says of a number and of a pattern at a place; put_number and fill write the
-// text that specs/ gives. That a line is matched exactly where the grammar derives it, with one list of numbers, and that what is filled matches
+// text that specs/ gives; text_at and put_text do the same for text alone. That a line is matched exactly where the grammar derives it, with one list of numbers, and that what is filled matches
 // again: proofs/Theorems.
 
 ghost use mathlib.Core.Path.{_≡_};
@@ -9,7 +9,7 @@ ghost use lib.ListN.{length, getD, drop};
 ghost use lib.Seq.{sets};
 ghost use mathlib.Core.List.{[]};
 ghost use Rattle.patterns.specs.Numbers.{scanned, scan, numberOf, decimal, digits, widthOf};
-ghost use Rattle.patterns.specs.Patterns.{Matching, matchFrom, toEnd, matched, filled};
+ghost use Rattle.patterns.specs.Patterns.{Matching, matchFrom, toEnd, matched, filled, startsWith};
 
 // The byte of a pattern that stands for a number.
 const HOLE: u8 = b'#';
@@ -80,7 +80,7 @@ pub fn read_number(line: &[u8], at: usize) -> Number
 }
 
 // No match.
-fn unmatched() -> Match
+pub fn unmatched() -> Match
     ensures { λ r. ⌜ r ≡ matched 0 Matching.no ⌝ }
 {
     Match {
@@ -204,4 +204,38 @@ pub fn fill(pattern: &[u8], numbers: Numbers, out: &mut [u8], at: usize) -> usiz
         i += 1;
     }
     j
+}
+
+// ---- Text without numbers, for lines that come often
+
+// Whether the text stands at place `at` of the line.
+pub fn text_at(text: &[u8], line: &[u8], at: usize) -> bool
+    requires { ⌜ at ≤ length (now line) ⌝ }
+    ensures { λ r. ⌜ r ≡ startsWith (now (text .entry)) (drop at (now (line .entry))) ⌝ }
+{
+    if line.len() - at < text.len() {
+        return false;
+    }
+    let mut i = 0;
+    while i < text.len() {
+        if line[at + i] != text[i] {
+            return false;
+        }
+        i += 1;
+    }
+    true
+}
+
+// Puts the text at place `at`; the place behind it.
+pub fn put_text(text: &[u8], out: &mut [u8], at: usize) -> usize
+    requires { ⌜ at + length (now text) ≤ length (now out) ⌝ }
+    ensures { λ r. ⌜ r ≡ at + length (now (text .entry)) ⌝ }
+    ensures { λ _. ⌜ now (out .exit) ≡ sets (now (out .entry)) at (now (text .entry)) ⌝ }
+{
+    let mut i = 0;
+    while i < text.len() {
+        out[at + i] = text[i];
+        i += 1;
+    }
+    at + text.len()
 }

@@ -18,49 +18,41 @@ use Rattle.forms.proofs.put_step_reply.Tie as tie
 enum-told : tie.Need-enum-told
 enum-told c = search needs
 
+put-moved-requires : tie.Need-put-moved-requires
+put-moved-requires c κs = search needs
+
+enum-told-2 : tie.Need-enum-told-2
+enum-told-2 c = search needs
+
+put-waiting-requires : tie.Need-put-waiting-requires
+put-waiting-requires c κs = search needs
+
+enum-known-answer : tie.Need-enum-known-answer
+enum-known-answer c = search needs
+
 slice-aggregate-fill : tie.Need-slice-aggregate-fill
 slice-aggregate-fill c = search needs
 
 fill-requires : tie.Need-fill-requires
 unfolding longest
-fill-requires c κs = room _ _ _ _ _ tt (c .before .before .before .before .before .pre)
+fill-requires c κs = room _ _ _ _ _ tt (c .before .before .before .before .before .before .pre)
 
-enum-told-2 : tie.Need-enum-told-2
-enum-told-2 c = search needs
+enum-known-answer-2 : tie.Need-enum-known-answer-2
+enum-known-answer-2 c = search needs
 
 slice-aggregate-fill-2 : tie.Need-slice-aggregate-fill-2
 slice-aggregate-fill-2 c = search needs
 
 fill-requires-2 : tie.Need-fill-requires-2
 unfolding longest
-fill-requires-2 c κs = room _ _ _ _ _ tt (c .before .before .before .before .before .pre)
-
-enum-known-answer : tie.Need-enum-known-answer
-enum-known-answer c = search needs
-
-slice-aggregate-fill-3 : tie.Need-slice-aggregate-fill-3
-slice-aggregate-fill-3 c = search needs
-
-fill-requires-3 : tie.Need-fill-requires-3
-unfolding longest
-fill-requires-3 c κs = room _ _ _ _ _ tt (c .before .before .before .before .before .before .pre)
-
-enum-known-answer-2 : tie.Need-enum-known-answer-2
-enum-known-answer-2 c = search needs
-
-slice-aggregate-fill-4 : tie.Need-slice-aggregate-fill-4
-slice-aggregate-fill-4 c = search needs
-
-fill-requires-4 : tie.Need-fill-requires-4
-unfolding longest
-fill-requires-4 c κs = room _ _ _ _ _ tt (c .before .before .before .before .before .before .pre)
+fill-requires-2 c κs = room _ _ _ _ _ tt (c .before .before .before .before .before .before .pre)
 
 put-answer-requires : tie.Need-put-answer-requires
 unfolding longest
 put-answer-requires c κs =
     let start = c .before .before .before .before .before .before .before .before .before .before in
     let a = start .args in
-    let head = c .before .before .before .fill4 .ensures in
+    let head = c .before .before .before .fill2 .ensures in
     let ns = a .q ∷ (0 ∷ (0 ∷ (0 ∷ (0 ∷ [])))) in
     omega (arith, start .pre, head .0, ap length (head .1), length-sets (a .out .now) (a .at) (filled stepDone ns), filled-short stepDone ns)
 
@@ -69,7 +61,7 @@ unfolding longest
 put-restructuring-requires c κs =
     let start = c .before .before .before .before .before .before .before .before .before .before .before .before .before .before in
     let a = start .args in
-    let head = c .before .before .before .before .before .before .before .fill4 in
+    let head = c .before .before .before .before .before .before .before .fill2 in
     let word = c .before .before .before .put-answer .ensures in
     let answer = c .before .before .before .before .before .before .before .before .before .before .before .answer2 .given .0 .0 in
     let ns = a .q ∷ (0 ∷ (0 ∷ (0 ∷ (0 ∷ [])))) in
@@ -81,28 +73,26 @@ same-length : tie.Need-same-length
 same-length c = search needs
 
 returns : tie.Need-returns
-unfolding replyText replyPattern replyNumbers formatPattern formatNumbers beginPattern beginNumbers stepPattern stepNumbers filled symbolText numbersAfter
 returns c =
-    let a = c .before .before .before .before .before .before .before .before .args in
-    put-as _ _ _ _ (sym (ap (λ (x : StepAnswer). replyText (Reply.Step (a .q) x)) (c .before .before .before .before .before .enum-told .given .1))) (c .before .before .fill .ensures)
+    let a = c .before .before .before .before .before .before .before .args in
+    put-as _ _ _ _ (sym (ap (λ (x : StepAnswer). replyText (Reply.Step (a .q) x)) (c .before .before .before .before .enum-told .given .1))) (c .before .before .put-moved .ensures)
 
 same-length-2 : tie.Need-same-length-2
 same-length-2 c = search needs
 
 returns-2 : tie.Need-returns-2
-unfolding replyText replyPattern replyNumbers formatPattern formatNumbers beginPattern beginNumbers stepPattern stepNumbers filled symbolText numbersAfter
 returns-2 c =
-    let a = c .before .before .before .before .before .before .before .before .args in
-    put-as _ _ _ _ (sym (ap (λ (x : StepAnswer). replyText (Reply.Step (a .q) x)) (c .before .before .before .before .before .enum-told2 .given .1))) (c .before .before .fill2 .ensures)
+    let a = c .before .before .before .before .before .before .before .args in
+    put-as _ _ _ _ (sym (ap (λ (x : StepAnswer). replyText (Reply.Step (a .q) x)) (c .before .before .before .before .enum-told2 .given .1))) (c .before .before .put-waiting .ensures)
 
 same-length-3 : tie.Need-same-length-3
 same-length-3 c = search needs
 
 returns-3 : tie.Need-returns-3
-unfolding replyText replyPattern replyNumbers formatPattern formatNumbers beginPattern beginNumbers stepPattern stepNumbers filled symbolText numbersAfter
+unfolding replyText replyPattern replyNumbers stepPattern stepNumbers filled symbolText numbersAfter
 returns-3 c =
     let a = c .before .before .before .before .before .before .before .before .before .args in
-    put-as _ _ _ _ (sym (ap (λ (x : StepAnswer). replyText (Reply.Step (a .q) x)) (c .before .before .before .before .before .before .answer .given .1))) (c .before .before .fill3 .ensures)
+    put-as _ _ _ _ (sym (ap (λ (x : StepAnswer). replyText (Reply.Step (a .q) x)) (c .before .before .before .before .before .before .answer .given .1))) (c .before .before .fill .ensures)
 
 same-length-4 : tie.Need-same-length-4
 same-length-4 c = search needs
@@ -110,33 +100,30 @@ same-length-4 c = search needs
 returns-4 : tie.Need-returns-4
 returns-4 c =
     let a = c .before .before .before .before .before .before .before .before .before .before .before .before .before .before .before .before .before .args in
-    let told = c .before .before .before .before .before .before .before .before .before .before .before .before .before .before .answer2 .given .1 in
-    let bound = c .before .before .before .before .before .before .before .before .before .before .before .before .before .before .answer2 .given .0 in
-    let answer = bound .0 in
-    let made = bound .1 .0 in
-    let head = c .before .before .before .before .before .before .before .before .before .before .fill4 in
+    let bound = c .before .before .before .before .before .before .before .before .before .before .before .before .before .before .answer2 .given in
+    let answer = bound .0 .0 in
+    let made = bound .0 .1 .0 in
+    let head = c .before .before .before .before .before .before .before .before .before .before .fill2 in
     let word = c .before .before .before .before .before .before .put-answer .ensures in
     let text = filled stepDone (a .q ∷ (0 ∷ (0 ∷ (0 ∷ (0 ∷ []))))) in
     let rest = put-then (head .result) (head .last .1 .1 .0) (answerText answer) (restructuringText made) word (c .before .before .put-restructuring .ensures) in
     let whole = put-then (a .at) (a .out .now) text (answerText answer ++ restructuringText made) (head .ensures) rest in
-    put-as (a .at) (a .out .now) _ _ (done-text (a .q) answer made ∙ sym (ap (λ (x : StepAnswer). replyText (Reply.Step (a .q) x)) told)) whole
+    put-as (a .at) (a .out .now) _ _ (done-text (a .q) answer made ∙ sym (ap (λ (x : StepAnswer). replyText (Reply.Step (a .q) x)) (bound .1))) whole
 
 pub put-step-reply-spec : {M : Type 1} → statement M
 put-step-reply-spec =
     tie.close
     (tie.spec
     enum-told
+    put-moved-requires
+    enum-told-2
+    put-waiting-requires
+    enum-known-answer
     slice-aggregate-fill
     fill-requires
-    enum-told-2
+    enum-known-answer-2
     slice-aggregate-fill-2
     fill-requires-2
-    enum-known-answer
-    slice-aggregate-fill-3
-    fill-requires-3
-    enum-known-answer-2
-    slice-aggregate-fill-4
-    fill-requires-4
     put-answer-requires
     put-restructuring-requires
     same-length
