@@ -10,12 +10,16 @@ LEFT, RIGHT, BOXES, GAP = 24, 876, 266, 26
 INSET, TALL, BESIDE, BETWEEN, NAME, ROWS = 18, 28, 11, 8, 12.5, 13
 
 
+# The kit's own libraries, which crates.txt names and does not list.
+KIT = {'check', 'libc', 'io', 'os', 'bytes'}
+
+
 def layers_of(text):
     """What each layer is, with its crates and what each uses, lowest first."""
     layers, seen = [], set()
     for paragraph in text.split('\n\n'):
         lines = paragraph.strip().split('\n')
-        crates = {name.strip(): uses.split() for name, _, uses in (line.partition(':') for line in lines if line and not line.startswith('#'))}
+        crates = {name.strip(): [other for other in uses.split() if other not in KIT] for name, _, uses in (line.partition(':') for line in lines if line and not line.startswith('#'))}
         says = ' '.join(line.lstrip('# ') for line in lines if line.startswith('#'))
         if crates and not says:
             raise Wrong(f'crates.txt: the layer of {next(iter(crates))} has no comment that says what it is')

@@ -1,0 +1,79 @@
+-- `lines::perform` meets its contract: one case a form.
+use mathlib.Core.Path.{_≡_, sym, _∙_, ap}
+use Rattle.held.specs.Held.{memoryOf}
+use Rattle.forms.specs.declared.Form.{Form}
+use Rattle.lines.specs.Lines.{performed}
+use borrow.Author.Needs.{needs}
+use Rattle.lines.proofs.perform.Statement.{statement}
+use Rattle.lines.proofs.perform.Tie as tie
+
+enum-known-form : tie.Need-enum-known-form
+enum-known-form c = search needs
+
+format-requires : tie.Need-format-requires
+format-requires c κs = search needs
+
+enum-known-form-2 : tie.Need-enum-known-form-2
+enum-known-form-2 c = search needs
+
+begin-requires : tie.Need-begin-requires
+begin-requires c κs = search needs
+
+enum-known-form-3 : tie.Need-enum-known-form-3
+enum-known-form-3 c = search needs
+
+step-requires : tie.Need-step-requires
+step-requires c κs = search needs
+
+same-length : tie.Need-same-length
+same-length c = search needs
+
+same-length-2 : tie.Need-same-length-2
+same-length-2 c = search needs
+
+returns : tie.Need-returns
+returns c =
+    let a = c .before .before .before .before .before .before .before .before .before .before .before .before .args in
+    c .before .before .before .before .format .ensures ∙ ap (λ (f : Form). performed f (memoryOf (a .held) (a .locks .now) (a .pages .now))) (sym (c .before .before .before .before .before .before .before .before .form .given .1))
+
+same-length-3 : tie.Need-same-length-3
+same-length-3 c = search needs
+
+same-length-4 : tie.Need-same-length-4
+same-length-4 c = search needs
+
+returns-2 : tie.Need-returns-2
+returns-2 c =
+    let a = c .before .before .before .before .before .before .before .before .args in
+    c .begin .ensures ∙ ap (λ (f : Form). performed f (memoryOf (a .held) (a .locks .now) (a .pages .now))) (sym (c .before .before .before .before .form2 .given .1))
+
+same-length-5 : tie.Need-same-length-5
+same-length-5 c = search needs
+
+same-length-6 : tie.Need-same-length-6
+same-length-6 c = search needs
+
+returns-3 : tie.Need-returns-3
+returns-3 c =
+    let a = c .before .before .before .before .before .before .before .before .before .before .before .before .args in
+    c .before .before .before .before .step .ensures ∙ ap (λ (f : Form). performed f (memoryOf (a .held) (a .locks .now) (a .pages .now))) (sym (c .before .before .before .before .before .before .before .before .form3 .given .1))
+
+pub perform-spec : {M : Type 1} → statement M
+perform-spec =
+    tie.close
+    (tie.spec
+    enum-known-form
+    format-requires
+    enum-known-form-2
+    begin-requires
+    enum-known-form-3
+    step-requires
+    same-length
+    same-length-2
+    returns
+    same-length-3
+    same-length-4
+    returns-2
+    same-length-5
+    same-length-6
+    returns-3)

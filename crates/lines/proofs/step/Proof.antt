@@ -1,0 +1,83 @@
+-- `lines::step` meets its contract: a step lent the first words is the form performed.
+use mathlib.Core.Path.{_≡_, _∙_, ap}
+use mathlib.Core.List.{List}
+use Prim.Native.Nat.{ℕ, _-_, min}
+use native.Mathlib.Nat.{sub-zero}
+use lib.ListN.{length}
+use Rattle.held.specs.Held.{memoryOf, heldStep}
+use Rattle.forms.specs.declared.Reply.the-variants as Reply
+use Rattle.lines.specs.Lines.{performed}
+use Rattle.lines.proofs.Words.{words-left}
+use borrow.Author.Needs.{needs}
+use Rattle.lines.proofs.step.Statement.{statement}
+use Rattle.lines.proofs.step.Tie as tie
+
+lock-words-requires : tie.Need-lock-words-requires
+lock-words-requires c κs = search needs
+
+words-lent-requires : tie.Need-words-lent-requires
+words-lent-requires c κs = search needs
+
+page-words-requires : tie.Need-page-words-requires
+page-words-requires c κs = search needs
+
+words-lent-requires-2 : tie.Need-words-lent-requires-2
+words-lent-requires-2 c κs = search needs
+
+sub-step : tie.Need-sub-step
+sub-step c = search needs
+
+part-step-start : tie.Need-part-step-start
+part-step-start c = search needs
+
+part-step-end : tie.Need-part-step-end
+part-step-end c = search needs
+
+sub-step-2 : tie.Need-sub-step-2
+sub-step-2 c = search needs
+
+part-step-start-2 : tie.Need-part-step-start-2
+part-step-start-2 c = search needs
+
+part-step-end-2 : tie.Need-part-step-end-2
+part-step-end-2 c = search needs
+
+step-requires : tie.Need-step-requires
+step-requires c κs = search needs
+
+same-length : tie.Need-same-length
+same-length c = search needs
+
+same-length-2 : tie.Need-same-length-2
+same-length-2 c = search needs
+
+returns : tie.Need-returns
+unfolding performed
+returns c =
+    let a = c .before .before .before .before .before .before .before .before .before .before .before .before .before .before .before .args in
+    let made = c .before .before .before .before .before .step in
+    let l = c .before .before .before .before .before .before .before .before .before .before .words-lent in
+    let g = c .before .before .before .before .before .before .before .before .words-lent2 in
+    let el = sub-zero (l .result) ∙ l .ensures .0 ∙ ap (λ (n : ℕ). min n (length (a .locks .now))) (c .before .before .before .before .before .before .before .before .before .before .before .lock-words .ensures) in
+    let eg = sub-zero (g .result) ∙ g .ensures .0 ∙ ap (λ (n : ℕ). min n (length (a .pages .now))) (c .before .before .before .before .before .before .before .before .before .page-words .ensures) in
+    words-left (a .held .root) (λ (us ws : List ℕ). heldStep (memoryOf (a .held) us ws) (a .q)) (λ t. Reply.Step (a .q) t) (memoryOf (a .held) (a .locks .now) (a .pages .now)) (l .result - 0) (g .result - 0) el eg
+    (made .result .answer) (made .result .held .root) (made .result .held .row) _ _ (made .ensures)
+
+pub step-spec : {M : Type 1} → statement M
+step-spec =
+    tie.close
+    (tie.spec
+    lock-words-requires
+    words-lent-requires
+    page-words-requires
+    words-lent-requires-2
+    sub-step
+    part-step-start
+    part-step-end
+    sub-step-2
+    part-step-start-2
+    part-step-end-2
+    step-requires
+    same-length
+    same-length-2
+    returns)

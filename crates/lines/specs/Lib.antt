@@ -1,0 +1,3 @@
+-- What the lines of turns are answered with.
+pub mod Lines
+pub mod Texts

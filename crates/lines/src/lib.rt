@@ -1,0 +1,227 @@
+// A line of turns answered (document 01, "The turns program"): the form is read, its call is performed on the file that is held and on words that are lent, and the
+// reply is printed. Each call is lent the first lock words and page words that the sizes ask for: those given for a format, else those of the root record.
+// Main statements: answer leaves the memory, and prints the reply, that lineAnswered says of the line and of all memory (specs/Lines.antt); there is nothing that a
+// caller must see to.
+
+ghost use mathlib.Core.Path.{_≡_};
+ghost use Prim.Native.Nat.{ℕ, _+_, _*_, _≤_, min};
+ghost use mathlib.Core.List.{List, [], _++_};
+ghost use lib.ListN.{length, take, drop};
+ghost use lib.Seq.{sets};
+ghost use Rattle.model.specs.Calls.{called};
+ghost use Rattle.held.specs.Held.{memoryOf};
+ghost use Rattle.forms.specs.declared.Form.the-variants as Form;
+ghost use Rattle.forms.specs.Replies.{replyText};
+ghost use Rattle.forms.specs.Printing.{longestReply, given};
+ghost use Rattle.lines.specs.Lines.{performed, lineAnswered};
+ghost use Rattle.lines.specs.Texts.{lineLength, printedBefore, textAnswered};
+use forms::Form;
+use forms::FormRead;
+use forms::LONGEST_REPLY;
+use forms::Reply;
+use held::Held;
+use model::FileSizes;
+use model::Operation;
+use model::PAGE_WORDS;
+
+// What is held after a line, and the place behind what was printed.
+pub struct Answered {
+    pub held: Held,
+    pub end: usize,
+}
+
+// What is held after a call, and the reply to its form.
+struct Performed {
+    held: Held,
+    reply: Reply,
+}
+
+// How many of the words that are there are lent where so many are asked for.
+fn words_lent(asked: usize, there: usize) -> usize
+    ensures { λ r. ⌜ (r ≡ min asked there) × (r ≤ there) ⌝ }
+{
+    if asked <= there {
+        return asked;
+    }
+    there
+}
+
+// How many lock words P chains and the root have.
+fn lock_words(primaries: u32) -> usize
+    ensures { λ r. ⌜ r ≡ primaries + 1 ⌝ }
+{
+    primaries as usize + 1
+}
+
+// How many words P + V + Q pages have.
+fn page_words(primaries: u32, overflow: u32, parties: u32) -> usize
+    ensures { λ r. ⌜ r ≡ 16 * (primaries + overflow + parties) ⌝ }
+{
+    PAGE_WORDS * (primaries as usize + overflow as usize + parties as usize)
+}
+
+// A format.
+fn format(sizes: FileSizes, held: Held, locks: &mut [u32], pages: &mut [u32]) -> Performed
+    ensures { λ r. ⌜ called (r .reply) (memoryOf (r .held) (now (locks .exit)) (now (pages .exit))) ≡ performed (Form.Format sizes) (memoryOf held (now (locks .entry)) (now (pages .entry))) ⌝ }
+{
+    let l = words_lent(lock_words(sizes.primaries), locks.len());
+    let g = words_lent(
+        page_words(sizes.primaries, sizes.overflow, sizes.parties),
+        pages.len(),
+    );
+    let c = held::format(held, &mut locks[0..l], &mut pages[0..g], sizes);
+    let after = c.held;
+    let answer = c.answer;
+    Performed {
+        held: after,
+        reply: Reply::Format(answer),
+    }
+}
+
+// A begin.
+fn begin(
+    q: u32,
+    operation: Operation,
+    key: u32,
+    held: Held,
+    locks: &[u32],
+    pages: &[u32],
+) -> Performed
+    ensures { λ r. ⌜ called (r .reply) (memoryOf (r .held) (now (locks .entry)) (now (pages .entry))) ≡ performed (Form.Begin q operation key) (memoryOf held (now (locks .entry)) (now (pages .entry))) ⌝ }
+{
+    let root = held.root;
+    let l = words_lent(lock_words(root.primaries), locks.len());
+    let g = words_lent(
+        page_words(root.primaries, root.overflow, root.parties),
+        pages.len(),
+    );
+    let c = held::begin(held, &locks[0..l], &pages[0..g], q, operation, key);
+    let after = c.held;
+    let answer = c.answer;
+    Performed {
+        held: after,
+        reply: Reply::Begin(q, answer),
+    }
+}
+
+// A step.
+fn step(q: u32, held: Held, locks: &mut [u32], pages: &mut [u32]) -> Performed
+    ensures { λ r. ⌜ called (r .reply) (memoryOf (r .held) (now (locks .exit)) (now (pages .exit))) ≡ performed (Form.Step q) (memoryOf held (now (locks .entry)) (now (pages .entry))) ⌝ }
+{
+    let root = held.root;
+    let l = words_lent(lock_words(root.primaries), locks.len());
+    let g = words_lent(
+        page_words(root.primaries, root.overflow, root.parties),
+        pages.len(),
+    );
+    let c = held::step(held, &mut locks[0..l], &mut pages[0..g], q);
+    let after = c.held;
+    let answer = c.answer;
+    Performed {
+        held: after,
+        reply: Reply::Step(q, answer),
+    }
+}
+
+// The call that a form names.
+fn perform(form: Form, held: Held, locks: &mut [u32], pages: &mut [u32]) -> Performed
+    ensures { λ r. ⌜ called (r .reply) (memoryOf (r .held) (now (locks .exit)) (now (pages .exit))) ≡ performed form (memoryOf held (now (locks .entry)) (now (pages .entry))) ⌝ }
+{
+    match form {
+        Form::Format(sizes) => format(sizes, held, locks, pages),
+        Form::Begin(q, operation, key) => begin(q, operation, key, held, locks, pages),
+        Form::Step(q) => step(q, held, locks, pages),
+    }
+}
+
+// What a line asks for; a line that is no form alters nothing.
+fn perform_line(line: &[u8], held: Held, locks: &mut [u32], pages: &mut [u32]) -> Performed
+    ensures { λ r. ⌜ called (r .reply) (memoryOf (r .held) (now (locks .exit)) (now (pages .exit))) ≡ lineAnswered (now (line .entry)) (memoryOf held (now (locks .entry)) (now (pages .entry))) ⌝ }
+{
+    let read = forms::read_form(line);
+    match read {
+        FormRead::Unread => Performed {
+            held,
+            reply: Reply::Unread,
+        },
+        FormRead::Read(form) => perform(form, held, locks, pages),
+    }
+}
+
+// Answers a line: its reply is printed into `out` at place `at`, and nothing where there is no room for the longest reply.
+pub fn answer(
+    line: &[u8],
+    held: Held,
+    locks: &mut [u32],
+    pages: &mut [u32],
+    out: &mut [u8],
+    at: usize,
+) -> Answered
+    ensures { λ r. ⌜ memoryOf (r .held) (now (locks .exit)) (now (pages .exit)) ≡ lineAnswered (now (line .entry)) (memoryOf held (now (locks .entry)) (now (pages .entry))) .memory ⌝ }
+    ensures { λ _. ⌜ now (out .exit) ≡ sets (now (out .entry)) at (given (length (now (out .entry))) at longestReply (replyText (lineAnswered (now (line .entry)) (memoryOf held (now (locks .entry)) (now (pages .entry))) .answer))) ⌝ }
+    ensures { λ r. ⌜ r .end ≡ at + length (given (length (now (out .entry))) at longestReply (replyText (lineAnswered (now (line .entry)) (memoryOf held (now (locks .entry)) (now (pages .entry))) .answer))) ⌝ }
+{
+    let p = perform_line(line, held, locks, pages);
+    let after = p.held;
+    let reply = p.reply;
+    let end = forms::print_reply(reply, out, at);
+    Answered { held: after, end }
+}
+
+// ---- Every line of a text
+
+const NEWLINE: u8 = b'\n';
+
+// What is held after the lines answered, where the first line not answered begins, and the place behind the replies.
+pub struct Lines {
+    pub held: Held,
+    pub from: usize,
+    pub end: usize,
+}
+
+// The place of the first newline from a place on, the text's end where there is none.
+fn line_end(text: &[u8], from: usize) -> usize
+    requires { ⌜ from ≤ length (now text) ⌝ }
+    ensures { λ r. ⌜ r ≡ from + lineLength (drop from (now (text .entry))) ⌝ }
+{
+    let mut i = from;
+    while i < text.len() {
+        if text[i] == NEWLINE {
+            return i;
+        }
+        i += 1;
+    }
+    i
+}
+
+// Answers the whole lines of a text, one after the other, each reply with a newline after it, until there is no room for one more.
+pub fn answer_lines(
+    text: &[u8],
+    held: Held,
+    locks: &mut [u32],
+    pages: &mut [u32],
+    out: &mut [u8],
+) -> Lines
+    ensures { λ r. ⌜ (r .from ≤ length (now (text .entry))) × (r .end ≤ length (now (out .exit))) ⌝ }
+    ensures { λ r. ⌜ ((t : List ℕ) → textAnswered [] (now (text .entry) ++ t) (memoryOf held (now (locks .entry)) (now (pages .entry))) ≡ printedBefore (take (r .end) (now (out .exit))) (textAnswered [] (drop (r .from) (now (text .entry)) ++ t) (memoryOf (r .held) (now (locks .exit)) (now (pages .exit))))) ⌝ }
+    ensures { λ r. ⌜ (r .from ≡ 0 → 48 ≤ length (now (out .entry)) → lineLength (now (text .entry)) ≡ length (now (text .entry))) ⌝ }
+{
+    let mut held = held;
+    let mut from = 0;
+    let mut end = 0;
+    let mut to = line_end(text, 0);
+    while to < text.len() {
+        if out.len() - end < LONGEST_REPLY + 1 {
+            return Lines { held, from, end };
+        }
+        let a = answer(&text[from..to], held, locks, pages, out, end);
+        let after = a.held;
+        let e = a.end;
+        held = after;
+        out[e] = NEWLINE;
+        end = e + 1;
+        from = to + 1;
+        to = line_end(text, from);
+    }
+    Lines { held, from, end }
+}

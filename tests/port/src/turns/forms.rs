@@ -1,0 +1,61 @@
+//! The forms that turns reads, and as they are printed.
+
+use std::fmt;
+
+#[derive(Clone, Copy)]
+pub enum Form {
+    Format([u32; 5]),
+    Begin(u32, u32, u32),
+    Step(u32),
+}
+
+impl fmt::Display for Form {
+    fn fmt(&self, out: &mut fmt::Formatter<'_>) -> fmt::Result {
+        match *self {
+            Form::Format([n, b, p, v, q]) => write!(out, "(format {n} {b} {p} {v} {q})"),
+            Form::Begin(party, operation, key) => {
+                let name = ["", "find", "insert", "delete"][operation as usize];
+                write!(out, "(begin {party} ({name} {key}))")
+            }
+            Form::Step(party) => write!(out, "(step {party})"),
+        }
+    }
+}
+
+/// Reads one line without its newline: one of the five forms, single spaces, nothing before or after.
+pub fn read(line: &str) -> Option<Form> {
+    let (name, rest) = line.strip_prefix('(')?.strip_suffix(')')?.split_once(' ')?;
+    match name {
+        "step" => Some(Form::Step(number(rest)?)),
+        "begin" => {
+            let (party, operation) = rest.split_once(" (")?;
+            let (name, key) = operation.strip_suffix(')')?.split_once(' ')?;
+            let operation = match name {
+                "find" => 1,
+                "insert" => 2,
+                "delete" => 3,
+                _ => return None,
+            };
+            Some(Form::Begin(number(party)?, operation, number(key)?))
+        }
+        "format" => {
+            let mut sizes = [0; 5];
+            let mut words = rest.split(' ');
+            for size in &mut sizes {
+                *size = number(words.next()?)?;
+            }
+            words.next().is_none().then(|| Form::Format(sizes))
+        }
+        _ => None,
+    }
+}
+
+/// "A number is one to ten digits, leading zeros read", up to 4294967295.
+fn number(text: &str) -> Option<u32> {
+    let digits = text.len() <= 10 && text.bytes().all(|byte| byte.is_ascii_digit());
+    if digits {
+        text.parse().ok()
+    } else {
+        None
+    }
+}

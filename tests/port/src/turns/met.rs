@@ -1,0 +1,66 @@
+//! What scripts meet: each line is answered, and counted by its reply, by the step that waited, and by how the root record's level moved.
+
+use crate::file::File;
+use crate::forms;
+use std::collections::BTreeMap;
+use std::io::{self, BufRead, Write};
+
+/// The steps that request a lock.
+const REQUESTS: [u32; 9] = [1, 4, 7, 13, 15, 16, 23, 24, 25];
+
+/// Reads scripts, one after the other, and prints a line for each thing that they meet, with its count.
+pub fn print(input: impl BufRead, out: &mut impl Write) -> io::Result<()> {
+    let mut met: BTreeMap<String, u32> = BTreeMap::new();
+    for step in REQUESTS {
+        met.insert(format!("waits at {step:2}"), 0);
+    }
+    for thing in ["level raised", "level lowered", "unread"] {
+        met.insert(thing.to_string(), 0);
+    }
+    let mut file = File::default();
+    for line in input.split(b'\n') {
+        for thing in things(&mut file, &line?)? {
+            *met.entry(thing).or_insert(0) += 1;
+        }
+    }
+    for (thing, count) in met {
+        writeln!(out, "{count:8} {thing}")?;
+    }
+    Ok(())
+}
+
+/// What one line meets.
+fn things(file: &mut File, line: &[u8]) -> io::Result<Vec<String>> {
+    let form = match std::str::from_utf8(line).ok().and_then(forms::read) {
+        Some(form) => form,
+        None => return Ok(vec!["unread".to_string()]),
+    };
+    let (step, level) = (file.step_of(form), file.level());
+    let mut reply = Vec::new();
+    file.answer(form, &mut reply)?;
+    let reply = String::from_utf8_lossy(&reply);
+    let words: Vec<&str> = reply
+        .trim_matches(|c| "()\n".contains(c))
+        .split(' ')
+        .collect();
+    let mut met = Vec::new();
+    match words[..] {
+        [_, _, "waiting"] => met.push(format!("waits at {step:2}")),
+        [_, _, "(done", answer, made] => {
+            met.push(format!("done {answer}"));
+            met.push(format!("done {made}"));
+            met.push(format!("done at {step:2}"));
+        }
+        [_, .., "(refused", number] => met.push(format!("{} refused {number}", words[0])),
+        _ => {}
+    }
+    if words[0] == "step" && file.level() != level {
+        let way = if level < file.level() {
+            "raised"
+        } else {
+            "lowered"
+        };
+        met.push(format!("level {way}"));
+    }
+    Ok(met)
+}

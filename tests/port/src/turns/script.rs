@@ -1,0 +1,68 @@
+//! A script of forms made at random: operations of every kind by every party, steps in any order, each party's begin where it is idle.
+
+use crate::file::File;
+use crate::forms::Form;
+use std::io::{self, Write};
+
+/// What a script is made from: how many lines, the seed, the sizes of the file, and how many keys there are.
+pub struct Plan {
+    pub lines: u32,
+    pub seed: u32,
+    pub sizes: [u32; 5],
+    pub keys: u32,
+}
+
+impl Plan {
+    /// From eight numbers: LINES SEED N b P V Q KEYS.
+    pub fn read(numbers: &[u32]) -> Option<Plan> {
+        let [lines, seed, n, b, p, v, q, keys] = <[u32; 8]>::try_from(numbers).ok()?;
+        let sizes = [n, b, p, v, q];
+        Some(Plan {
+            lines,
+            seed,
+            sizes,
+            keys,
+        })
+    }
+}
+
+/// Random numbers from a seed (xorshift), the same on every machine.
+struct Random(u64);
+
+impl Random {
+    fn below(&mut self, limit: u32) -> u32 {
+        self.0 ^= self.0 << 13;
+        self.0 ^= self.0 >> 7;
+        self.0 ^= self.0 << 17;
+        (((self.0 >> 32) * u64::from(limit)) >> 32) as u32
+    }
+}
+
+/// Prints the script. Inserts and deletes are as many; they come in spells of mostly one kind, so that the file grows and shrinks.
+pub fn print(plan: &Plan, out: &mut impl Write) -> io::Result<()> {
+    let mut random = Random(0x9e37_79b9_7f4a_7c15 ^ u64::from(plan.seed));
+    let mut file = File::default();
+    let [n, b, p, v, q] = plan.sizes;
+    writeln!(out, "(format {n} {b} {p} {v} {q})")?;
+    file.answer(Form::Format(plan.sizes), &mut io::sink())?;
+    let mut grows = true;
+    for _ in 1..plan.lines {
+        if random.below(16 * plan.keys) == 0 {
+            grows = !grows;
+        }
+        let party = random.below(q);
+        let form = if file.is_idle(party) {
+            let operation = match random.below(8) {
+                0..=2 => 1,
+                3 => 2 + u32::from(grows),
+                _ => 3 - u32::from(grows),
+            };
+            Form::Begin(party, operation, random.below(plan.keys))
+        } else {
+            Form::Step(party)
+        };
+        writeln!(out, "{form}")?;
+        file.answer(form, &mut io::sink())?;
+    }
+    Ok(())
+}
