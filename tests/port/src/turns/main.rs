@@ -1,7 +1,7 @@
 //! turns over the plain port, in ordinary Rust: the measure of the proved program's speed, and where stored replies come from.
 //!
-//! With no argument it is turns. `--script LINES SEED N b P V Q KEYS` prints a script of forms made at random. `--met` reads scripts and prints how often
-//! they meet each wait, answer, restructuring and refusal.
+//! With no argument it is turns. `--script LINES SEED N b P V Q KEYS` prints a script of forms made at random. `--met SCRIPT..` prints how often
+//! scripts meet each wait, answer, restructuring and refusal.
 #![deny(unsafe_code)]
 
 mod file;
@@ -18,7 +18,7 @@ fn main() -> io::Result<()> {
     let mut output = BufWriter::with_capacity(1 << 16, io::stdout().lock());
     match words.first().map(String::as_str) {
         None => answer(input, &mut output)?,
-        Some("--met") if words.len() == 1 => met::print(input, &mut output)?,
+        Some("--met") => met::print(&words[1..], &mut output)?,
         Some("--script") => {
             let numbers: Vec<u32> = words[1..].iter().flat_map(|word| word.parse()).collect();
             match script::Plan::read(&numbers) {
@@ -32,7 +32,7 @@ fn main() -> io::Result<()> {
 }
 
 fn usage() -> io::Result<()> {
-    let text = "plain-turns [--met | --script LINES SEED N b P V Q KEYS]";
+    let text = "plain-turns [--met SCRIPT.. | --script LINES SEED N b P V Q KEYS]";
     Err(io::Error::new(io::ErrorKind::InvalidInput, text))
 }
 

@@ -3,13 +3,14 @@
 use crate::file::File;
 use crate::forms;
 use std::collections::BTreeMap;
-use std::io::{self, BufRead, Write};
+use std::fs;
+use std::io::{self, Write};
 
 /// The steps that request a lock.
 const REQUESTS: [u32; 9] = [1, 4, 7, 13, 15, 16, 23, 24, 25];
 
-/// Reads scripts, one after the other, and prints a line for each thing that they meet, with its count.
-pub fn print(input: impl BufRead, out: &mut impl Write) -> io::Result<()> {
+/// Reads scripts, each from zero memory, and prints a line for each thing that they meet, with its count.
+pub fn print(scripts: &[String], out: &mut impl Write) -> io::Result<()> {
     let mut met: BTreeMap<String, u32> = BTreeMap::new();
     for step in REQUESTS {
         met.insert(format!("waits at {step:2}"), 0);
@@ -17,10 +18,12 @@ pub fn print(input: impl BufRead, out: &mut impl Write) -> io::Result<()> {
     for thing in ["level raised", "level lowered", "unread"] {
         met.insert(thing.to_string(), 0);
     }
-    let mut file = File::default();
-    for line in input.split(b'\n') {
-        for thing in things(&mut file, &line?)? {
-            *met.entry(thing).or_insert(0) += 1;
+    for script in scripts {
+        let mut file = File::default();
+        for line in fs::read(script)?.split_inclusive(|byte| *byte == b'\n') {
+            for thing in things(&mut file, line.strip_suffix(b"\n").unwrap_or(line))? {
+                *met.entry(thing).or_insert(0) += 1;
+            }
         }
     }
     for (thing, count) in met {
