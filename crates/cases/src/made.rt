@@ -1,30 +1,32 @@
 // A call is made on the memory of a case, and all that is held and lent is compared with what it was before.
 // Main function: came_of.
 
+ghost use Prim.Native.Nat.{_≤_};
 use crate::scene::Call;
 use crate::scene::Scene;
 use held::Held;
 use model::BeginAnswer;
+use model::FileSizes;
 use model::FormatAnswer;
 use model::Operation;
 use model::Party;
 use model::Root;
 use model::StepAnswer;
 
-// What came of a call: the refusal, and what of the memory is altered.
+// What came of a call: the refusal, and whether anything held or lent is altered.
 pub struct Came {
     pub refusal: u32,
-    pub root: bool,
-    pub row: bool,
-    pub locks: bool,
-    pub pages: bool,
+    pub altered: bool,
+}
+
+// What is held after a call, and its refusal.
+struct After {
+    held: Held,
+    refusal: u32,
 }
 
 // The refusal of a call that is not refused.
 pub const ACCEPTED: u32 = 0;
-
-// No call was made: the case lends more words than there are.
-const NOT_CALLED: u32 = 99;
 
 // Every word before the call: a lock word that nobody holds, and a word that no call writes.
 const WORD: u32 = 0xFC00_0000;
@@ -37,129 +39,126 @@ const PAGE_ROOM: usize = 16400;
 pub fn came_of(call: Call, s: Scene) -> Came {
     let mut locks = [WORD; LOCK_ROOM];
     let mut pages = [WORD; PAGE_ROOM];
-    match call {
-        Call::Format => format_of(s, &mut locks, &mut pages),
-        Call::Begin => begin_of(s, &locks, &pages),
-        Call::Step => step_of(s, &mut locks, &mut pages),
+    let after = lent(call, s, &mut locks, &mut pages);
+    Came {
+        refusal: after.refusal,
+        altered: !(same_held(s.held, after.held) && as_before(&locks) && as_before(&pages)),
     }
 }
 
-fn format_of(s: Scene, locks: &mut [u32], pages: &mut [u32]) -> Came {
-    let held = s.held;
-    let l = s.lock_words;
-    let g = s.page_words;
-    if locks.len() < l {
-        return not_called();
+// The call is lent the first words of both kinds; never more than there are.
+fn lent(call: Call, s: Scene, locks: &mut [u32], pages: &mut [u32]) -> After {
+    let l = least(s.lock_words, locks.len());
+    let g = least(s.page_words, pages.len());
+    called(call, s, &mut locks[0..l], &mut pages[0..g])
+}
+
+fn least(a: usize, b: usize) -> usize
+    ensures { λ r. ⌜ r ≤ b ⌝ }
+{
+    if a <= b {
+        return a;
     }
-    if pages.len() < g {
-        return not_called();
+    b
+}
+
+fn called(call: Call, s: Scene, locks: &mut [u32], pages: &mut [u32]) -> After {
+    match call {
+        Call::Format => formatted(s.held, locks, pages),
+        Call::Begin => begun(s.held, locks, pages, s.party),
+        Call::Step => stepped(s.held, locks, pages, s.party),
     }
-    let after = held::format(held, &mut locks[0..l], &mut pages[0..g], s.sizes);
-    let answer = after.answer;
-    let refusal = match answer {
+}
+
+fn formatted(held: Held, locks: &mut [u32], pages: &mut [u32]) -> After {
+    let made = held::format(held, locks, pages, sizes_of(held.root));
+    let answer = made.answer;
+    let after = made.held;
+    After {
+        held: after,
+        refusal: format_refusal(answer),
+    }
+}
+
+fn begun(held: Held, locks: &[u32], pages: &[u32], q: u32) -> After {
+    let made = held::begin(held, locks, pages, q, Operation::Delete, 11);
+    let answer = made.answer;
+    let after = made.held;
+    After {
+        held: after,
+        refusal: begin_refusal(answer),
+    }
+}
+
+fn stepped(held: Held, locks: &mut [u32], pages: &mut [u32], q: u32) -> After {
+    let made = held::step(held, locks, pages, q);
+    let answer = made.answer;
+    let after = made.held;
+    After {
+        held: after,
+        refusal: step_refusal(answer),
+    }
+}
+
+fn sizes_of(r: Root) -> FileSizes {
+    FileSizes {
+        originals: r.originals,
+        capacity: r.capacity,
+        primaries: r.primaries,
+        overflow: r.overflow,
+        parties: r.parties,
+    }
+}
+
+fn format_refusal(answer: FormatAnswer) -> u32 {
+    match answer {
         FormatAnswer::Refused(number) => number,
         FormatAnswer::Formatted => ACCEPTED,
-    };
-    compared(refusal, held, after.held, locks, pages)
+    }
 }
 
-fn begin_of(s: Scene, locks: &[u32], pages: &[u32]) -> Came {
-    let held = s.held;
-    let l = s.lock_words;
-    let g = s.page_words;
-    if locks.len() < l {
-        return not_called();
-    }
-    if pages.len() < g {
-        return not_called();
-    }
-    let after = held::begin(
-        held,
-        &locks[0..l],
-        &pages[0..g],
-        s.party,
-        Operation::Delete,
-        11,
-    );
-    let answer = after.answer;
-    let refusal = match answer {
+fn begin_refusal(answer: BeginAnswer) -> u32 {
+    match answer {
         BeginAnswer::Refused(number) => number,
         BeginAnswer::Begun => ACCEPTED,
-    };
-    compared(refusal, held, after.held, locks, pages)
+    }
 }
 
-fn step_of(s: Scene, locks: &mut [u32], pages: &mut [u32]) -> Came {
-    let held = s.held;
-    let l = s.lock_words;
-    let g = s.page_words;
-    if locks.len() < l {
-        return not_called();
-    }
-    if pages.len() < g {
-        return not_called();
-    }
-    let after = held::step(held, &mut locks[0..l], &mut pages[0..g], s.party);
-    let answer = after.answer;
-    let refusal = match answer {
+fn step_refusal(answer: StepAnswer) -> u32 {
+    match answer {
         StepAnswer::Refused(number) => number,
         StepAnswer::Waiting => ACCEPTED,
         StepAnswer::Moved => ACCEPTED,
         StepAnswer::Done(_, _) => ACCEPTED,
-    };
-    compared(refusal, held, after.held, locks, pages)
-}
-
-fn not_called() -> Came {
-    Came {
-        refusal: NOT_CALLED,
-        root: false,
-        row: false,
-        locks: false,
-        pages: false,
     }
 }
 
-fn compared(refusal: u32, before: Held, after: Held, locks: &[u32], pages: &[u32]) -> Came {
-    let row = before.row;
-    let row_after = after.row;
-    Came {
-        refusal,
-        root: !same_root(before.root, after.root),
-        row: !same_row(row, row_after),
-        locks: !as_before(locks),
-        pages: !as_before(pages),
-    }
-}
-
-fn same_root(a: Root, b: Root) -> bool {
-    a.originals == b.originals
-        && a.capacity == b.capacity
-        && a.primaries == b.primaries
-        && a.overflow == b.overflow
-        && a.parties == b.parties
-        && a.level == b.level
-        && a.next == b.next
-        && a.head == b.head
-        && a.free == b.free
-}
-
-fn same_party(a: Party, b: Party) -> bool {
-    a.operation == b.operation
-        && a.key == b.key
-        && a.step == b.step
-        && a.lev == b.lev
-        && a.chain == b.chain
-        && a.other == b.other
-        && a.old == b.old
-        && a.owed == b.owed
-        && a.answer == b.answer
+fn same_held(a: Held, b: Held) -> bool {
+    let row = a.row;
+    let row_after = b.row;
+    same_words(
+        records::words_of_root(a.root),
+        records::words_of_root(b.root),
+    )
+        && same_row(row, row_after)
 }
 
 fn same_row(a: [Party; 16], b: [Party; 16]) -> bool {
     let mut i: usize = 0;
     while i < 16 {
-        if !same_party(a[i], b[i]) {
+        if !same_words(records::words_of_party(a[i]), records::words_of_party(b[i])) {
+            return false;
+        }
+        i += 1;
+    }
+    true
+}
+
+// The words of two records.
+fn same_words(a: [u32; 9], b: [u32; 9]) -> bool {
+    let mut i: usize = 0;
+    while i < 9 {
+        if a[i] != b[i] {
             return false;
         }
         i += 1;

@@ -1,5 +1,5 @@
-// The memory that a case lends, held by value: sound memory, and memory in which causes of refusal are met.
-// Main functions: sound (no cause is met), meeting (one cause more).
+// The memory that a case lends, held by value.
+// Main functions: sound (memory of given sizes, on which the call can be made), meeting (memory in which two given causes of refusal are met).
 
 use held::Held;
 use model::FileSizes;
@@ -12,36 +12,12 @@ pub enum Call {
     Step,
 }
 
-// The causes of refusal, in the table's order.
-pub enum Cause {
-    Size,
-    Length,
-    Party,
-    Busy,
-    Idle,
-    Damage,
-}
-
-// What a call is lent, and for whom: so many lock and page words, the root record, and the first Q records of the row.
+// What a call is lent, and for whom: the root record, whose sizes format is given, the first Q records of the row, and so many words.
 pub struct Scene {
-    // What format is given; the root record has the same.
-    pub sizes: FileSizes,
     pub held: Held,
     pub lock_words: usize,
     pub page_words: usize,
     pub party: u32,
-}
-
-// The number that the table gives a cause.
-pub fn number_of(cause: Cause) -> u32 {
-    match cause {
-        Cause::Size => 2,
-        Cause::Length => 1,
-        Cause::Party => 3,
-        Cause::Busy => 4,
-        Cause::Idle => 5,
-        Cause::Damage => 6,
-    }
 }
 
 // N, b, P, V and Q.
@@ -61,31 +37,41 @@ pub fn sizes(
     }
 }
 
-// The sizes of a case that is not about sizes: they ask for 3 records, 6 lock words and 192 page words.
-pub fn usual_sizes() -> FileSizes {
-    sizes(2, 3, 5, 4, 3)
+pub fn root_of(z: FileSizes, level: u32, next: u32, free: u32) -> Root {
+    Root {
+        originals: z.originals,
+        capacity: z.capacity,
+        primaries: z.primaries,
+        overflow: z.overflow,
+        parties: z.parties,
+        level,
+        next,
+        head: 0,
+        free,
+    }
 }
 
-// A party's record, but for the key and the old link.
-pub fn record(
-    operation: u32,
-    step: u32,
-    lev: u32,
-    chain: u32,
-    other: u32,
-    owed: u32,
-    answer: u32,
-) -> Party {
+// A record about to make its first step, idle where the operation is 0.
+pub fn first_step(operation: u32) -> Party {
     Party {
         operation,
         key: 7,
-        step,
-        lev,
-        chain,
-        other,
+        step: 1,
+        lev: 0,
+        chain: 0,
+        other: 0,
         old: 0,
-        owed,
-        answer,
+        owed: 0,
+        answer: 0,
+    }
+}
+
+// The operation of a record with which its party can make the call.
+pub fn operation_for(call: Call) -> u32 {
+    match call {
+        Call::Format => model::FIND,
+        Call::Begin => model::IDLE,
+        Call::Step => model::FIND,
     }
 }
 
@@ -95,65 +81,45 @@ pub fn held_with(root: Root, p: Party) -> Held {
     Held { root, row }
 }
 
-// The root record of a file of these sizes with no page free.
-fn root_of(z: FileSizes) -> Root {
-    Root {
-        originals: z.originals,
-        capacity: z.capacity,
-        primaries: z.primaries,
-        overflow: z.overflow,
-        parties: z.parties,
-        level: 0,
-        next: 0,
-        head: 0,
-        free: 0,
-    }
-}
-
-// A record with which its party can make the call: idle for begin, else about to make the first step of a find.
-fn record_for(call: Call) -> Party {
-    match call {
-        Call::Format => record(model::FIND, 1, 0, 0, 0, 0, 0),
-        Call::Begin => record(model::IDLE, 1, 0, 0, 0, 0, 0),
-        Call::Step => record(model::FIND, 1, 0, 0, 0, 0, 0),
-    }
-}
-
-// Memory of the lengths that these sizes ask for, on which this party can make the call.
-pub fn sound(call: Call, z: FileSizes, party: u32) -> Scene {
-    let held = held_with(root_of(z), record_for(call));
+// Memory of the lengths that these sizes ask for, on which party 0 can make the call.
+pub fn sound(call: Call, z: FileSizes) -> Scene {
+    let held = held_with(root_of(z, 0, 0, 0), first_step(operation_for(call)));
     Scene {
-        sizes: z,
         held,
         lock_words: z.primaries as usize + 1,
         page_words: 16 * (z.primaries as usize + z.overflow as usize + z.parties as usize),
-        party,
+        party: 0,
     }
 }
 
-// Memory of the usual sizes with one cause met more; no cause undoes another.
-pub fn meeting(former: Scene, cause: Cause) -> Scene {
-    let mut s = former;
-    match cause {
-        Cause::Size => {
-            s.sizes.capacity = 13;
-            s.held.root.capacity = 13;
-        }
-        Cause::Length => {
-            s.lock_words = 5;
-        }
-        Cause::Party => {
-            s.party = 3;
-        }
-        Cause::Busy => {
-            s.held = held_with(s.held.root, record(model::INSERT, 1, 0, 0, 0, 0, 0));
-        }
-        Cause::Idle => {
-            s.held = held_with(s.held.root, record(model::IDLE, 1, 0, 0, 0, 0, 0));
-        }
-        Cause::Damage => {
-            s.held.root.free = 5;
-        }
+// `met` where the cause is one of the two, else `unmet`.
+fn pick(earlier: u32, later: u32, cause: u32, met: u32, unmet: u32) -> u32 {
+    if earlier == cause {
+        return met;
     }
-    s
+    if later == cause {
+        return met;
+    }
+    unmet
+}
+
+// Memory of the usual sizes (N 2, b 3, P 5, V 4, Q 3: 6 lock words, 192 page words) in which the causes of these numbers are met, and no other; 0 is no cause.
+// 2: b is 13. 1: a lock word too few. 3: party Q. 4 and 5: every record is busy, or idle. 6: the free count is above V.
+pub fn meeting(call: Call, earlier: u32, later: u32) -> Scene {
+    let lock_words = pick(earlier, later, 1, 5, 6) as usize;
+    let capacity = pick(earlier, later, 2, 13, 3);
+    let party = pick(earlier, later, 3, 3, 2);
+    let free = pick(earlier, later, 6, 5, 0);
+    let busy = pick(earlier, later, 4, model::INSERT, operation_for(call));
+    let operation = pick(earlier, later, 5, model::IDLE, busy);
+    let held = held_with(
+        root_of(sizes(2, capacity, 5, 4, 3), 0, 0, free),
+        first_step(operation),
+    );
+    Scene {
+        held,
+        lock_words,
+        page_words: 192,
+        party,
+    }
 }

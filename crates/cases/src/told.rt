@@ -1,10 +1,9 @@
 // What is written of a case, and the count of cases.
-// Main function: judged, which makes the call, writes what came and whether it is as it should be, and counts.
+// Main function: judged, which makes the call, writes what the case is, what came and whether it is as it should be, and counts.
 
 use crate::made::ACCEPTED;
 use crate::made::Came;
 use crate::scene::Call;
-use crate::scene::Cause;
 use crate::scene::Scene;
 
 pub struct Tally {
@@ -16,12 +15,22 @@ pub fn say(text: &[u8]) {
     io::write_all(1, text);
 }
 
-pub fn say_number(text: &[u8], n: u32) {
-    io::write_all(1, text);
+// The text, and the numbers with a space before each.
+pub fn say_numbers(text: &[u8], numbers: &[u32]) {
+    say(text);
+    let mut i: usize = 0;
+    while i < numbers.len() {
+        say_number(numbers[i]);
+        i += 1;
+    }
+}
+
+fn say_number(n: u32) {
+    say(b" ");
     io::print_decimal(1, n as u64);
 }
 
-pub fn say_call(call: Call) {
+fn say_call(call: Call) {
     match call {
         Call::Format => say(b"format"),
         Call::Begin => say(b"begin"),
@@ -29,47 +38,28 @@ pub fn say_call(call: Call) {
     }
 }
 
-pub fn say_cause(cause: Cause) {
-    match cause {
-        Cause::Size => say(b", a size outside its limits"),
-        Cause::Length => say(b", a length that does not fit"),
-        Cause::Party => say(b", party Q"),
-        Cause::Busy => say(b", a busy record"),
-        Cause::Idle => say(b", an idle record"),
-        Cause::Damage => say(b", a damaged number"),
-    }
+// What the case is.
+fn say_case(call: Call, text: &[u8], numbers: &[u32]) {
+    say_call(call);
+    say_numbers(text, numbers);
+    say(b": ");
 }
 
 fn say_answer(refusal: u32) {
     if refusal == ACCEPTED {
         say(b"accepted");
-    } else {
-        say_number(b"refused ", refusal);
-    }
-}
-
-fn say_altered(came: Came) {
-    if !is_altered(came) {
-        say(b", nothing altered");
         return;
     }
-    say(b", altered:");
-    if came.root {
-        say(b" root");
-    }
-    if came.row {
-        say(b" row");
-    }
-    if came.locks {
-        say(b" locks");
-    }
-    if came.pages {
-        say(b" pages");
-    }
+    say(b"refused");
+    say_number(refusal);
 }
 
-fn is_altered(came: Came) -> bool {
-    came.root || came.row || came.locks || came.pages
+fn say_altered(altered: bool) {
+    if altered {
+        say(b", altered");
+        return;
+    }
+    say(b", nothing altered");
 }
 
 // The answer is the one expected; a refused call alters nothing, and an accepted one something.
@@ -78,27 +68,49 @@ fn is_right(came: Came, expected: u32) -> bool {
         return false;
     }
     if expected == ACCEPTED {
-        return is_altered(came);
+        return came.altered;
     }
-    !is_altered(came)
+    !came.altered
 }
 
-pub fn judged(t: Tally, call: Call, s: Scene, expected: u32) -> Tally {
-    let came = crate::made::came_of(call, s);
-    say(b": ");
+fn say_came(came: Came) {
     say_answer(came.refusal);
-    say_altered(came);
-    let cases = std::num::wrapping_add_u32(t.cases, 1);
-    if is_right(came, expected) {
-        say(b", as it should be\n");
-        return Tally {
-            cases,
-            wrong: t.wrong,
-        };
-    }
-    say(b", WRONG, it should be ");
+    say_altered(came.altered);
+}
+
+fn say_wrong(expected: u32) {
+    say(b": WRONG, it should be ");
     say_answer(expected);
     say(b"\n");
-    let wrong = std::num::wrapping_add_u32(t.wrong, 1);
-    Tally { cases, wrong }
+}
+
+fn counted(t: Tally, wrong: u32) -> Tally {
+    Tally {
+        cases: std::num::wrapping_add_u32(t.cases, 1),
+        wrong: std::num::wrapping_add_u32(t.wrong, wrong),
+    }
+}
+
+fn compared(t: Tally, came: Came, expected: u32) -> Tally {
+    if is_right(came, expected) {
+        say(b": as it should be\n");
+        return counted(t, 0);
+    }
+    say_wrong(expected);
+    counted(t, 1)
+}
+
+// The text and the numbers say what the case is.
+pub fn judged(
+    t: Tally,
+    call: Call,
+    text: &[u8],
+    numbers: &[u32],
+    s: Scene,
+    expected: u32,
+) -> Tally {
+    say_case(call, text, numbers);
+    let came = crate::made::came_of(call, s);
+    say_came(came);
+    compared(t, came, expected)
 }

@@ -13,20 +13,26 @@ abbrev μ-loop : tie.MeasureT-loop
 loop-holds : tie.Need-loop-holds Inv-loop μ-loop
 loop-holds c = search needs
 
-mul-same-party : tie.Need-mul-same-party Inv-loop μ-loop
-mul-same-party c = search needs
+mul-words-of-party : tie.Need-mul-words-of-party Inv-loop μ-loop
+mul-words-of-party c = search needs
 
-array-copy-out-same-party : tie.Need-array-copy-out-same-party Inv-loop μ-loop
-array-copy-out-same-party c = search needs
+array-copy-out-words-of-party : tie.Need-array-copy-out-words-of-party Inv-loop μ-loop
+array-copy-out-words-of-party c = search needs
 
-mul-same-party-2 : tie.Need-mul-same-party-2 Inv-loop μ-loop
-mul-same-party-2 c = search needs
+words-of-party-requires : tie.Need-words-of-party-requires Inv-loop μ-loop
+words-of-party-requires c κs = search needs
 
-array-copy-out-same-party-2 : tie.Need-array-copy-out-same-party-2 Inv-loop μ-loop
-array-copy-out-same-party-2 c = search needs
+mul-words-of-party-2 : tie.Need-mul-words-of-party-2 Inv-loop μ-loop
+mul-words-of-party-2 c = search needs
 
-same-party-requires : tie.Need-same-party-requires Inv-loop μ-loop
-same-party-requires c κs = search needs
+array-copy-out-words-of-party-2 : tie.Need-array-copy-out-words-of-party-2 Inv-loop μ-loop
+array-copy-out-words-of-party-2 c = search needs
+
+words-of-party-requires-2 : tie.Need-words-of-party-requires-2 Inv-loop μ-loop
+words-of-party-requires-2 c κs = search needs
+
+same-words-requires : tie.Need-same-words-requires Inv-loop μ-loop
+same-words-requires c κs = search needs
 
 returns : tie.Need-returns Inv-loop μ-loop
 returns c = search needs
@@ -50,11 +56,13 @@ same-row-spec =
     Inv-loop
     μ-loop
     loop-holds
-    mul-same-party
-    array-copy-out-same-party
-    mul-same-party-2
-    array-copy-out-same-party-2
-    same-party-requires
+    mul-words-of-party
+    array-copy-out-words-of-party
+    words-of-party-requires
+    mul-words-of-party-2
+    array-copy-out-words-of-party-2
+    words-of-party-requires-2
+    same-words-requires
     returns
     add-i
     loop-less
