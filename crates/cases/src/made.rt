@@ -13,16 +13,10 @@ use model::Party;
 use model::Root;
 use model::StepAnswer;
 
-// What came of a call: the refusal, and whether anything held or lent is altered.
+// What came of a call: the refusal, and how many words of all that is held and lent are altered.
 pub struct Came {
     pub refusal: u32,
-    pub altered: bool,
-}
-
-// What is held after a call, and its refusal.
-struct After {
-    held: Held,
-    refusal: u32,
+    pub altered: u32,
 }
 
 // The refusal of a call that is not refused.
@@ -39,20 +33,62 @@ const PAGE_ROOM: usize = 16400;
 pub fn came_of(call: Call, s: Scene) -> Came {
     let mut locks = [WORD; LOCK_ROOM];
     let mut pages = [WORD; PAGE_ROOM];
-    let after = lent(call, s, &mut locks, &mut pages);
-    Came {
-        refusal: after.refusal,
-        altered: !(same_held(s.held, after.held) && as_before(&locks) && as_before(&pages)),
+    match call {
+        Call::Format => formatted(s, &mut locks, &mut pages),
+        Call::Begin => begun(s, &locks, &pages),
+        Call::Step => stepped(s, &mut locks, &mut pages),
     }
 }
 
-// The call is lent the first words of both kinds; never more than there are.
-fn lent(call: Call, s: Scene, locks: &mut [u32], pages: &mut [u32]) -> After {
+fn formatted(s: Scene, locks: &mut [u32], pages: &mut [u32]) -> Came {
+    let held = s.held;
     let l = least(s.lock_words, locks.len());
     let g = least(s.page_words, pages.len());
-    called(call, s, &mut locks[0..l], &mut pages[0..g])
+    let made = held::format(
+        held,
+        &mut locks[0..l],
+        &mut pages[0..g],
+        sizes_of(held.root),
+    );
+    let answer = made.answer;
+    Came {
+        refusal: format_refusal(answer),
+        altered: altered(held, made.held, locks, pages),
+    }
 }
 
+fn begun(s: Scene, locks: &[u32], pages: &[u32]) -> Came {
+    let held = s.held;
+    let l = least(s.lock_words, locks.len());
+    let g = least(s.page_words, pages.len());
+    let made = held::begin(
+        held,
+        &locks[0..l],
+        &pages[0..g],
+        s.party,
+        Operation::Delete,
+        11,
+    );
+    let answer = made.answer;
+    Came {
+        refusal: begin_refusal(answer),
+        altered: altered(held, made.held, locks, pages),
+    }
+}
+
+fn stepped(s: Scene, locks: &mut [u32], pages: &mut [u32]) -> Came {
+    let held = s.held;
+    let l = least(s.lock_words, locks.len());
+    let g = least(s.page_words, pages.len());
+    let made = held::step(held, &mut locks[0..l], &mut pages[0..g], s.party);
+    let answer = made.answer;
+    Came {
+        refusal: step_refusal(answer),
+        altered: altered(held, made.held, locks, pages),
+    }
+}
+
+// So many words are lent; never more than there are.
 fn least(a: usize, b: usize) -> usize
     ensures { λ r. ⌜ r ≤ b ⌝ }
 {
@@ -60,44 +96,6 @@ fn least(a: usize, b: usize) -> usize
         return a;
     }
     b
-}
-
-fn called(call: Call, s: Scene, locks: &mut [u32], pages: &mut [u32]) -> After {
-    match call {
-        Call::Format => formatted(s.held, locks, pages),
-        Call::Begin => begun(s.held, locks, pages, s.party),
-        Call::Step => stepped(s.held, locks, pages, s.party),
-    }
-}
-
-fn formatted(held: Held, locks: &mut [u32], pages: &mut [u32]) -> After {
-    let made = held::format(held, locks, pages, sizes_of(held.root));
-    let answer = made.answer;
-    let after = made.held;
-    After {
-        held: after,
-        refusal: format_refusal(answer),
-    }
-}
-
-fn begun(held: Held, locks: &[u32], pages: &[u32], q: u32) -> After {
-    let made = held::begin(held, locks, pages, q, Operation::Delete, 11);
-    let answer = made.answer;
-    let after = made.held;
-    After {
-        held: after,
-        refusal: begin_refusal(answer),
-    }
-}
-
-fn stepped(held: Held, locks: &mut [u32], pages: &mut [u32], q: u32) -> After {
-    let made = held::step(held, locks, pages, q);
-    let answer = made.answer;
-    let after = made.held;
-    After {
-        held: after,
-        refusal: step_refusal(answer),
-    }
 }
 
 fn sizes_of(r: Root) -> FileSizes {
@@ -133,47 +131,70 @@ fn step_refusal(answer: StepAnswer) -> u32 {
     }
 }
 
-fn same_held(a: Held, b: Held) -> bool {
-    let row = a.row;
-    let row_after = b.row;
-    same_words(
-        records::words_of_root(a.root),
-        records::words_of_root(b.root),
-    )
-        && same_row(row, row_after)
+// How many words are altered, lent or not.
+fn altered(before: Held, after: Held, locks: &[u32], pages: &[u32]) -> u32 {
+    let held = add(
+        altered_root(before.root, after.root),
+        altered_row(before, after),
+    );
+    let lent = add(altered_words(locks), altered_words(pages));
+    add(held, lent)
 }
 
-fn same_row(a: [Party; 16], b: [Party; 16]) -> bool {
+fn add(a: u32, b: u32) -> u32 {
+    std::num::wrapping_add_u32(a, b)
+}
+
+fn altered_root(before: Root, after: Root) -> u32 {
+    differing(
+        records::words_of_root(before),
+        records::words_of_root(after),
+    )
+}
+
+fn altered_row(before: Held, after: Held) -> u32 {
+    let a = before.row;
+    let b = after.row;
+    let mut n: u32 = 0;
     let mut i: usize = 0;
     while i < 16 {
-        if !same_words(records::words_of_party(a[i]), records::words_of_party(b[i])) {
-            return false;
-        }
+        n = add(n, altered_party(a[i], b[i]));
         i += 1;
     }
-    true
+    n
 }
 
-// The words of two records.
-fn same_words(a: [u32; 9], b: [u32; 9]) -> bool {
+fn altered_party(before: Party, after: Party) -> u32 {
+    differing(
+        records::words_of_party(before),
+        records::words_of_party(after),
+    )
+}
+
+// How many words of a record differ.
+fn differing(a: [u32; 9], b: [u32; 9]) -> u32 {
+    let mut n: u32 = 0;
     let mut i: usize = 0;
     while i < 9 {
-        if a[i] != b[i] {
-            return false;
-        }
+        n = add(n, differs(a[i], b[i]));
         i += 1;
     }
-    true
+    n
 }
 
-// Whether every word, lent or not, is as it was before the call.
-fn as_before(words: &[u32]) -> bool {
+fn differs(a: u32, b: u32) -> u32 {
+    if a == b {
+        return 0;
+    }
+    1
+}
+
+fn altered_words(words: &[u32]) -> u32 {
+    let mut n: u32 = 0;
     let mut i: usize = 0;
     while i < words.len() {
-        if words[i] != WORD {
-            return false;
-        }
+        n = add(n, differs(words[i], WORD));
         i += 1;
     }
-    true
+    n
 }

@@ -37,22 +37,22 @@ pub fn sizes(
     }
 }
 
-pub fn root_of(z: FileSizes, level: u32, next: u32, free: u32) -> Root {
+fn root_of(z: FileSizes, free: u32) -> Root {
     Root {
         originals: z.originals,
         capacity: z.capacity,
         primaries: z.primaries,
         overflow: z.overflow,
         parties: z.parties,
-        level,
-        next,
+        level: 0,
+        next: 0,
         head: 0,
         free,
     }
 }
 
 // A record about to make its first step, idle where the operation is 0.
-pub fn first_step(operation: u32) -> Party {
+fn first_step(operation: u32) -> Party {
     Party {
         operation,
         key: 7,
@@ -67,7 +67,7 @@ pub fn first_step(operation: u32) -> Party {
 }
 
 // The operation of a record with which its party can make the call.
-pub fn operation_for(call: Call) -> u32 {
+fn operation_for(call: Call) -> u32 {
     match call {
         Call::Format => model::FIND,
         Call::Begin => model::IDLE,
@@ -76,19 +76,19 @@ pub fn operation_for(call: Call) -> u32 {
 }
 
 // Every record of the row is this one, also those past Q.
-pub fn held_with(root: Root, p: Party) -> Held {
+fn held_with(root: Root, p: Party) -> Held {
     let row = [p; 16];
     Held { root, row }
 }
 
-// Memory of the lengths that these sizes ask for, on which party 0 can make the call.
-pub fn sound(call: Call, z: FileSizes) -> Scene {
-    let held = held_with(root_of(z, 0, 0, 0), first_step(operation_for(call)));
+// Memory of the lengths that these sizes ask for, on which every party can make the call.
+pub fn sound(call: Call, z: FileSizes, party: u32) -> Scene {
+    let held = held_with(root_of(z, 0), first_step(operation_for(call)));
     Scene {
         held,
         lock_words: z.primaries as usize + 1,
         page_words: 16 * (z.primaries as usize + z.overflow as usize + z.parties as usize),
-        party: 0,
+        party,
     }
 }
 
@@ -113,7 +113,7 @@ pub fn meeting(call: Call, earlier: u32, later: u32) -> Scene {
     let busy = pick(earlier, later, 4, model::INSERT, operation_for(call));
     let operation = pick(earlier, later, 5, model::IDLE, busy);
     let held = held_with(
-        root_of(sizes(2, capacity, 5, 4, 3), 0, 0, free),
+        root_of(sizes(2, capacity, 5, 4, 3), free),
         first_step(operation),
     );
     Scene {

@@ -15,51 +15,38 @@ pub fn say(text: &[u8]) {
     io::write_all(1, text);
 }
 
-// The text, and the numbers with a space before each.
-pub fn say_numbers(text: &[u8], numbers: &[u32]) {
+// The text, and the number after it.
+pub fn say_number(text: &[u8], n: u32) {
+    io::write_all(1, text);
+    io::print_decimal(1, n as u64);
+}
+
+// What the case is: the call, the text, and the numbers.
+fn say_case(call: Call, text: &[u8], numbers: &[u32]) {
+    say_call(call);
     say(text);
     let mut i: usize = 0;
     while i < numbers.len() {
-        say_number(numbers[i]);
+        say_number(b" ", numbers[i]);
         i += 1;
     }
 }
 
-fn say_number(n: u32) {
-    say(b" ");
-    io::print_decimal(1, n as u64);
-}
-
 fn say_call(call: Call) {
     match call {
-        Call::Format => say(b"format"),
-        Call::Begin => say(b"begin"),
-        Call::Step => say(b"step"),
+        Call::Format => say(b"format, "),
+        Call::Begin => say(b"begin, "),
+        Call::Step => say(b"step, "),
     }
 }
 
-// What the case is.
-fn say_case(call: Call, text: &[u8], numbers: &[u32]) {
-    say_call(call);
-    say_numbers(text, numbers);
-    say(b": ");
-}
-
-fn say_answer(refusal: u32) {
-    if refusal == ACCEPTED {
-        say(b"accepted");
-        return;
+fn say_came(came: Came) {
+    if came.refusal == ACCEPTED {
+        say(b": accepted");
+    } else {
+        say_number(b": refused ", came.refusal);
     }
-    say(b"refused");
-    say_number(refusal);
-}
-
-fn say_altered(altered: bool) {
-    if altered {
-        say(b", altered");
-        return;
-    }
-    say(b", nothing altered");
+    say_number(b", words altered ", came.altered);
 }
 
 // The answer is the one expected; a refused call alters nothing, and an accepted one something.
@@ -68,20 +55,9 @@ fn is_right(came: Came, expected: u32) -> bool {
         return false;
     }
     if expected == ACCEPTED {
-        return came.altered;
+        return came.altered != 0;
     }
-    !came.altered
-}
-
-fn say_came(came: Came) {
-    say_answer(came.refusal);
-    say_altered(came.altered);
-}
-
-fn say_wrong(expected: u32) {
-    say(b": WRONG, it should be ");
-    say_answer(expected);
-    say(b"\n");
+    came.altered == 0
 }
 
 fn counted(t: Tally, wrong: u32) -> Tally {
@@ -93,10 +69,10 @@ fn counted(t: Tally, wrong: u32) -> Tally {
 
 fn compared(t: Tally, came: Came, expected: u32) -> Tally {
     if is_right(came, expected) {
-        say(b": as it should be\n");
+        say(b", as it should be\n");
         return counted(t, 0);
     }
-    say_wrong(expected);
+    say(b", WRONG\n");
     counted(t, 1)
 }
 

@@ -1,21 +1,27 @@
--- `told::say_numbers` is safe and ends.
+-- `told::say_case` is safe and ends.
 use borrow.Author.Needs.{needs}
 use Prim.Native.Nat.{_-_}
 use lib.ListN.{length}
-use Rattle.cases.proofs.told.say_numbers.Statement.{statement}
-use Rattle.cases.proofs.told.say_numbers.Tie as tie
+use Rattle.cases.proofs.told.say_case.Statement.{statement}
+use Rattle.cases.proofs.told.say_case.Tie as tie
 
 abbrev Inv-loop : tie.InvT-loop
-Inv-loop text numbers i₀ i = Unit
+Inv-loop text numbers i₀ t5 i = Unit
 
 abbrev μ-loop : tie.MeasureT-loop
-μ-loop text numbers i₀ i = length numbers - i
+μ-loop text numbers i₀ t5 i = length numbers - i
+
+say-call-requires : tie.Need-say-call-requires Inv-loop μ-loop
+say-call-requires c κs = search needs
 
 say-requires : tie.Need-say-requires Inv-loop μ-loop
 say-requires c κs = search needs
 
 loop-holds : tie.Need-loop-holds Inv-loop μ-loop
 loop-holds c = search needs
+
+slice-aggregate-say-number : tie.Need-slice-aggregate-say-number Inv-loop μ-loop
+slice-aggregate-say-number c = search needs
 
 mul-say-number : tie.Need-mul-say-number Inv-loop μ-loop
 mul-say-number c = search needs
@@ -38,14 +44,16 @@ loop-again c = search needs
 returns : tie.Need-returns Inv-loop μ-loop
 returns c = search needs
 
-pub say-numbers-spec : {M : Type 1} → statement M
-say-numbers-spec =
+pub say-case-spec : {M : Type 1} → statement M
+say-case-spec =
     tie.close
     (tie.spec
     Inv-loop
     μ-loop
+    say-call-requires
     say-requires
     loop-holds
+    slice-aggregate-say-number
     mul-say-number
     shared-slice-read-say-number
     say-number-requires
