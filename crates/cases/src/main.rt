@@ -51,6 +51,7 @@ fn sizes_within(first: Tally, call: Call) -> Tally {
 }
 
 // "N original chains, 1 to P. P chains at most, 1 to 256. V overflow pages, 0 to 752. Q parties, 1 to 16. b keys a page, 1 to 12."
+// With Q 0 party 0 is outside the row too (3), and with Q 17 one record too few is lent (1).
 fn sizes_outside(first: Tally, call: Call) -> Tally {
     let mut t = first;
     t = sized(t, call, 0, 3, 5, 4, 3, 0, 2);
