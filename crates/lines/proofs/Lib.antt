@@ -1,5 +1,6 @@
--- What the proofs of lines answered share, and what turns prints for a schedule.
+-- What the proofs of lines answered share; what turns prints for a schedule, and for long lines.
 pub mod Words
 pub mod Texts
 pub mod Going
 pub mod Schedules
+pub mod LongLines

@@ -1,6 +1,6 @@
 // The program turns (document 01, "The turns program"): one form a line on standard input, one reply a line on standard output.
 // Input is read by blocks, and the replies to a block's lines are written before the next read, so each answer is seen at once. A line may be of any length.
-// Main statements: every function is safe and ends. What is printed for a text of lines is the contract of `lines`; what is read and written no contract can say.
+// Main statements: every function is safe and ends. What is printed for a text of lines is the contract of `lines::answer_lines`; what is read and written no contract can say.
 
 ghost use Prim.Native.Nat.{_≤_, _<_};
 ghost use lib.ListN.{length};
@@ -14,7 +14,7 @@ use model::Root;
 
 const NEWLINE: u8 = b'\n';
 
-// The most bytes of an unfinished line that are kept: one more than a form has, so that a longer line is no form whatever follows.
+// The most bytes of an unfinished line that are kept: one more than a form has, so that it is no form whatever follows (cut-alike of `lines`, proofs/LongLines.antt).
 const MOST_KEPT: usize = LONGEST_FORM + 1;
 
 // The state between two reads: what is held, how many bytes of an unfinished line stand at the front of the input buffer, and whether to read on.
