@@ -1,4 +1,4 @@
-"""The contenders of the benchmark: each is bench/work.c, built in a temporary folder with what makes a set of it (bench/set.h)."""
+"""The contenders of the benchmark: each is bench/work.c, built in a temporary folder with what makes a map of it (bench/map.h)."""
 import shutil
 import subprocess
 from collections import namedtuple
@@ -70,9 +70,9 @@ def port(room):
 
 
 def standard(room, kind):
-    """One of Rust's own sets: hash or tree."""
+    """One of Rust's own maps: hash or tree."""
     archive = room / f'lib{kind}.a'
-    output('rustc', '--edition', '2021', '-C', 'opt-level=3', '-C', 'panic=abort', '--crate-type', 'staticlib', '--cfg', kind, HERE / 'std_sets.rs', '-o', archive)
+    output('rustc', '--edition', '2021', '-C', 'opt-level=3', '-C', 'panic=abort', '--crate-type', 'staticlib', '--cfg', kind, HERE / 'std_maps.rs', '-o', archive)
     return built(room, kind, archive)
 
 

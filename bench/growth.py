@@ -5,21 +5,21 @@ from svg import Picture, width_of
 
 PLACE = ROOT / 'docs/pictures/growth.svg'
 # Where the panels begin, how high they are, and the picture; how far instructions go up in them, and from line to line.
-TOP, HIGH, HEIGHT, MOST, PITCH = 136, 308, 500, 7000, 1000
+TOP, HIGH, HEIGHT, MOST, PITCH = 136, 308, 500, 8000, 1000
 
 # A panel: where it begins and how wide it is, its title, what runs along it, and the marks there.
 Panel = namedtuple('Panel', 'left wide title along marks')
-KEYS = Panel(66, 364, 'By keys in the file', 'keys', [0, 1500, 3000, 4500, 6000, 7500, 9000])
+KEYS = Panel(66, 364, 'By keys in the file', 'keys', [0, 750, 1500, 2250, 3000, 3750, 4500])
 PARTIES = Panel(504, 364, 'By parties in turn, a call each, round and round', 'parties', [1, 4, 8, 12, 16])
 # A curve: its panel, the kind of its points, its line, its dots, its words, and the point where these end.
 Curve = namedtuple('Curve', 'panel kind line dots words end')
 CURVES = [
-    Curve(KEYS, 'change', 'selective-edge', 'selective-ink', 'insert and delete', (9000, 4200)),
-    Curve(KEYS, 'find', 'read-edge', 'read-ink', 'find', (9000, 2450)),
-    Curve(PARTIES, 'crowd', 'selective-edge', 'selective-ink', 'insert and delete, among 30 keys', (12.4, 5150)),
-    Curve(PARTIES, 'mixed', 'ring', 'accent', 'eight finds, an insert and a delete, among 8,758 keys', (16, 1600)),
+    Curve(KEYS, 'change', 'selective-edge', 'selective-ink', 'insert and delete', (4500, 4950)),
+    Curve(KEYS, 'find', 'read-edge', 'read-ink', 'find', (4500, 2850)),
+    Curve(PARTIES, 'crowd', 'selective-edge', 'selective-ink', 'insert and delete, among 30 keys', (9.4, 5600)),
+    Curve(PARTIES, 'mixed', 'ring', 'accent', 'eight finds, an insert and a delete, among 4,389 keys', (16, 1600)),
 ]
-SAYS = ['The file is 1 12 256 752 16, and every operation is counted from begin to done. Up to some 3,000 keys a chain is split for every new overflow page; then',
+SAYS = ['The file is 1 6 256 752 16, and every operation is counted from begin to done. Up to some 1,600 keys a chain is split for every new overflow page; then',
         'all 256 chains are there, and grow. Parties wait for one another where few chains are changed by many; waiting calls are counted too.']
 
 

@@ -1,17 +1,18 @@
-/* LMDB as a contender (bench/set.h): integer keys without values in a temporary file; an operation is a transaction of its own. Writes go to the mapped file, and
+/* LMDB as a contender (bench/map.h): integer keys with their settings in a temporary file; an operation is a transaction of its own. Writes go to the mapped file, and
  * nobody waits for the disk (MDB_WRITEMAP, MDB_NOSYNC): the disk is not what is measured. */
 #include <lmdb.h>
 #include <stdio.h>
 #include <stdlib.h>
+#include <string.h>
 #include <unistd.h>
 
-#include "set.h"
+#include "map.h"
 
 static MDB_env *environment;
-static MDB_dbi keys;
+static MDB_dbi beads;
 static char folder[] = "/tmp/bench-lmdb-XXXXXX";
 
-const char *set_name(void)
+const char *map_name(void)
 {
     static char name[64];
     snprintf(name, sizeof name, "LMDB %d.%d.%d, on a file", MDB_VERSION_MAJOR, MDB_VERSION_MINOR, MDB_VERSION_PATCH);
@@ -49,43 +50,46 @@ static void make(void)
     expect(mdb_env_set_mapsize(environment, 1u << 26));
     expect(mdb_env_open(environment, folder, MDB_WRITEMAP | MDB_NOSYNC, 0600));
     MDB_txn *begun = transaction(0);
-    expect(mdb_dbi_open(begun, NULL, MDB_INTEGERKEY, &keys));
+    expect(mdb_dbi_open(begun, NULL, MDB_INTEGERKEY, &beads));
     expect(mdb_txn_commit(begun));
 }
 
-void set_empty(void)
+void map_empty(void)
 {
     if (environment == NULL)
         make();
     MDB_txn *begun = transaction(0);
-    expect(mdb_drop(begun, keys, 0));
+    expect(mdb_drop(begun, beads, 0));
     expect(mdb_txn_commit(begun));
 }
 
-static uint32_t find(MDB_val *key)
+static struct answer find(MDB_val *key)
 {
     MDB_val value;
+    struct answer answer = {BEAD_ABSENT, 0};
     MDB_txn *begun = transaction(MDB_RDONLY);
-    int code = mdb_get(begun, keys, key, &value);
+    int code = mdb_get(begun, beads, key, &value);
+    if (code != MDB_NOTFOUND) {
+        expect(code);
+        answer.number = BEAD_FOUND;
+        memcpy(&answer.setting, value.mv_data, sizeof answer.setting);
+    }
     mdb_txn_abort(begun);
-    if (code == MDB_NOTFOUND)
-        return BEAD_ABSENT;
-    expect(code);
-    return BEAD_FOUND;
+    return answer;
 }
 
-uint32_t set_perform(uint32_t operation, uint32_t number)
+struct answer map_perform(uint32_t operation, uint32_t number, uint32_t setting)
 {
-    MDB_val key = {sizeof number, &number}, none = {0, NULL};
+    MDB_val key = {sizeof number, &number}, value = {sizeof setting, &setting};
     if (operation == BEAD_FIND)
         return find(&key);
     MDB_txn *begun = transaction(0);
-    int code = operation == BEAD_INSERT ? mdb_put(begun, keys, &key, &none, MDB_NOOVERWRITE) : mdb_del(begun, keys, &key, NULL);
+    int code = operation == BEAD_INSERT ? mdb_put(begun, beads, &key, &value, MDB_NOOVERWRITE) : mdb_del(begun, beads, &key, NULL);
     if (code == MDB_KEYEXIST || code == MDB_NOTFOUND) {
         mdb_txn_abort(begun);
-        return code == MDB_KEYEXIST ? BEAD_PRESENT : BEAD_ABSENT;
+        return (struct answer){code == MDB_KEYEXIST ? BEAD_PRESENT : BEAD_ABSENT, 0};
     }
     expect(code);
     expect(mdb_txn_commit(begun));
-    return operation == BEAD_INSERT ? BEAD_INSERTED : BEAD_DELETED;
+    return (struct answer){operation == BEAD_INSERT ? BEAD_INSERTED : BEAD_DELETED, 0};
 }

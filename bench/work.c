@@ -1,5 +1,5 @@
-/* The benchmark's work, the same for every contender (bench/set.h). A row is a list of operations, each with the answer that a plain set gives; a contender that
- * answers otherwise ends the program. What comes before a row's own operations brings the set to where they begin.
+/* The benchmark's work, the same for every contender (bench/map.h). A row is a list of operations, each with the answer that a plain map gives; a contender that
+ * answers otherwise ends the program. What comes before a row's own operations brings the map to where they begin.
  *   PROGRAM name           prints the contender's name
  *   PROGRAM time SECONDS   prints a line a row: its name, and nanoseconds of processor time an operation; each row is repeated for so long
  *   PROGRAM count          performs each row once; under callgrind it dumps each by itself, with its name and how many operations it has
@@ -10,11 +10,11 @@
 #include <time.h>
 #include <valgrind/callgrind.h>
 
-#include "set.h"
+#include "map.h"
 
-/* With KEYS keys the file of bench/bead.c has all its chains, with some thirty-four keys each; with WAVE keys, a half of them. A delete among
+/* With KEYS keys the file of bench/bead.c has all its chains, with some seventeen keys each; with WAVE keys, four fifths of them. A delete among
  * inserts is of the key that was inserted LAG inserts before, which is done by then, also with sixteen parties. */
-enum { KEYS = 8738, FEW_KEYS = 10, WAVE = 2500, LAG = 20, MOST_KEYS = 16384, MOST_OPERATIONS = 10000 };
+enum { KEYS = 4369, FEW_KEYS = 10, WAVE = 1250, LAG = 20, MOST_KEYS = 16384, MOST_OPERATIONS = 10000 };
 
 enum kind { LOAD, FIND, DELETE, MIXED, WAVES, CHANGES };
 
@@ -26,13 +26,14 @@ struct row {
 };
 
 static const struct row rows[] = {
-    {"load", LOAD, 0, 1000, 2500, 1},       {"find", FIND, KEYS, 1000, 3000, 1},   {"insert", LOAD, KEYS / 2, 1000, 4000, 1},
-    {"delete", DELETE, KEYS, 1000, 4000, 1}, {"mixed", MIXED, KEYS, 1000, 4000, 1}, {"waves", WAVES, WAVE, 0, 2 * WAVE, 1},
+    {"load", LOAD, 0, 500, 1250, 1},         {"find", FIND, KEYS, 1000, 3000, 1},   {"insert", LOAD, KEYS / 2, 500, 2000, 1},
+    {"delete", DELETE, KEYS, 500, 2000, 1}, {"mixed", MIXED, KEYS, 1000, 4000, 1}, {"waves", WAVES, WAVE, 0, 2 * WAVE, 1},
     {"sixteen in turn", MIXED, KEYS, 1000, 4000, 16},
 };
 #define END(list) ((list) + sizeof(list) / sizeof *(list))
 
-static uint8_t there[MOST_KEYS];
+/* The plain map: the setting of the key at each place, 0 where it is not there. */
+static uint32_t settings[MOST_KEYS];
 static struct operation list[MOST_OPERATIONS];
 
 /* The i-th key: all differ, and they fall on the chains as if by chance (the last step of MurmurHash3). */
@@ -69,24 +70,26 @@ static uint32_t choose(const struct row *row, uint32_t i, uint32_t *place)
     }
 }
 
-/* What a plain set answers, and what it becomes. */
-static uint32_t expected(uint32_t operation, uint32_t place)
+/* What a plain map answers, and what it becomes. */
+static struct answer expected(uint32_t operation, uint32_t place, uint32_t setting)
 {
-    uint8_t was = there[place];
+    uint32_t was = settings[place];
     if (operation == BEAD_FIND)
-        return was ? BEAD_FOUND : BEAD_ABSENT;
-    there[place] = operation == BEAD_INSERT;
-    if (operation == BEAD_INSERT)
-        return was ? BEAD_PRESENT : BEAD_INSERTED;
-    return was ? BEAD_DELETED : BEAD_ABSENT;
+        return (struct answer){was ? BEAD_FOUND : BEAD_ABSENT, was};
+    if (operation == BEAD_DELETE) {
+        settings[place] = 0;
+        return (struct answer){was ? BEAD_DELETED : BEAD_ABSENT, 0};
+    }
+    settings[place] = was ? was : setting;
+    return (struct answer){was ? BEAD_PRESENT : BEAD_INSERTED, 0};
 }
 
-/* Lists a row's operations from the first to before the last: how many. */
+/* Lists a row's operations from the first to before the last: how many. The settings that they bring all differ, and none is 0. */
 static uint32_t plan(const struct row *row, uint32_t first, uint32_t last)
 {
     for (uint32_t i = first, place; i < last; i++) {
         uint32_t operation = choose(row, i, &place);
-        list[i - first] = (struct operation){operation, key(place), expected(operation, place)};
+        list[i - first] = (struct operation){operation, key(place), i + 1, expected(operation, place, i + 1)};
     }
     return last - first;
 }
@@ -94,7 +97,7 @@ static uint32_t plan(const struct row *row, uint32_t first, uint32_t last)
 static uint32_t perform_alone(uint32_t many)
 {
     uint32_t i = 0;
-    while (i < many && set_perform(list[i].operation, list[i].key) == list[i].answer)
+    while (i < many && same(map_perform(list[i].operation, list[i].key, list[i].setting), list[i].answer))
         i++;
     return i;
 }
@@ -102,28 +105,28 @@ static uint32_t perform_alone(uint32_t many)
 /* Performs what is listed. */
 static void perform(const struct row *row, uint32_t many)
 {
-    uint32_t agreed = row->parties == 1 ? perform_alone(many) : set_in_turn(list, many, row->parties);
+    uint32_t agreed = row->parties == 1 ? perform_alone(many) : map_in_turn(list, many, row->parties);
     if (agreed == many)
         return;
     const struct operation *wrong = &list[agreed];
-    fprintf(stderr, "%s: row %s: operation %u on key %u does not answer %u\n", set_name(), row->name, (unsigned)wrong->operation, (unsigned)wrong->key,
-            (unsigned)wrong->answer);
+    fprintf(stderr, "%s: row %s: operation %u on key %u does not answer %u, setting %u\n", map_name(), row->name, (unsigned)wrong->operation, (unsigned)wrong->key,
+            (unsigned)wrong->answer.number, (unsigned)wrong->answer.setting);
     exit(1);
 }
 
-/* Brings the set to where a row's counted operations begin, and lists these: how many. */
+/* Brings the map to where a row's counted operations begin, and lists these: how many. */
 static uint32_t prepare(const struct row *row)
 {
     const struct row load = {"load", LOAD, 0, 0, row->loaded, 1};
-    set_empty();
-    memset(there, 0, sizeof there);
+    map_empty();
+    memset(settings, 0, sizeof settings);
     perform(&load, plan(&load, 0, row->loaded));
     perform(row, plan(row, 0, row->first));
     return plan(row, row->first, row->last);
 }
 
 /* Whether the contender has as many parties as a row asks for. */
-static int able(const struct row *row) { return row->parties == 1 || set_in_turn != NULL; }
+static int able(const struct row *row) { return row->parties == 1 || map_in_turn != NULL; }
 
 /* The processor time of this program, in nanoseconds. */
 static double now(void)
@@ -168,7 +171,7 @@ static void count_point(const char *name, enum kind kind, uint32_t keys, uint32_
 
 static void growth(void)
 {
-    for (uint32_t keys = 500; keys <= 9000; keys += 500) {
+    for (uint32_t keys = 250; keys <= 4500; keys += 250) {
         count_point("find", FIND, keys, 1);
         count_point("change", CHANGES, keys, 1);
     }
@@ -183,8 +186,8 @@ int main(int many, char **words)
     const char *task = many > 1 ? words[1] : "";
     double seconds = many == 3 ? atof(words[2]) : 0;
     if (many == 2 && strcmp(task, "name") == 0)
-        puts(set_name());
-    else if (many == 2 && strcmp(task, "growth") == 0 && set_in_turn != NULL)
+        puts(map_name());
+    else if (many == 2 && strcmp(task, "growth") == 0 && map_in_turn != NULL)
         growth();
     else if (many == 2 && strcmp(task, "count") == 0) {
         for (const struct row *row = rows; row < END(rows); row++)

@@ -1,8 +1,10 @@
 /* The bead index for C and C++: the three calls, the memory that they are lent, and the numbers that they answer.
  *
- * A file of 32-bit keys, shared by up to sixteen parties under Ellis's locks. bead_format makes an empty file,
- * bead_begin starts a find, an insert or a delete for a party, and bead_step performs one step of it: seven steps or
- * more an operation, of which the last answers BEAD_DONE. The caller picks whose step is next.
+ * A file of records, each a 32-bit key and a 32-bit setting, shared by up to sixteen parties under Ellis's locks.
+ * bead_format makes an empty file, bead_begin starts a find, an insert or a delete for a party, and bead_step performs
+ * one step of it: seven steps or more an operation, of which the last answers BEAD_DONE. The caller picks whose step is
+ * next. An insert brings a key with its setting, and leaves a key that is in with the setting that it has; a find
+ * answers the setting of its key.
  *
  * All memory is the caller's: a root record, a row of party's records, a row of lock words and a row of page words,
  * lent anew to every call. The library keeps nothing, allocates nothing and calls nobody. What each call leaves in
@@ -29,11 +31,11 @@ extern "C" {
  *
  * A file has five sizes, named as in the specification:
  *   N  original chains       1 to P
- *   b  keys a page           1 to BEAD_MOST_RECORDS
+ *   b  records a page        1 to BEAD_MOST_RECORDS
  *   P  chains at most        1 to BEAD_MOST_PRIMARIES (a chain has one primary page)
  *   V  overflow pages        0 to BEAD_MOST_OVERFLOW
  *   Q  parties               1 to BEAD_MOST_PARTIES */
-#define BEAD_MOST_RECORDS 12u
+#define BEAD_MOST_RECORDS 6u
 #define BEAD_MOST_PRIMARIES 256u
 #define BEAD_MOST_OVERFLOW 752u
 #define BEAD_MOST_PARTIES 16u
@@ -75,6 +77,7 @@ struct bead_party {
     uint32_t old;       /* the old overflow link: the first page to be given back plus one, 0 for none */
     uint32_t owed;      /* the restructuring owed: 0 none, 1 split, 2 merge, 3 split made */
     uint32_t answer;    /* the answer so far: enum bead_answer, never BEAD_FOUND */
+    uint32_t setting;   /* an insert's setting, else 0 */
 };
 
 /* ---- Numbers */
@@ -110,12 +113,12 @@ enum bead_outcome {
 /* What an operation answers once it is done. */
 enum bead_answer {
     BEAD_NO_ANSWER = 0, /* it is not done */
-    BEAD_INSERTED = 1,  /* insert: the key was out and is in */
-    BEAD_PRESENT = 2,   /* insert: the key was in */
+    BEAD_INSERTED = 1,  /* insert: the key was out and is in, with the setting given */
+    BEAD_PRESENT = 2,   /* insert: the key was in, and keeps its setting */
     BEAD_DELETED = 3,   /* delete: the key was in and is out */
     BEAD_ABSENT = 4,    /* find, delete: the key was out */
     BEAD_NO_PAGE = 5,   /* insert, delete: too few overflow pages are free; the key is as it was */
-    BEAD_FOUND = 6      /* find: the key was in */
+    BEAD_FOUND = 6      /* find: the key was in, with the setting of the reply */
 };
 
 /* What a done operation made of the file's chains besides. */
@@ -128,12 +131,13 @@ enum bead_restructuring {
 };
 
 /* The reply to a step. What does not apply is 0: all but the refusal where there is one, answer and restructuring
- * where the operation is not done. */
+ * where the operation is not done, the setting where the answer is not BEAD_FOUND. */
 struct bead_reply {
     uint32_t refusal;       /* enum bead_refusal */
     uint32_t outcome;       /* enum bead_outcome */
     uint32_t answer;        /* enum bead_answer */
     uint32_t restructuring; /* enum bead_restructuring */
+    uint32_t setting;       /* the setting of the key found: any number, 0 too */
 };
 
 #if defined(__cplusplus) && __cplusplus >= 201103L
@@ -143,8 +147,8 @@ struct bead_reply {
 #endif
 #ifdef BEAD_ASSERT_BYTES
 BEAD_ASSERT_BYTES(struct bead_root, 36);
-BEAD_ASSERT_BYTES(struct bead_party, 36);
-BEAD_ASSERT_BYTES(struct bead_reply, 16);
+BEAD_ASSERT_BYTES(struct bead_party, 40);
+BEAD_ASSERT_BYTES(struct bead_reply, 20);
 #undef BEAD_ASSERT_BYTES
 #endif
 
@@ -161,8 +165,9 @@ uint32_t bead_format(struct bead_root *root, struct bead_party *party_row, size_
                      size_t lock_words, uint32_t *pages, size_t page_words, uint32_t N, uint32_t b, uint32_t P,
                      uint32_t V, uint32_t Q);
 
-/* Begins an operation (enum bead_operation) on a key, which may be any number, for a party; parties are numbered from
- * 0. It writes that party's record alone.
+/* Begins an operation (enum bead_operation) on a key for a party; parties are numbered from 0. Key and setting may be
+ * any numbers; the setting is an insert's, and that of a find or a delete is ignored. It writes that party's record
+ * alone.
  * Answers BEAD_OK, or refuses, tested in this order:
  *   BEAD_NO_OPERATION    the operation is none of BEAD_FIND, BEAD_INSERT, BEAD_DELETE
  *   BEAD_SIZE_REFUSED    a size in the root record is outside its limits: the memory was never formatted
@@ -171,7 +176,7 @@ uint32_t bead_format(struct bead_root *root, struct bead_party *party_row, size_
  *   BEAD_BUSY_REFUSED    the party's last operation is not done */
 uint32_t bead_begin(struct bead_root *root, struct bead_party *party_row, size_t parties, uint32_t *locks,
                     size_t lock_words, uint32_t *pages, size_t page_words, uint32_t party, uint32_t operation,
-                    uint32_t key);
+                    uint32_t key, uint32_t setting);
 
 /* Performs one step of a party's operation. Where only these calls wrote since bead_format, of all parties with an
  * operation under way at least one would not wait.

@@ -75,6 +75,9 @@ static int kept_inside(void)
 static void remember(void) { memcpy(&before, &file, sizeof file); }
 static int unaltered(void) { return memcmp(&before, &file, sizeof file) == 0; }
 
+/* The setting that a key is begun with. */
+#define SETTING(key) (~(key))
+
 /* The three calls; each sees to the guards, and that a refusal or a wait alters nothing. */
 static uint32_t format(uint32_t n, uint32_t b, uint32_t p, uint32_t v, uint32_t q)
 {
@@ -88,7 +91,7 @@ static uint32_t format(uint32_t n, uint32_t b, uint32_t p, uint32_t v, uint32_t 
 static uint32_t begin(uint32_t party, uint32_t operation, uint32_t key)
 {
     remember();
-    uint32_t refusal = bead_begin(LENT, party, operation, key);
+    uint32_t refusal = bead_begin(LENT, party, operation, key, SETTING(key));
     CHECK(kept_inside());
     CHECK(refusal == BEAD_OK || unaltered());
     return refusal;
@@ -102,6 +105,7 @@ static struct bead_reply step(uint32_t party)
     CHECK((reply.refusal == BEAD_OK && reply.outcome != BEAD_WAITING) || unaltered());
     CHECK(reply.refusal == BEAD_OK || reply.outcome == 0);
     CHECK(reply.outcome == BEAD_DONE || (reply.answer == BEAD_NO_ANSWER && reply.restructuring == 0));
+    CHECK(reply.answer == BEAD_FOUND || reply.setting == 0);
     return reply;
 }
 
@@ -122,14 +126,14 @@ static struct bead_reply step_until(uint32_t party, uint32_t number)
     return reply;
 }
 
-/* Whether party 0's operation, run alone, ends with an answer and a restructuring. */
+/* Whether party 0's operation, run alone, ends with an answer and a restructuring, a find with the key's setting. */
 static int ends(uint32_t operation, uint32_t key, uint32_t answer, uint32_t restructuring)
 {
     if (begin(0, operation, key) != BEAD_OK)
         return 0;
     struct bead_reply reply = step_until(0, 0);
     return reply.refusal == BEAD_OK && reply.outcome == BEAD_DONE && reply.answer == answer &&
-           reply.restructuring == restructuring;
+           reply.restructuring == restructuring && (answer != BEAD_FOUND || reply.setting == SETTING(key));
 }
 
 /* The three lengths, one by one too short and too long, and what a call says to it; all are right again afterwards. */
@@ -190,6 +194,9 @@ static void test_begin(void)
     CHECK(begin(UINT32_MAX, BEAD_FIND, 7) == BEAD_PARTY_REFUSED);
     CHECK(begin(3, BEAD_INSERT, UINT32_MAX) == BEAD_OK);
     CHECK(file.parties[3].operation == BEAD_INSERT && file.parties[3].key == UINT32_MAX && file.parties[3].step == 1);
+    CHECK(begin(2, BEAD_INSERT, 7) == BEAD_OK && file.parties[2].setting == SETTING(7u));
+    CHECK(begin(1, BEAD_DELETE, 7) == BEAD_OK && file.parties[1].setting == 0);
+    CHECK(begin(0, BEAD_FIND, 7) == BEAD_OK && file.parties[0].setting == 0);
     CHECK(begin(3, BEAD_INSERT, 7) == BEAD_BUSY_REFUSED);
     CHECK(begin(3, BEAD_IDLE, 7) == BEAD_NO_OPERATION);
 }
@@ -273,6 +280,23 @@ static void test_answers(void)
     CHECK(ends(BEAD_FIND, 5, BEAD_ABSENT, BEAD_NO_RESTRUCTURING));
 }
 
+/* Settings: an insert of a present key keeps the old one, a delete takes it away, and any number is one. */
+static void test_settings(void)
+{
+    const uint32_t settings[] = {5, 0, UINT32_MAX};
+    make(1, 1, 2, 4, 1);
+    for (size_t i = 0; i < sizeof settings / sizeof *settings; i++) {
+        CHECK(bead_begin(LENT, 0, BEAD_INSERT, 7, settings[i]) == BEAD_OK);
+        CHECK(step_until(0, 0).answer == BEAD_INSERTED);
+        CHECK(ends(BEAD_INSERT, 7, BEAD_PRESENT, BEAD_NO_RESTRUCTURING));
+        CHECK(begin(0, BEAD_FIND, 7) == BEAD_OK);
+        struct bead_reply reply = step_until(0, 0);
+        CHECK(reply.answer == BEAD_FOUND && reply.setting == settings[i]);
+        CHECK(ends(BEAD_DELETE, 7, BEAD_DELETED, BEAD_MERGE_SKIPPED));
+        CHECK(ends(BEAD_FIND, 7, BEAD_ABSENT, BEAD_NO_RESTRUCTURING));
+    }
+}
+
 /* A party that wants a chain that another changes waits; a reader does not. */
 static void test_waiting(void)
 {
@@ -295,6 +319,7 @@ int main(void)
     test_step();
     test_damage();
     test_answers();
+    test_settings();
     test_waiting();
     if (failures == 0)
         printf("face: %u checks of the C face hold\n", checks);

@@ -1,14 +1,33 @@
 //! A slicing session on one file: two nozzles lay a wall bead by bead, a preview looks at it while it grows, and an
-//! export writes it down once all are at rest. A key is a bead's place: its course times 100 plus its column.
+//! export writes it down once all are at rest. A key is a bead's place: its course times 100 plus its column. Its
+//! setting is the nozzle's, from 1 to 9: how far it stood open.
 
 use bead_index::{Answer, File, Operation, Outcome, Refusal, Sizes};
-use std::collections::VecDeque;
+use std::collections::{HashMap, VecDeque};
 
 const COURSES: u32 = 3;
 const COLUMNS: u32 = 24;
 
 fn bead(course: u32, column: u32) -> u32 {
     course * 100 + column
+}
+
+/// How far a nozzle opens for a bead: wide for the course at the foot, and for a rib in every sixth column.
+fn setting(course: u32, column: u32) -> u32 {
+    let rib = if column % 6 == 0 { 3 } else { 0 };
+    rib + if course == 0 { 5 } else { 3 }
+}
+
+/// The insert of a bead with its setting.
+fn laid(course: u32, column: u32) -> Operation {
+    Operation::insert(bead(course, column), setting(course, column))
+}
+
+/// The mark of a bead: its setting, or a dot where there is none.
+fn mark(setting: Option<u32>) -> char {
+    setting
+        .and_then(|setting| char::from_digit(setting, 10))
+        .unwrap_or('.')
 }
 
 /// Somebody at work on the file: a party, what it has yet to do, and how often it had to wait.
@@ -48,7 +67,7 @@ impl Worker {
     }
 }
 
-/// A preview of a course: a mark for each bead found.
+/// A preview of a course: a mark for each bead.
 struct Preview {
     worker: Worker,
     course: u32,
@@ -70,8 +89,7 @@ impl Preview {
     /// One turn; shows the row once it is whole.
     fn turn(&mut self, file: &mut File) -> Result<(), Refusal> {
         if let Some((_, answer)) = self.worker.turn(file)? {
-            self.row
-                .push(if answer == Answer::Found { 'o' } else { '.' });
+            self.row.push(mark(answer.setting()));
         }
         if self.row.len() == COLUMNS as usize {
             println!("  preview  course {}  {}", self.course, self.row);
@@ -87,14 +105,15 @@ fn plan(nozzles: &mut [Worker; 2], course: u32) {
     let [left, right] = nozzles;
     let half = COLUMNS / 2;
     left.plan
-        .extend((0..half).map(|column| Operation::insert(bead(course, column))));
+        .extend((0..half).map(|column| laid(course, column)));
     right
         .plan
-        .extend((half..COLUMNS).map(|column| Operation::insert(bead(course, column))));
+        .extend((half..COLUMNS).map(|column| laid(course, column)));
     if course == 1 {
-        println!("  the right nozzle spits: the bead in column 15 has to come off, and is laid again last");
+        println!("  the right nozzle spits: the bead in column 15 comes out at setting 9, has to come off, and is laid again last");
+        right.plan[3] = Operation::insert(bead(course, 15), 9);
         right.plan.insert(6, Operation::delete(bead(course, 15)));
-        right.plan.push_back(Operation::insert(bead(course, 15)));
+        right.plan.push_back(laid(course, 15));
     }
 }
 
@@ -126,25 +145,15 @@ fn lay(
 
 /// The wall as the file has it, the top course first.
 fn export(file: &File) -> Result<(), bead_index::Error> {
-    let mut beads: Vec<u32> = file.keys()?.collect();
-    beads.sort_unstable();
+    let beads: HashMap<u32, u32> = file.records()?.collect();
     println!(
         "export: {} beads, in {} chains",
         beads.len(),
         file.chain_count()?
     );
     for course in (0..COURSES).rev() {
-        let mark = |column| {
-            if beads.binary_search(&bead(course, column)).is_ok() {
-                'o'
-            } else {
-                '.'
-            }
-        };
-        println!(
-            "           course {course}  {}",
-            (0..COLUMNS).map(mark).collect::<String>()
-        );
+        let row = (0..COLUMNS).map(|column| mark(beads.get(&bead(course, column)).copied()));
+        println!("           course {course}  {}", row.collect::<String>());
     }
     Ok(())
 }
@@ -152,7 +161,7 @@ fn export(file: &File) -> Result<(), bead_index::Error> {
 fn main() -> Result<(), bead_index::Error> {
     let sizes = Sizes::new()
         .original_chains(2)
-        .keys_a_page(4)
+        .records_a_page(4)
         .most_chains(32)
         .overflow_pages(24)
         .parties(3);

@@ -16,7 +16,7 @@ fn turn(file: &mut File, party: u32, plan: &mut Vec<Operation>) -> Result<Option
     let outcome = file.step(party)?;
     let words = wait.map_or(outcome.to_string(), |wait| wait.to_string());
     Ok(Some(format!(
-        "party {party}, {:<18} {words}",
+        "party {party}, {:<34} {words}",
         format!("{under_way}:")
     )))
 }
@@ -24,16 +24,16 @@ fn turn(file: &mut File, party: u32, plan: &mut Vec<Operation>) -> Result<Option
 fn main() -> Result<(), bead_index::Error> {
     let sizes = Sizes::new()
         .original_chains(1)
-        .keys_a_page(2)
+        .records_a_page(2)
         .most_chains(4);
     let mut file = File::new(sizes.overflow_pages(6).parties(3))?;
-    for key in [4, 7] {
-        file.insert(key)?;
+    for (key, setting) in [(4, 40), (7, 45)] {
+        file.insert(key, setting)?;
     }
     println!("{file:#?}");
 
     let mut plans = [
-        vec![Operation::insert(9)],
+        vec![Operation::insert(9, 60)],
         vec![Operation::delete(4)],
         vec![Operation::find(7), Operation::find(9), Operation::find(4)],
     ];

@@ -5,9 +5,9 @@ use std::fmt;
 /// What an operation does.
 #[derive(Clone, Copy, Debug, PartialEq, Eq, Hash)]
 pub enum Kind {
-    /// Looks a key up.
+    /// Looks a key up: its setting.
     Find,
-    /// Puts a key in.
+    /// Puts a key in, with a setting.
     Insert,
     /// Takes a key out.
     Delete,
@@ -44,41 +44,45 @@ impl fmt::Display for Kind {
     }
 }
 
-/// An operation on a key, which may be any number.
+/// An operation on a key. Key and setting may be any numbers.
 ///
 /// ```
 /// use bead_index::{Kind, Operation};
 ///
-/// let operation = Operation::insert(7);
-/// assert_eq!((operation.kind(), operation.key()), (Kind::Insert, 7));
-/// assert_eq!(operation.to_string(), "insert 7");
+/// let operation = Operation::insert(7, 40);
+/// assert_eq!((operation.kind(), operation.key(), operation.setting()), (Kind::Insert, 7, Some(40)));
+/// assert_eq!(operation.to_string(), "insert 7 with setting 40");
+/// assert_eq!(Operation::find(7).setting(), None);
 /// ```
 #[derive(Clone, Copy, Debug, PartialEq, Eq, Hash)]
 #[must_use]
 pub struct Operation {
     kind: Kind,
     key: u32,
+    /// An insert's, else 0.
+    setting: u32,
 }
 
 impl Operation {
-    /// Looks the key up: answers found or absent.
+    /// Looks the key up: answers found, with its setting, or absent.
     pub const fn find(key: u32) -> Self {
-        Operation::new(Kind::Find, key)
+        Operation::new(Kind::Find, key, 0)
     }
 
-    /// Puts the key in: answers inserted, present or no page.
-    pub const fn insert(key: u32) -> Self {
-        Operation::new(Kind::Insert, key)
+    /// Puts the key in with a setting: answers inserted, present or no page. A key that is in keeps the setting that
+    /// it has.
+    pub const fn insert(key: u32, setting: u32) -> Self {
+        Operation::new(Kind::Insert, key, setting)
     }
 
     /// Takes the key out: answers deleted, absent or no page.
     pub const fn delete(key: u32) -> Self {
-        Operation::new(Kind::Delete, key)
+        Operation::new(Kind::Delete, key, 0)
     }
 
-    /// An operation of a kind.
-    pub const fn new(kind: Kind, key: u32) -> Self {
-        Operation { kind, key }
+    /// The operation of the words in a party's record.
+    pub(crate) const fn new(kind: Kind, key: u32, setting: u32) -> Self {
+        Operation { kind, key, setting }
     }
 
     /// What it does.
@@ -92,11 +96,24 @@ impl Operation {
     pub const fn key(&self) -> u32 {
         self.key
     }
+
+    /// The setting that an insert brings; none of a find or a delete.
+    #[must_use]
+    pub const fn setting(&self) -> Option<u32> {
+        match self.kind {
+            Kind::Insert => Some(self.setting),
+            Kind::Find | Kind::Delete => None,
+        }
+    }
 }
 
 impl fmt::Display for Operation {
     fn fmt(&self, out: &mut fmt::Formatter<'_>) -> fmt::Result {
-        write!(out, "{} {}", self.kind, self.key)
+        write!(out, "{} {}", self.kind, self.key)?;
+        match self.setting() {
+            Some(setting) => write!(out, " with setting {setting}"),
+            None => Ok(()),
+        }
     }
 }
 
@@ -167,12 +184,15 @@ impl fmt::Display for Outcome {
 #[derive(Clone, Copy, Debug, PartialEq, Eq, Hash)]
 pub enum Answer {
     /// Of a find: the key was in.
-    Found,
+    Found {
+        /// The key's setting.
+        setting: u32,
+    },
     /// Of a find or a delete: the key was out.
     Absent,
-    /// Of an insert: the key was out and is in.
+    /// Of an insert: the key was out, and is in with the setting given.
     Inserted,
-    /// Of an insert: the key was in.
+    /// Of an insert: the key was in, and keeps its setting.
     Present,
     /// Of a delete: the key was in and is out.
     Deleted,
@@ -181,16 +201,25 @@ pub enum Answer {
 }
 
 impl Answer {
-    /// The answer of a number of the library.
-    pub(crate) fn of(number: u32) -> Answer {
+    /// The answer of a number of the library, with the setting beside it.
+    pub(crate) fn of(number: u32, setting: u32) -> Answer {
         match number {
             1 => Answer::Inserted,
             2 => Answer::Present,
             3 => Answer::Deleted,
             4 => Answer::Absent,
             5 => Answer::NoPage,
-            6 => Answer::Found,
+            6 => Answer::Found { setting },
             _ => unknown("answer", number),
+        }
+    }
+
+    /// The setting of a key that was found.
+    #[must_use]
+    pub const fn setting(&self) -> Option<u32> {
+        match self {
+            Answer::Found { setting } => Some(*setting),
+            _ => None,
         }
     }
 }
@@ -198,7 +227,7 @@ impl Answer {
 impl fmt::Display for Answer {
     fn fmt(&self, out: &mut fmt::Formatter<'_>) -> fmt::Result {
         out.write_str(match self {
-            Answer::Found => "found",
+            Answer::Found { setting } => return write!(out, "found with setting {setting}"),
             Answer::Absent => "absent",
             Answer::Inserted => "inserted",
             Answer::Present => "present",
@@ -268,21 +297,29 @@ mod tests {
 
     #[test]
     fn outcomes_read_well() {
-        let done = |restructuring| Outcome::Done {
-            answer: Answer::NoPage,
+        let done = |answer, restructuring| Outcome::Done {
+            answer,
             restructuring,
         };
         assert_eq!(Outcome::Waiting.to_string(), "waiting");
-        assert_eq!(done(Restructuring::None).to_string(), "done, no page");
-        assert_eq!(
-            done(Restructuring::MergeSkipped).to_string(),
-            "done, no page, merge skipped"
-        );
+        for (outcome, words) in [
+            (done(Answer::NoPage, Restructuring::None), "done, no page"),
+            (
+                done(Answer::Deleted, Restructuring::MergeSkipped),
+                "done, deleted, merge skipped",
+            ),
+            (
+                done(Answer::of(6, 40), Restructuring::None),
+                "done, found with setting 40",
+            ),
+        ] {
+            assert_eq!(outcome.to_string(), words);
+        }
     }
 
     #[test]
     #[should_panic(expected = "answer 7, which this crate does not know")]
     fn an_unknown_answer_is_not_guessed() {
-        let _ = Answer::of(7);
+        let _ = Answer::of(7, 0);
     }
 }

@@ -1,14 +1,18 @@
-//! The chains of a file as they stand in its pages: the keys at rest, and what `Debug` shows.
+//! The chains of a file as they stand in its pages: the records at rest, and what `Debug` shows.
 
 use crate::error::{Error, Refusal};
 use crate::memory::Parts;
 use crate::sizes::PAGE_WORDS;
 use std::fmt;
-use std::iter::{Copied, Flatten, FusedIterator};
+use std::iter::{Flatten, FusedIterator};
+use std::slice::ChunksExact;
 use std::vec;
 
 /// The highest level of a file: 256 chains from one.
 const MOST_LEVEL: u32 = 8;
+
+/// The words that a record takes on a page: its key, then its setting.
+const RECORD_WORDS: usize = 2;
 
 /// One page of a chain.
 #[derive(Clone, Copy)]
@@ -30,9 +34,9 @@ impl<'a> Page<'a> {
         self.words[2]
     }
 
-    /// The keys, where the count is sound.
-    fn keys(self) -> &'a [u32] {
-        &self.words[3..3 + self.count() as usize]
+    /// The records, each as two words, where the count is sound.
+    fn records(self) -> ChunksExact<'a, u32> {
+        self.words[3..3 + RECORD_WORDS * self.count() as usize].chunks_exact(RECORD_WORDS)
     }
 }
 
@@ -58,18 +62,18 @@ impl<'a> Parts<'a> {
             .map(|(party, _)| party)
     }
 
-    /// The keys of a file at rest.
-    pub(crate) fn keys(self) -> Result<Keys<'a>, Error> {
+    /// The records of a file at rest.
+    pub(crate) fn records(self) -> Result<Records<'a>, Error> {
         if let Some(party) = self.busy_party() {
             return Err(Error::UnderWay { party });
         }
         let mut pages = Vec::new();
         for chain in 0..self.chain_count()? {
-            pages.extend(self.chain(chain)?.into_iter().map(Page::keys));
+            pages.extend(self.chain(chain)?.into_iter().map(Page::records));
         }
-        let left = pages.iter().map(|keys| keys.len()).sum();
-        Ok(Keys {
-            keys: pages.into_iter().flatten().copied(),
+        let left = pages.iter().map(ExactSizeIterator::len).sum();
+        Ok(Records {
+            records: pages.into_iter().flatten(),
             left,
         })
     }
@@ -95,7 +99,7 @@ impl<'a> Parts<'a> {
         let mut number = chain;
         loop {
             let page = self.page(number);
-            if page.count() > sizes.keys_a_page || pages.len() > overflow.len() {
+            if page.count() > sizes.records_a_page || pages.len() > overflow.len() {
                 return Err(Refusal::Damage);
             }
             pages.push(page);
@@ -138,7 +142,7 @@ impl<'a> Parts<'a> {
     }
 }
 
-/// A chain as `Debug` shows it: its number, its local level and its keys, with a bar between pages.
+/// A chain as `Debug` shows it: its number, its local level and its records, with a bar between pages.
 struct ChainShown<'a> {
     parts: Parts<'a>,
     chain: u32,
@@ -152,35 +156,37 @@ impl fmt::Debug for ChainShown<'_> {
             Err(_) => return out.write_str(" damaged"),
         };
         write!(out, " (level {}):", pages[0].level())?;
-        if pages.iter().all(|page| page.keys().is_empty()) {
+        if pages.iter().all(|page| page.count() == 0) {
             return out.write_str(" empty");
         }
         for (number, page) in pages.into_iter().enumerate() {
             if number > 0 {
                 out.write_str(" |")?;
             }
-            for key in page.keys() {
-                write!(out, " {key}")?;
+            for record in page.records() {
+                write!(out, " {}={}", record[0], record[1])?;
             }
         }
         Ok(())
     }
 }
 
-/// The keys of a file at rest, chain by chain, ascending in each. Made by [`File::keys`](crate::File::keys).
+/// The keys of a file at rest with their settings, chain by chain, keys ascending in each. Made by
+/// [`File::records`](crate::File::records).
 #[derive(Clone, Debug)]
-pub struct Keys<'a> {
-    keys: Copied<Flatten<vec::IntoIter<&'a [u32]>>>,
+pub struct Records<'a> {
+    records: Flatten<vec::IntoIter<ChunksExact<'a, u32>>>,
     left: usize,
 }
 
-impl Iterator for Keys<'_> {
-    type Item = u32;
+impl Iterator for Records<'_> {
+    /// A key and its setting.
+    type Item = (u32, u32);
 
-    fn next(&mut self) -> Option<u32> {
-        let key = self.keys.next()?;
+    fn next(&mut self) -> Option<(u32, u32)> {
+        let record = self.records.next()?;
         self.left -= 1;
-        Some(key)
+        Some((record[0], record[1]))
     }
 
     fn size_hint(&self) -> (usize, Option<usize>) {
@@ -188,6 +194,6 @@ impl Iterator for Keys<'_> {
     }
 }
 
-impl ExactSizeIterator for Keys<'_> {}
+impl ExactSizeIterator for Records<'_> {}
 
-impl FusedIterator for Keys<'_> {}
+impl FusedIterator for Records<'_> {}

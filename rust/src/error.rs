@@ -73,7 +73,7 @@ impl fmt::Display for Refusal {
 
 impl error::Error for Refusal {}
 
-/// Why an operation could not be run to its end, or the keys not be listed.
+/// Why an operation could not be run to its end, or the records not be listed.
 #[derive(Clone, Debug, PartialEq, Eq)]
 #[non_exhaustive]
 pub enum Error {
@@ -84,7 +84,7 @@ pub enum Error {
     Waits(Wait),
     /// The operation is done and changed nothing: too few overflow pages are free to write the chain anew.
     NoPage,
-    /// The keys are listed at rest alone, and this party has an operation under way.
+    /// The records are listed at rest alone, and this party has an operation under way.
     UnderWay {
         /// The first such party.
         party: u32,

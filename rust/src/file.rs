@@ -6,7 +6,7 @@ use crate::memory::{sizes_of, Lent, Memory, Owned, Room};
 use crate::sizes::Sizes;
 use crate::sys;
 
-/// A file of keys. It owns its memory, unless it is a [`FileRef`]; both do the same.
+/// A file of keys and their settings. It owns its memory, unless it is a [`FileRef`]; both do the same.
 ///
 /// [`find`](File::find), [`insert`](File::insert) and [`delete`](File::delete) run an operation to its end.
 /// [`begin`](File::begin) and [`step`](File::step) take one step at a time, for parties in any order.
@@ -23,10 +23,10 @@ pub struct File<M = Owned> {
 /// # fn main() -> Result<(), bead_index::Error> {
 /// let sizes = Sizes::new().parties(2);
 /// let mut memory = vec![0; sizes.words()];
-/// FileRef::format(&mut memory, sizes)?.insert(7)?;
+/// FileRef::format(&mut memory, sizes)?.insert(7, 40)?;
 ///
 /// let mut file = FileRef::open(&mut memory)?; // the words are the file
-/// assert!(file.find(7)?);
+/// assert_eq!(file.find(7)?, Some(40));
 /// # Ok(())
 /// # }
 /// ```
@@ -52,9 +52,9 @@ impl File {
     ///
     /// # fn main() -> Result<(), bead_index::Error> {
     /// let mut file = File::new(Sizes::new())?;
-    /// file.insert(7)?;
+    /// file.insert(7, 40)?;
     /// let saved = file.words().to_vec();
-    /// assert!(File::from_words(saved)?.find(7)?);
+    /// assert_eq!(File::from_words(saved)?.find(7)?, Some(40));
     /// # Ok(())
     /// # }
     /// ```
@@ -133,6 +133,7 @@ impl<M: Memory> File<M> {
             party,
             operation.kind().number(),
             operation.key(),
+            operation.setting().unwrap_or(0),
         ))
     }
 
@@ -148,7 +149,7 @@ impl<M: Memory> File<M> {
             0 => Outcome::Waiting,
             1 => Outcome::Moved,
             2 => Outcome::Done {
-                answer: Answer::of(reply.answer),
+                answer: Answer::of(reply.answer, reply.setting),
                 restructuring: Restructuring::of(reply.restructuring),
             },
             number => unknown("outcome", number),

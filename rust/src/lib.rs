@@ -1,18 +1,18 @@
-//! A file of 32-bit keys that up to sixteen parties share, taking turns in any order: a linear hash file under
-//! Ellis's locks, proved for every order of turns and all words of memory.
+//! A file of 32-bit keys with their settings that up to sixteen parties share, taking turns in any order: a linear
+//! hash file under Ellis's locks, proved for every order of turns and all words of memory.
 //!
-//! One [`File`] is enough for a set that is kept, saved and loaded:
+//! One [`File`] is enough for a map that is kept, saved and loaded:
 //!
 //! ```
 //! use bead_index::{File, Sizes};
 //!
 //! # fn main() -> Result<(), bead_index::Error> {
 //! let mut file = File::new(Sizes::new())?;
-//! assert!(file.insert(1042)?); // it was out, and is in
-//! assert!(!file.insert(1042)?); // it was in
-//! assert!(file.find(1042)?);
+//! assert!(file.insert(1042, 40)?); // it was out, and is in
+//! assert!(!file.insert(1042, 45)?); // it was in, and keeps its setting
+//! assert_eq!(file.find(1042)?, Some(40));
 //! assert!(file.delete(1042)?);
-//! assert_eq!(file.keys()?.count(), 0);
+//! assert_eq!(file.records()?.count(), 0);
 //! # Ok(())
 //! # }
 //! ```
@@ -26,7 +26,7 @@
 //!
 //! # fn main() -> Result<(), bead_index::Error> {
 //! let mut file = File::new(Sizes::new().parties(2))?;
-//! file.begin(0, Operation::insert(7))?;
+//! file.begin(0, Operation::insert(7, 40))?;
 //! file.begin(1, Operation::find(7))?;
 //! let mut answers = Vec::new();
 //! while answers.len() < 2 {
@@ -62,18 +62,18 @@
 //! let step = |party| file.lock().unwrap().step(party).unwrap();
 //! thread::scope(|scope| {
 //!     for party in 0..4 {
-//!         file.lock().unwrap().begin(party, Operation::insert(100 + party)).unwrap();
+//!         file.lock().unwrap().begin(party, Operation::insert(100 + party, 40)).unwrap();
 //!         scope.spawn(move || while step(party).answer().is_none() {});
 //!     }
 //! });
-//! assert_eq!(file.into_inner().unwrap().keys().unwrap().len(), 4);
+//! assert_eq!(file.into_inner().unwrap().records().unwrap().len(), 4);
 //! ```
 //!
 //! # What is proved, and what is not
 //!
 //! The library that this crate links is proved: what each call leaves in every word, and what that means for all
 //! parties together. This crate is plain Rust over it. Its calls ([`File::begin`], [`File::step`] and making a file)
-//! pass words on and turn numbers into names; what reads the words itself ([`File::wait`], [`File::keys`], `Debug`) is
+//! pass words on and turn numbers into names; what reads the words itself ([`File::wait`], [`File::records`], `Debug`) is
 //! tested.
 //!
 //! # Stack
@@ -96,7 +96,7 @@ mod sys;
 mod wait;
 
 pub use answers::{Answer, Kind, Operation, Outcome, Restructuring, UnderWay};
-pub use chains::Keys;
+pub use chains::Records;
 pub use error::{Error, Refusal};
 pub use file::{File, FileRef};
 pub use memory::{Lent, Memory, Owned, PartyRecord, RootRecord};

@@ -10,7 +10,7 @@ use crate::sys::{records, records_mut};
 pub struct RootRecord {
     /// The original chains (N).
     pub originals: u32,
-    /// The most keys on a page (b).
+    /// The most records on a page (b).
     pub capacity: u32,
     /// The primary pages, one a chain (P).
     pub primaries: u32,
@@ -50,6 +50,8 @@ pub struct PartyRecord {
     pub owed: u32,
     /// The answer so far: 0 none, 1 inserted, 2 present, 3 deleted, 4 absent, 5 no page.
     pub answer: u32,
+    /// An insert's setting, else 0.
+    pub setting: u32,
 }
 
 impl RootRecord {
@@ -60,7 +62,7 @@ impl RootRecord {
     pub const fn sizes(&self) -> Sizes {
         Sizes::new()
             .original_chains(self.originals)
-            .keys_a_page(self.capacity)
+            .records_a_page(self.capacity)
             .most_chains(self.primaries)
             .overflow_pages(self.overflow)
             .parties(self.parties)
@@ -69,7 +71,7 @@ impl RootRecord {
 
 impl PartyRecord {
     /// The words that a record takes.
-    pub const WORDS: usize = 9;
+    pub const WORDS: usize = 10;
 }
 
 /// The four parts of a file's memory, lent for writing.
@@ -84,7 +86,7 @@ impl PartyRecord {
 /// let mut pages = [0; 128];
 /// let lent = Lent { root: &mut root, parties: &mut parties, locks: &mut locks, pages: &mut pages };
 /// let mut file = FileRef::format_parts(lent, sizes)?;
-/// assert_eq!(file.insert(7), Ok(true));
+/// assert_eq!(file.insert(7, 40), Ok(true));
 /// # Ok::<(), bead_index::Refusal>(())
 /// ```
 #[derive(Debug)]
@@ -235,7 +237,7 @@ mod tests {
         let mut words: Vec<u32> = (0..).take(sizes.words()).collect();
         words[..5].copy_from_slice(&[
             sizes.original_chains,
-            sizes.keys_a_page,
+            sizes.records_a_page,
             sizes.most_chains,
             sizes.overflow_pages,
             sizes.parties,
@@ -253,13 +255,13 @@ mod tests {
             (
                 parts.parties.len(),
                 parts.parties[0].operation,
-                parts.parties[1].answer
+                parts.parties[1].setting
             ),
-            (2, 9, 26)
+            (2, 9, 28)
         );
         assert_eq!(
             (parts.locks, parts.pages.len(), parts.pages[0]),
-            (&[27, 28, 29, 30][..], 112, 31)
+            (&[29, 30, 31, 32][..], 112, 33)
         );
         let lent = owned.lent();
         lent.pages[111] = 7;

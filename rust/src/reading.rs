@@ -1,7 +1,7 @@
 //! What stands in a file.
 
 use crate::answers::UnderWay;
-use crate::chains::Keys;
+use crate::chains::Records;
 use crate::error::{Error, Refusal};
 use crate::file::File;
 use crate::memory::Memory;
@@ -61,7 +61,7 @@ impl<M: Memory> File<M> {
     ///
     /// let mut file = File::new(Sizes::new())?;
     /// assert_eq!(file.wanted(0), None);
-    /// file.begin(0, Operation::insert(7))?;
+    /// file.begin(0, Operation::insert(7, 40))?;
     /// assert_eq!(file.wanted(0), Some((Lock::Root, Mode::Read)));
     /// # Ok::<(), bead_index::Refusal>(())
     /// ```
@@ -82,21 +82,21 @@ impl<M: Memory> File<M> {
         self.memory.parts().is_at_rest()
     }
 
-    /// The keys, chain by chain, ascending in each. While operations are under way a key may stand in two chains or
-    /// be half in, so they are listed at rest alone.
+    /// Every key with its setting, chain by chain, keys ascending in each. While operations are under way a key may
+    /// stand in two chains or be half in, so they are listed at rest alone.
     ///
     /// ```
     /// use bead_index::{Error, File, Operation, Sizes};
     ///
     /// # fn main() -> Result<(), Error> {
     /// let mut file = File::new(Sizes::new().original_chains(2).parties(2))?;
-    /// for key in [4, 1, 3] {
-    ///     file.insert(key)?;
+    /// for (key, setting) in [(4, 40), (1, 45), (3, 40)] {
+    ///     file.insert(key, setting)?;
     /// }
-    /// assert_eq!(file.keys()?.len(), 3);
-    /// assert_eq!(file.keys()?.collect::<Vec<_>>(), [4, 1, 3]); // chain 0: 4; chain 1: 1 and 3
+    /// assert_eq!(file.records()?.len(), 3);
+    /// assert_eq!(file.records()?.collect::<Vec<_>>(), [(4, 40), (1, 45), (3, 40)]); // chain 0: 4; chain 1: 1 and 3
     /// file.begin(1, Operation::find(4))?;
-    /// assert!(matches!(file.keys(), Err(Error::UnderWay { party: 1 })));
+    /// assert!(matches!(file.records(), Err(Error::UnderWay { party: 1 })));
     /// # Ok(())
     /// # }
     /// ```
@@ -104,25 +104,28 @@ impl<M: Memory> File<M> {
     /// # Errors
     /// [`Error::UnderWay`] while a party has an operation under way; [`Refusal::Damage`] where the chains cannot be
     /// walked.
-    pub fn keys(&self) -> Result<Keys<'_>, Error> {
-        self.memory.parts().keys()
+    #[doc(alias = "iter")]
+    #[doc(alias = "keys")]
+    pub fn records(&self) -> Result<Records<'_>, Error> {
+        self.memory.parts().records()
     }
 }
 
-/// Shows level, next, the free pages, each chain with its keys (a bar between pages), and what is under way.
+/// Shows level, next, the free pages, each chain with its keys and their settings (a bar between pages), and what is
+/// under way.
 ///
 /// ```
 /// use bead_index::{File, Sizes};
 ///
 /// # fn main() -> Result<(), bead_index::Error> {
-/// let mut file = File::new(Sizes::new().original_chains(2).keys_a_page(2).most_chains(2).overflow_pages(4))?;
-/// for key in [1, 3, 5, 4] {
-///     file.insert(key)?;
+/// let mut file = File::new(Sizes::new().original_chains(2).records_a_page(2).most_chains(2).overflow_pages(4))?;
+/// for (key, setting) in [(1, 40), (3, 45), (5, 40), (4, 60)] {
+///     file.insert(key, setting)?;
 /// }
 /// assert_eq!(
 ///     format!("{file:?}"),
 ///     "File { sizes: N 2 b 2 P 2 V 4 Q 16, level: 0, next: 0, free: 3, \
-///      chains: [0 (level 0): 4, 1 (level 0): 1 3 | 5], under_way: [] }"
+///      chains: [0 (level 0): 4=60, 1 (level 0): 1=40 3=45 | 5=40], under_way: [] }"
 /// );
 /// # Ok(())
 /// # }

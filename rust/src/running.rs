@@ -10,20 +10,21 @@ const MOST_STEPS: u32 = 64;
 
 /// Operations run to their end.
 impl<M: Memory> File<M> {
-    /// Whether a key is in, as party 0.
+    /// The setting of a key, as party 0; none where the key is out.
     ///
     /// # Errors
     /// As [`run`](File::run).
-    pub fn find(&mut self, key: u32) -> Result<bool, Error> {
+    #[doc(alias = "get")]
+    pub fn find(&mut self, key: u32) -> Result<Option<u32>, Error> {
         self.find_as(0, key)
     }
 
-    /// Puts a key in, as party 0: whether it was out.
+    /// Puts a key in with a setting, as party 0: whether it was out. A key that is in keeps the setting that it has.
     ///
     /// # Errors
     /// As [`run`](File::run), and [`Error::NoPage`] where the file is too full.
-    pub fn insert(&mut self, key: u32) -> Result<bool, Error> {
-        self.insert_as(0, key)
+    pub fn insert(&mut self, key: u32, setting: u32) -> Result<bool, Error> {
+        self.insert_as(0, key, setting)
     }
 
     /// Takes a key out, as party 0: whether it was in.
@@ -38,16 +39,16 @@ impl<M: Memory> File<M> {
     ///
     /// # Errors
     /// As [`find`](File::find).
-    pub fn find_as(&mut self, party: u32, key: u32) -> Result<bool, Error> {
-        changed(self.run(party, Operation::find(key))?)
+    pub fn find_as(&mut self, party: u32, key: u32) -> Result<Option<u32>, Error> {
+        Ok(self.run(party, Operation::find(key))?.setting())
     }
 
     /// As [`insert`](File::insert), for a party.
     ///
     /// # Errors
     /// As [`insert`](File::insert).
-    pub fn insert_as(&mut self, party: u32, key: u32) -> Result<bool, Error> {
-        changed(self.run(party, Operation::insert(key))?)
+    pub fn insert_as(&mut self, party: u32, key: u32, setting: u32) -> Result<bool, Error> {
+        changed(self.run(party, Operation::insert(key, setting))?)
     }
 
     /// As [`delete`](File::delete), for a party.
@@ -76,11 +77,11 @@ impl<M: Memory> File<M> {
     ///
     /// # fn main() -> Result<(), Error> {
     /// let mut file = File::new(Sizes::new().parties(2))?;
-    /// file.begin(1, Operation::insert(8))?;
+    /// file.begin(1, Operation::insert(8, 40))?;
     /// for _ in 0..4 {
     ///     let _ = file.step(1)?; // the fourth step takes the chain
     /// }
-    /// match file.insert(7) {
+    /// match file.insert(7, 40) {
     ///     Err(Error::Waits(wait)) => assert_eq!(wait.holders, [1]),
     ///     other => panic!("{other:?}"),
     /// }
@@ -108,11 +109,10 @@ impl<M: Memory> File<M> {
     }
 }
 
-/// Whether an operation found or changed what it was begun for.
+/// Whether an insert or a delete changed what it was begun for.
 fn changed(answer: Answer) -> Result<bool, Error> {
     match answer {
-        Answer::Found | Answer::Inserted | Answer::Deleted => Ok(true),
-        Answer::Absent | Answer::Present => Ok(false),
         Answer::NoPage => Err(Error::NoPage),
+        answer => Ok(matches!(answer, Answer::Inserted | Answer::Deleted)),
     }
 }

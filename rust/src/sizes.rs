@@ -11,7 +11,7 @@ pub(crate) const PAGE_WORDS: usize = 16;
 /// | size | limits | in the specification |
 /// |---|---|---|
 /// | original chains | 1 to the most chains | N |
-/// | keys a page | 1 to 12 | b |
+/// | records a page | 1 to 6 | b |
 /// | most chains | 1 to 256 | P |
 /// | overflow pages | 0 to 752 | V |
 /// | parties | 1 to 16 | Q |
@@ -22,7 +22,7 @@ pub(crate) const PAGE_WORDS: usize = 16;
 /// ```
 /// use bead_index::Sizes;
 ///
-/// let sizes = Sizes::new().original_chains(4).most_chains(64).overflow_pages(100).keys_a_page(8).parties(3);
+/// let sizes = Sizes::new().original_chains(4).most_chains(64).overflow_pages(100).records_a_page(4).parties(3);
 /// assert!(sizes.check().is_ok());
 /// assert_eq!(sizes.parties, 3);
 /// assert_eq!(sizes.lock_words(), 65);
@@ -34,8 +34,8 @@ pub(crate) const PAGE_WORDS: usize = 16;
 pub struct Sizes {
     /// The chains of the empty file.
     pub original_chains: u32,
-    /// The most keys that a page holds.
-    pub keys_a_page: u32,
+    /// The most records that a page holds, each a key with its setting.
+    pub records_a_page: u32,
     /// The most chains that there may be.
     pub most_chains: u32,
     /// The overflow pages that all chains share.
@@ -45,8 +45,8 @@ pub struct Sizes {
 }
 
 impl Sizes {
-    /// The most keys that a page can hold.
-    pub const MOST_KEYS_A_PAGE: u32 = 12;
+    /// The most records that a page can hold.
+    pub const MOST_RECORDS_A_PAGE: u32 = 6;
     /// The most chains that a file can have.
     pub const MOST_CHAINS: u32 = 256;
     /// The most overflow pages that a file can have.
@@ -58,7 +58,7 @@ impl Sizes {
     pub const fn new() -> Self {
         Sizes {
             original_chains: 1,
-            keys_a_page: Self::MOST_KEYS_A_PAGE,
+            records_a_page: Self::MOST_RECORDS_A_PAGE,
             most_chains: Self::MOST_CHAINS,
             overflow_pages: Self::MOST_OVERFLOW_PAGES,
             parties: Self::MOST_PARTIES,
@@ -71,9 +71,9 @@ impl Sizes {
         self
     }
 
-    /// With this many keys a page: 1 to 12.
-    pub const fn keys_a_page(mut self, keys: u32) -> Self {
-        self.keys_a_page = keys;
+    /// With this many records a page: 1 to 6.
+    pub const fn records_a_page(mut self, records: u32) -> Self {
+        self.records_a_page = records;
         self
     }
 
@@ -103,8 +103,8 @@ impl Sizes {
         let within = 1 <= self.original_chains
             && self.original_chains <= self.most_chains
             && self.most_chains <= Self::MOST_CHAINS
-            && 1 <= self.keys_a_page
-            && self.keys_a_page <= Self::MOST_KEYS_A_PAGE
+            && 1 <= self.records_a_page
+            && self.records_a_page <= Self::MOST_RECORDS_A_PAGE
             && self.overflow_pages <= Self::MOST_OVERFLOW_PAGES
             && 1 <= self.parties
             && self.parties <= Self::MOST_PARTIES;
@@ -169,7 +169,7 @@ mod tests {
         let largest = Sizes::new().original_chains(256);
         let smallest = Sizes::new()
             .most_chains(1)
-            .keys_a_page(1)
+            .records_a_page(1)
             .overflow_pages(0)
             .parties(1);
         for sizes in [largest, smallest] {
@@ -180,8 +180,8 @@ mod tests {
             largest.original_chains(0),
             largest.most_chains(255),
             largest.most_chains(257).original_chains(257),
-            largest.keys_a_page(0),
-            largest.keys_a_page(13),
+            largest.records_a_page(0),
+            largest.records_a_page(7),
             largest.overflow_pages(753),
             largest.parties(0),
             largest.parties(17),
@@ -205,7 +205,7 @@ mod tests {
             ),
             (3, 9, 256)
         );
-        assert_eq!(sizes.words(), 9 + 27 + 9 + 256);
-        assert_eq!(Sizes::default().words() * 4, 67_176);
+        assert_eq!(sizes.words(), 9 + 30 + 9 + 256);
+        assert_eq!(Sizes::default().words() * 4, 67_240);
     }
 }

@@ -13,6 +13,7 @@ pub(crate) struct Reply {
     pub outcome: u32,
     pub answer: u32,
     pub restructuring: u32,
+    pub setting: u32,
 }
 
 extern "C" {
@@ -25,7 +26,7 @@ extern "C" {
         pages: *mut u32,
         page_words: usize,
         original_chains: u32,
-        keys_a_page: u32,
+        records_a_page: u32,
         most_chains: u32,
         overflow_pages: u32,
         party_count: u32,
@@ -42,6 +43,7 @@ extern "C" {
         party: u32,
         operation: u32,
         key: u32,
+        setting: u32,
     ) -> u32;
 
     fn bead_step(
@@ -76,7 +78,7 @@ pub(crate) fn format(lent: Lent<'_>, sizes: &Sizes) -> u32 {
             pages.as_mut_ptr(),
             pages.len(),
             sizes.original_chains,
-            sizes.keys_a_page,
+            sizes.records_a_page,
             sizes.most_chains,
             sizes.overflow_pages,
             sizes.parties,
@@ -85,7 +87,7 @@ pub(crate) fn format(lent: Lent<'_>, sizes: &Sizes) -> u32 {
 }
 
 /// Begins an operation for a party: 0, or the number of the refusal.
-pub(crate) fn begin(lent: Lent<'_>, party: u32, operation: u32, key: u32) -> u32 {
+pub(crate) fn begin(lent: Lent<'_>, party: u32, operation: u32, key: u32, setting: u32) -> u32 {
     let Lent {
         root,
         parties,
@@ -105,6 +107,7 @@ pub(crate) fn begin(lent: Lent<'_>, party: u32, operation: u32, key: u32) -> u32
             party,
             operation,
             key,
+            setting,
         )
     }
 }
@@ -140,7 +143,7 @@ pub(crate) unsafe trait Record: Sized {
     const WORDS: usize;
 }
 
-// SAFETY: both have nine fields, of `u32` alone.
+// SAFETY: the root record has nine fields and a party's ten, of `u32` alone.
 unsafe impl Record for RootRecord {
     const WORDS: usize = RootRecord::WORDS;
 }
@@ -173,7 +176,7 @@ pub(crate) fn records_mut<R: Record>(words: &mut [u32]) -> &mut [R] {
 /// # let mapped: &mut [u8] = unsafe { std::slice::from_raw_parts_mut(memory.as_mut_ptr().cast(), 4 * sizes.words()) };
 /// let words = words_of_bytes(mapped).expect("a mapping starts at a page");
 /// let mut file = FileRef::format(words, sizes)?;
-/// assert_eq!(file.insert(7), Ok(true));
+/// assert_eq!(file.insert(7, 40), Ok(true));
 /// # Ok::<(), bead_index::Refusal>(())
 /// ```
 #[must_use]
@@ -197,10 +200,10 @@ mod tests {
         assert_eq!(
             (
                 parties[0].operation,
-                parties[0].answer,
+                parties[0].setting,
                 parties[1].operation
             ),
-            (0, 8, 9)
+            (0, 9, 10)
         );
         records_mut::<RootRecord>(&mut words)[1].free = 99;
         assert_eq!(words[17], 99);

@@ -50,8 +50,8 @@ impl fmt::Display for Mode {
 /// use bead_index::{File, Mode, Operation, Sizes};
 ///
 /// let mut file = File::new(Sizes::new().parties(2))?;
-/// file.begin(0, Operation::insert(7))?;
-/// file.begin(1, Operation::insert(8))?;
+/// file.begin(0, Operation::insert(7, 40))?;
+/// file.begin(1, Operation::insert(8, 40))?;
 /// for step in 1..=4 {
 ///     let _ = file.step(0)?; // the fourth step takes the chain
 /// }
@@ -110,7 +110,7 @@ impl Parts<'_> {
         let record = self.record(party)?;
         let kind = Kind::of(record.operation)?;
         Some(UnderWay {
-            operation: Operation::new(kind, record.key),
+            operation: Operation::new(kind, record.key, record.setting),
             step: record.step,
         })
     }

@@ -9,7 +9,7 @@ use common::Random;
 
 const SIZES: Sizes = Sizes::new()
     .original_chains(2)
-    .keys_a_page(2)
+    .records_a_page(2)
     .most_chains(8)
     .overflow_pages(12)
     .parties(3);
@@ -23,13 +23,13 @@ fn pages_start(sizes: Sizes) -> usize {
 fn busy_words(random: &mut Random) -> Vec<u32> {
     let mut file = File::new(SIZES).unwrap();
     for _ in 0..10 {
-        file.insert(random.below(1000)).unwrap();
+        file.insert(random.below(1000), random.below(1000)).unwrap();
     }
     for party in 0..3 {
         let key = random.below(1000);
         let operations = [
             Operation::find(key),
-            Operation::insert(key),
+            Operation::insert(key, random.below(1000)),
             Operation::delete(key),
         ];
         file.begin(party, operations[random.below(3) as usize])
@@ -46,14 +46,14 @@ fn a_vector_of_the_caller() {
     let mut memory = vec![0xdead_beef; SIZES.words()];
     let mut file = FileRef::format(&mut memory, SIZES).unwrap();
     for key in 0..20 {
-        assert_eq!(file.insert(key), Ok(true));
+        assert_eq!(file.insert(key, 100 + key), Ok(true));
     }
     let mut owned = File::from_words(memory.clone()).unwrap();
-    assert_eq!(owned.find(19), Ok(true));
+    assert_eq!(owned.find(19), Ok(Some(119)));
     let mut again = FileRef::open(&mut memory).unwrap();
-    assert_eq!(again.keys().unwrap().len(), 20);
+    assert_eq!(again.records().unwrap().len(), 20);
     assert_eq!(again.delete(19), Ok(true));
-    assert!(!again.keys().unwrap().any(|key| key == 19));
+    assert!(!again.records().unwrap().any(|(key, _)| key == 19));
 }
 
 #[test]
@@ -64,7 +64,7 @@ fn a_slice_amid_other_words() {
     for _ in 0..500 {
         let key = random.below(60);
         let done = if random.below(2) == 0 {
-            file.insert(key)
+            file.insert(key, 40)
         } else {
             file.delete(key)
         };
@@ -89,9 +89,12 @@ fn four_parts_in_different_places() {
         pages: &mut pages,
     };
     let mut file = FileRef::format_parts(lent, SIZES).unwrap();
-    file.begin(1, Operation::insert(9)).unwrap();
+    file.begin(1, Operation::insert(9, 40)).unwrap();
     assert_eq!(file.step(1), Ok(Outcome::Moved));
-    assert_eq!((locks[0], parties[1].key, parties[1].step), (1 << 1, 9, 2));
+    let PartyRecord {
+        key, step, setting, ..
+    } = parties[1];
+    assert_eq!((locks[0], key, step, setting), (1 << 1, 9, 2, 40));
     let lent = Lent {
         root: &mut root,
         parties: &mut parties,
@@ -100,34 +103,35 @@ fn four_parts_in_different_places() {
     };
     let mut file = FileRef::open_parts(lent).unwrap();
     assert!(file.finish(1).is_ok());
-    assert_eq!((root.level, root.next, pages[16 + 3]), (0, 0, 9));
+    assert_eq!((root.level, root.next), (0, 0));
+    assert_eq!(pages[16..16 + 6], [0, 1, 0, 9, 40, 0]);
 }
 
 #[test]
 fn a_file_lent_on() {
     fn fill(mut file: FileRef<'_>) {
-        file.insert(1).unwrap();
+        file.insert(1, 40).unwrap();
     }
     let mut file = File::new(SIZES).unwrap();
     fill(file.lend());
     let mut lent = file.lend();
     fill(lent.lend());
-    assert_eq!(lent.find(1), Ok(true));
-    assert_eq!(file.keys().unwrap().collect::<Vec<_>>(), [1]);
+    assert_eq!(lent.find(1), Ok(Some(40)));
+    assert_eq!(file.records().unwrap().collect::<Vec<_>>(), [(1, 40)]);
 }
 
 #[test]
-fn keys_of_a_large_file() {
+fn records_of_a_large_file() {
     let mut file = File::new(Sizes::new()).unwrap();
-    let keys: Vec<u32> = (0..3000)
-        .map(|key: u32| key.wrapping_mul(2_654_435_761))
+    let records: Vec<(u32, u32)> = (0..1500)
+        .map(|place: u32| (place.wrapping_mul(2_654_435_761), place))
         .collect();
-    for &key in &keys {
-        assert_eq!(file.insert(key), Ok(true));
+    for &(key, setting) in &records {
+        assert_eq!(file.insert(key, setting), Ok(true));
     }
-    let mut listed: Vec<u32> = file.keys().unwrap().collect();
-    assert_eq!(file.keys().unwrap().len(), keys.len());
-    let mut sorted = keys;
+    let mut listed: Vec<(u32, u32)> = file.records().unwrap().collect();
+    assert_eq!(file.records().unwrap().len(), records.len());
+    let mut sorted = records;
     listed.sort_unstable();
     sorted.sort_unstable();
     assert_eq!(listed, sorted);
@@ -138,17 +142,17 @@ fn a_circle_of_pages_ends() {
     let sizes = SIZES.most_chains(2);
     let mut file = File::new(sizes).unwrap();
     for key in [2, 4, 6, 8, 10] {
-        file.insert(key).unwrap();
+        file.insert(key, 40).unwrap();
     }
     let mut words = file.into_words();
     let pages = &mut words[pages_start(sizes)..];
     let link = pages[2];
     pages[16 * (link as usize - 1) + 2] = link; // the second page of chain 0 names itself
     let mut file = File::from_words(words).unwrap();
-    assert_eq!(file.keys().unwrap_err(), Error::Refused(Refusal::Damage));
+    assert_eq!(file.records().unwrap_err(), Error::Refused(Refusal::Damage));
     assert!(format!("{file:?}").contains("0 damaged"));
     assert_eq!(file.find(100), Err(Error::Circle { party: 0 }));
-    assert_eq!(file.keys().unwrap_err(), Error::UnderWay { party: 0 });
+    assert_eq!(file.records().unwrap_err(), Error::UnderWay { party: 0 });
 }
 
 #[test]
@@ -173,7 +177,7 @@ fn any_words_are_read_without_harm() {
         }
         let mut file = File::from_words(words).unwrap();
         for turn in 0..30 {
-            let _ = (file.keys().map(Iterator::count), format!("{file:#?}"));
+            let _ = (file.records().map(Iterator::count), format!("{file:#?}"));
             let waits = file.wait(turn % 3).is_some();
             match file.step(turn % 3) {
                 Ok(Outcome::Waiting) => {

@@ -6,7 +6,7 @@ use bead_index::{
 
 const SIZES: Sizes = Sizes::new()
     .original_chains(2)
-    .keys_a_page(2)
+    .records_a_page(2)
     .most_chains(8)
     .overflow_pages(6)
     .parties(3);
@@ -102,11 +102,11 @@ fn no_such_party() {
         assert_eq!(file.under_way(party), Err(Refusal::Party));
         assert_eq!(file.wait(party), None);
         assert_eq!(
-            file.insert_as(party, 1),
+            file.insert_as(party, 1, 40),
             Err(Error::Refused(Refusal::Party))
         );
     }
-    assert_eq!(file.insert_as(2, 1), Ok(true));
+    assert_eq!(file.insert_as(2, 1, 40), Ok(true));
 }
 
 #[test]
@@ -117,7 +117,7 @@ fn a_busy_and_an_idle_party() {
         Err(Refusal::Idle)
     );
     assert_eq!(file.finish(1), Err(Error::Refused(Refusal::Idle)));
-    file.begin(1, Operation::insert(5)).unwrap();
+    file.begin(1, Operation::insert(5, 40)).unwrap();
     assert_eq!(
         unaltered(&mut file, |file| file.begin(1, Operation::find(5))),
         Err(Refusal::Busy)
@@ -149,15 +149,21 @@ fn too_few_pages() {
     let mut file = File::new(
         Sizes::new()
             .most_chains(1)
-            .keys_a_page(1)
+            .records_a_page(1)
             .overflow_pages(1)
             .parties(1),
     )
     .unwrap();
-    assert_eq!((file.insert(1), file.insert(2)), (Ok(true), Ok(true)));
-    assert_eq!(file.insert(3), Err(Error::NoPage));
-    assert_eq!(file.find(3), Ok(false));
-    assert_eq!(file.keys().unwrap().collect::<Vec<_>>(), [1, 2]);
+    assert_eq!(
+        (file.insert(1, 40), file.insert(2, 45)),
+        (Ok(true), Ok(true))
+    );
+    assert_eq!(file.insert(3, 40), Err(Error::NoPage));
+    assert_eq!(file.find(3), Ok(None));
+    assert_eq!(
+        file.records().unwrap().collect::<Vec<_>>(),
+        [(1, 40), (2, 45)]
+    );
 }
 
 #[test]
@@ -167,14 +173,18 @@ fn one_that_waits_says_for_whom_and_goes_on() {
     for _ in 0..5 {
         assert_eq!(file.step(2), Ok(Outcome::Moved));
     }
-    assert_eq!((file.insert(4), file.insert(6)), (Ok(true), Ok(true)));
+    assert_eq!(
+        (file.insert(4, 40), file.insert(6, 45)),
+        (Ok(true), Ok(true))
+    );
     // The third key splits chain 0, and party 2 may be on its way along the old pages.
-    let waiting = file.insert(8).unwrap_err();
+    let waiting = file.insert(8, 60).unwrap_err();
     assert_eq!(
         waiting.to_string(),
         "party 0 waits for chain 0 (exclusive), held by party 2; the operation stays under way"
     );
-    assert_eq!(file.insert(12), Err(Error::Refused(Refusal::Busy)));
-    assert_eq!(file.finish(2), Ok(Answer::Found)); // it had the chain, and had not looked yet
+    assert_eq!(file.insert(12, 60), Err(Error::Refused(Refusal::Busy)));
+    // It had the chain, and had not looked yet.
+    assert_eq!(file.finish(2), Ok(Answer::Found { setting: 40 }));
     assert_eq!(file.finish(0), Ok(Answer::Inserted));
 }

@@ -1,22 +1,24 @@
-//! Parties in a random order against a plain set: every answer is the one that the set gives at the operation's
+//! Parties in a random order against a plain map: every answer is the one that the map gives at the operation's
 //! decisive step, a party waits exactly where it is said to, and somebody can always move.
 
 mod common;
 
 use bead_index::{Answer, File, Kind, Operation, Outcome, Restructuring, Sizes, UnderWay};
 use common::Random;
-use std::collections::HashSet;
+use std::collections::hash_map::Entry;
+use std::collections::{HashMap, HashSet};
+use std::mem;
 
-/// The set book of the specification: a set of keys, and the answer that each party's operation must give.
+/// The book of the specification: a map of keys to settings, and the answer that each party's operation must give.
 struct Book {
-    keys: HashSet<u32>,
+    settings: HashMap<u32, u32>,
     notes: Vec<Option<Answer>>,
 }
 
 impl Book {
     fn new(parties: u32) -> Self {
         Book {
-            keys: HashSet::new(),
+            settings: HashMap::new(),
             notes: vec![None; parties as usize],
         }
     }
@@ -24,21 +26,34 @@ impl Book {
     /// Enters the step that a party performed. A find is decided by its last step 6, an operation that changes nothing
     /// by step 10, one that changes something by step 11.
     fn enter(&mut self, party: u32, under_way: UnderWay) {
-        let key = under_way.operation.key();
-        let is_in = self.keys.contains(&key);
-        let note = match (under_way.step, under_way.operation.kind()) {
-            (6, Kind::Find) if is_in => Answer::Found,
-            (6, Kind::Find) => Answer::Absent,
-            (10, Kind::Insert) if is_in => Answer::Present,
-            (10, Kind::Delete) if !is_in => Answer::Absent,
-            (10, _) => Answer::NoPage,
-            (11, Kind::Insert) if self.keys.insert(key) => Answer::Inserted,
-            (11, Kind::Insert) => Answer::Present,
-            (11, Kind::Delete) if self.keys.remove(&key) => Answer::Deleted,
-            (11, Kind::Delete) => Answer::Absent,
+        let operation = under_way.operation;
+        let there = self.settings.get(&operation.key()).copied();
+        let note = match (under_way.step, operation.kind(), there) {
+            (6, Kind::Find, Some(setting)) => Answer::Found { setting },
+            (6, Kind::Find, None) => Answer::Absent,
+            (10, Kind::Insert, Some(_)) => Answer::Present,
+            (10, Kind::Delete, None) => Answer::Absent,
+            (10, ..) => Answer::NoPage,
+            (11, ..) => self.change(operation),
             _ => return,
         };
         self.notes[party as usize] = Some(note);
+    }
+
+    /// What an insert or a delete does to a plain map, and its answer.
+    fn change(&mut self, operation: Operation) -> Answer {
+        match (operation.setting(), self.settings.entry(operation.key())) {
+            (Some(_), Entry::Occupied(_)) => Answer::Present,
+            (Some(setting), Entry::Vacant(place)) => {
+                place.insert(setting);
+                Answer::Inserted
+            }
+            (None, Entry::Occupied(record)) => {
+                record.remove();
+                Answer::Deleted
+            }
+            (None, Entry::Vacant(_)) => Answer::Absent,
+        }
     }
 }
 
@@ -81,10 +96,13 @@ impl Run {
     /// Begins an operation on one of a number of keys; inserts and deletes prevail in turn.
     fn begin(&mut self, party: u32, keys: u32, growing: bool) {
         let key = self.random.below(keys).wrapping_mul(2_654_435_761);
+        let setting = self.random.below(1000);
         let operation = match self.random.below(8) {
             0 | 1 => Operation::find(key),
-            2 => Operation::new(if growing { Kind::Delete } else { Kind::Insert }, key),
-            _ => Operation::new(if growing { Kind::Insert } else { Kind::Delete }, key),
+            2 if growing => Operation::delete(key),
+            2 => Operation::insert(key, setting),
+            _ if growing => Operation::insert(key, setting),
+            _ => Operation::delete(key),
         };
         self.file
             .begin(party, operation)
@@ -143,15 +161,15 @@ impl Run {
         }
     }
 
-    /// At rest the file has the keys of the set, and as many chains as splits and merges left.
+    /// At rest the file has the records of the map, and as many chains as splits and merges left.
     fn compare(&self) {
-        let keys: Vec<u32> = self.file.keys().expect("the file is at rest").collect();
+        let records = self.file.records().expect("the file is at rest");
         assert_eq!(
-            keys.len(),
-            self.book.keys.len(),
+            records.len(),
+            self.book.settings.len(),
             "a key stands twice, or is missing"
         );
-        assert_eq!(keys.into_iter().collect::<HashSet<_>>(), self.book.keys);
+        assert_eq!(records.collect::<HashMap<_, _>>(), self.book.settings);
         let made = self.met.times(Restructuring::Split) - self.met.times(Restructuring::Merged);
         assert_eq!(
             self.file.chain_count(),
@@ -176,11 +194,11 @@ impl Run {
 }
 
 #[test]
-fn every_order_answers_as_a_set_does() {
-    let sizes = |chains, keys, most, overflow, parties| {
+fn every_order_answers_as_a_map_does() {
+    let sizes = |chains, records, most, overflow, parties| {
         let sizes = Sizes::new()
             .original_chains(chains)
-            .keys_a_page(keys)
+            .records_a_page(records)
             .most_chains(most);
         sizes.overflow_pages(overflow).parties(parties)
     };
@@ -191,7 +209,7 @@ fn every_order_answers_as_a_set_does() {
         (sizes(2, 2, 16, 8, 5), 50),
         (sizes(1, 3, 64, 40, 16), 250),
         (sizes(3, 1, 96, 120, 4), 90),
-        (sizes(1, 12, 256, 752, 16), 3000),
+        (sizes(1, 6, 256, 752, 16), 1500),
     ]) {
         let mut run = Run::new(sizes, seed);
         run.turns(8000, keys);
@@ -199,12 +217,13 @@ fn every_order_answers_as_a_set_does() {
         all.answers.append(&mut run.met.answers);
         all.restructurings.append(&mut run.met.restructurings);
     }
-    let answers: HashSet<_> = all.answers.iter().collect();
+    let answers: HashSet<_> = all.answers.iter().map(mem::discriminant).collect();
     let restructurings: HashSet<_> = all.restructurings.iter().collect();
     assert_eq!(
         (answers.len(), restructurings.len()),
         (6, 5),
-        "not all were met: {answers:?} {restructurings:?}"
+        "not all were met: {:?} {restructurings:?}",
+        all.answers
     );
     assert!(all.waits > 1000, "only {} waits", all.waits);
 }
@@ -213,7 +232,7 @@ fn every_order_answers_as_a_set_does() {
 fn a_saved_file_goes_on_where_it_was() {
     let mut run = Run::new(
         Sizes::new()
-            .keys_a_page(2)
+            .records_a_page(2)
             .most_chains(32)
             .overflow_pages(40)
             .parties(6),
@@ -231,23 +250,26 @@ fn a_saved_file_goes_on_where_it_was() {
 fn one_party_alone_never_waits() {
     let mut file = File::new(
         Sizes::new()
-            .keys_a_page(2)
+            .records_a_page(2)
             .most_chains(16)
             .overflow_pages(20)
             .parties(2),
     )
     .unwrap();
-    let mut keys = HashSet::new();
+    let mut settings = HashMap::new();
     let mut random = Random::new(7);
     for turn in 0..2000 {
         let key = random.below(40);
         let party = random.below(2);
-        assert_eq!(file.find_as(party, key), Ok(keys.contains(&key)));
+        assert_eq!(file.find_as(party, key), Ok(settings.get(&key).copied()));
         if (turn / 200) % 2 == 0 {
-            assert_eq!(file.insert_as(party, key), Ok(keys.insert(key)));
+            let is_out = !settings.contains_key(&key);
+            assert_eq!(file.insert_as(party, key, turn), Ok(is_out));
+            settings.entry(key).or_insert(turn);
         } else {
-            assert_eq!(file.delete_as(party, key), Ok(keys.remove(&key)));
+            let is_in = settings.remove(&key).is_some();
+            assert_eq!(file.delete_as(party, key), Ok(is_in));
         }
     }
-    assert_eq!(file.keys().unwrap().collect::<HashSet<_>>(), keys);
+    assert_eq!(file.records().unwrap().collect::<HashMap<_, _>>(), settings);
 }

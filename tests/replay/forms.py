@@ -1,4 +1,4 @@
-# Forms and replies of `turns` as document 01 prints them, and the terms of the definitions that they stand for.
+# Forms and replies of `turns` as documents 01 and 02 print them, and the terms of the definitions that they stand for.
 # Main functions: lines_of, read_form (None for an unread line), read_reply (None for what no reply to the form reads).
 import re
 from dataclasses import dataclass
@@ -10,14 +10,15 @@ WORDS_A_PAGE = 16
 NUMBER = rb"([0-9]{1,10})"
 PATTERNS = {
     "format": re.compile(rb"\(format " + rb" ".join([NUMBER] * 5) + rb"\)"),
-    "begin": re.compile(rb"\(begin " + NUMBER + rb" \((find|insert|delete) " + NUMBER + rb"\)\)"),
+    "begin": re.compile(rb"\(begin " + NUMBER + rb" \((?:(find|delete) " + NUMBER + rb"|(insert) " + NUMBER + rb" " + NUMBER + rb")\)\)"),
     "step": re.compile(rb"\(step " + NUMBER + rb"\)"),
 }
-REFUSED = re.compile(rb"\(refused (0|[1-9][0-9]{0,9})\)")
+PRINTED = rb"(0|[1-9][0-9]{0,9})"
+REFUSED = re.compile(rb"\(refused " + PRINTED + rb"\)")
+FOUND = re.compile(rb"\(done \(found " + PRINTED + rb"\) none\)")
 
 OPERATIONS = {"find": "Operation.Find", "insert": "Operation.Insert", "delete": "Operation.Delete"}
 ANSWERS = {
-    "found": "OperationAnswer.Found",
     "absent": "OperationAnswer.Absent",
     "inserted": "OperationAnswer.Inserted",
     "present": "OperationAnswer.Present",
@@ -40,12 +41,16 @@ REPLIES = {
 ANSWER_TYPES = {"format": "FormatAnswer", "begin": "BeginAnswer", "step": "StepAnswer"}
 
 
-# A form that was read: its kind, its numbers in order, and the operation of a begin.
+# A form that was read: its kind, its numbers in order, and the operation of a begin: party, key and, of an insert, the setting.
 @dataclass
 class Form:
     kind: str
     numbers: list
     operation: str = ""
+
+    # The operation of a begin as a term: an insert's with its setting.
+    def operation_term(self):
+        return f"({OPERATIONS[self.operation]}{''.join(f' {setting}' for setting in self.numbers[2:])})"
 
     # How every reply to the form begins: the call, then the party without leading zeros.
     def heading(self):
@@ -71,7 +76,7 @@ def read_form(line):
     for kind, pattern in PATTERNS.items():
         match = pattern.fullmatch(line)
         if match:
-            words = [word.decode() for word in match.groups()]
+            words = [word.decode() for word in match.groups() if word is not None]
             numbers = [int(word) for word in words if word not in OPERATIONS]
             operation = next((word for word in words if word in OPERATIONS), "")
             return Form(kind, numbers, operation) if max(numbers) <= LARGEST_NUMBER else None
@@ -87,4 +92,7 @@ def read_reply(form, line):
     refused = REFUSED.fullmatch(said)
     if refused:
         return f"{ANSWER_TYPES[form.kind]}.Refused {int(refused.group(1))}"
+    found = FOUND.fullmatch(said)
+    if found:
+        return f"StepAnswer.Done (OperationAnswer.Found {int(found.group(1))}) Restructuring.None" if form.kind == "step" else None
     return REPLIES[form.kind].get(said.decode("latin-1"))

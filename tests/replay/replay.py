@@ -7,7 +7,7 @@ import shutil
 import subprocess
 from dataclasses import dataclass
 
-from forms import OPERATIONS, UNREAD, lines_of, read_form, read_reply
+from forms import UNREAD, lines_of, read_form, read_reply
 
 # Words of page memory times calls: a transcript above it is left to the compiled program. The checker stops at 50,000,000 steps a claim, which about 5,000,000 of
 # these use up; the bound also keeps a transcript to seconds.
@@ -25,7 +25,7 @@ CHECKS = [
 
 # The fields of a root record and of a party's record, in the order of the words in a file of single calls.
 ROOT_FIELDS = "originals capacity primaries overflow parties level next head free".split()
-PARTY_FIELDS = "operation key step lev chain other old owed answer".split()
+PARTY_FIELDS = "operation key step lev chain other old owed answer setting".split()
 
 HEADER = """\
 use mathlib.Core.Path.{_≡_, refl}
@@ -89,7 +89,7 @@ def spaced(numbers):
 
 def run_call(form):
     if form.kind == "begin":
-        return f"Runs.beginFor {form.numbers[0]} {OPERATIONS[form.operation]} {form.numbers[1]}"
+        return f"Runs.beginFor {form.numbers[0]} {form.operation_term()} {form.numbers[1]}"
     return f"Runs.stepFor {form.numbers[0]}"
 
 
@@ -100,7 +100,7 @@ def form_term(form):
 # The call that a form makes on the memory named.
 def call_on(form, memory):
     if form.kind == "begin":
-        return f"Calls.beginCall {memory} {form.numbers[0]} {OPERATIONS[form.operation]} {form.numbers[1]}"
+        return f"Calls.beginCall {memory} {form.numbers[0]} {form.operation_term()} {form.numbers[1]}"
     return f"Calls.{form.kind}Call {memory} {spaced(form.numbers)}"
 
 

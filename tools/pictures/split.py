@@ -55,7 +55,7 @@ def listed(file, page):
 
 
 def draw_page(picture, x, y, page, tab, kind, capacity):
-    """One page: a tab with the local level or the page's number, then its keys."""
+    """One page: a tab with the local level or the page's number, then the keys of its records."""
     soft = 'dashed' in kind
     picture.rect(x, y, TAB + capacity * KEY, TALL, kind, 4)
     picture.text(x + TAB / 2, y + 17, tab, 11, 'soft', 'middle')
@@ -141,9 +141,9 @@ def draw_frame(picture, k, y, file, before, words):
 def draw_head(picture):
     picture.text(LEFT, 36, 'How a split goes by', 17, 'ink bold')
     keys = ', '.join(str(key) for key in KEYS)
-    picture.text(LEFT, 57, f'A file of N = {SIZES[0]} original chains with b = {SIZES[1]} keys a page, so h₀(k) = k mod {SIZES[0]} and h₁(k) = k mod {2 * SIZES[0]}. '
+    picture.text(LEFT, 57, f'A file of N = {SIZES[0]} original chains with b = {SIZES[1]} records a page, so h₀(k) = k mod {SIZES[0]} and h₁(k) = k mod {2 * SIZES[0]}. '
                  f'It has the keys {keys}; {LAST} is put in.', 12, 'soft')
-    picture.text(LEFT, 74, 'A page shows its local level or its number, then its keys. The insert is the only writer here; finds may come at any time.', 12, 'soft')
+    picture.text(LEFT, 74, 'A page shows its local level or its number, then its keys; each key has its setting with it. The insert is the only writer here; finds may come at any time.', 12, 'soft')
     x = LEFT
     for kind, words in (('fresh', 'written since the frame before'), ('fresh dashed', 'written, not yet in the file'),
                         ('bare', 'old: off the chain, readers may be on it')):

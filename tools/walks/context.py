@@ -21,11 +21,6 @@ def local(k):
     return numbered('l', k)
 
 
-def ending(rule, last):
-    """The rule of a statement; that of a last one has its own name."""
-    return f'{rule}-last' if last else rule
-
-
 class Walk:
     def __init__(self, entries):
         self.entries = list(entries)
@@ -168,28 +163,20 @@ class Walk:
 
     # ---- statements
 
-    # `last` says that the statement ends its arm: what runs next is then taken up by `resume`.
-
-    def assign(self, value, k, typed, last=False):
+    def assign(self, value, k, typed):
         """Local k takes a value."""
-        self.line(f'{ending("assigns", last)} ! {value} {HERE} {self.room(k, typed)} $')
+        self.line(f'assigns ! {value} {HERE} {self.room(k, typed)} $')
 
-    def copy(self, operand, k, typed, last=False):
-        self.assign(f'(of-opd ! {operand})', k, typed, last)
+    def copy(self, operand, k, typed):
+        self.assign(f'(of-opd ! {operand})', k, typed)
 
-    def store_behind(self, operand, k, cell, typed, last=False):
+    def store_behind(self, operand, k, cell, typed):
         """What local k points to takes a value."""
-        self.line(f'{ending("assigns", last)} ! (of-opd ! {operand}) (from ! (hop ! {self.look(k)} (stop !))) '
-                  f'(store-raw ! {self.at(cell)} refl {typed}) $')
+        self.line(f'assigns ! (of-opd ! {operand}) (from ! (hop ! {self.look(k)} (stop !))) (store-raw ! {self.at(cell)} refl {typed}) $')
 
-    def land(self, k, typed, last=False):
+    def land(self, k, typed):
         """A call's result lands in local k."""
-        self.line(f'{ending("land", last)} ! {HERE} {self.room(k, typed)} $')
-
-    def resume(self, statement):
-        """An arm has ended, and the function goes on from its statement of that number."""
-        frame = f'(framed code-mir.locals ({" ∷ ".join(local(k) for k in range(self.locals))} ∷ []))'
-        self.line(f'exec ! C Λ {frame} code-mir.t-{statement} (atRet {frame} Post) $')
+        self.line(f'land ! {HERE} {self.room(k, typed)} $')
 
     def free_locals(self):
         for k in range(self.locals - 1, -1, -1):

@@ -1,7 +1,7 @@
 """The walk of `index::fill`: a loop over the row, whose borrow is opened once before it and closed once after it."""
 import os
 from context import HERE, Walk, local
-from function import CRATES
+from function import CRATES, PARTY_BYTES
 from imports import imports_for
 from rows import PARTY
 
@@ -175,7 +175,7 @@ def turn():
     fits = 'place-fits (i .0) n (ltb→lt (i .0) n less) (room .1)'
     w.assign(f'(bin ! {w.whole(3)} (lit ! tt) (record {{ fits = {fits} }}))', 4, f'(tt, record {{ fits = {fits} }})')
     w.assign(f'(bin ! {w.field(1, 0)} {w.whole(4)} tt)', 6, '(tt, tt)')
-    w.line(f'rewrite ! {w.at("L6")} (λ (k : ℕ). ‵ (fat fullShare tyPtr l₆ 0 (vptr b k))) (sym (place-is 36 o (i .0))) refl $')
+    w.line(f'rewrite ! {w.at("L6")} (λ (k : ℕ). ‵ (fat fullShare tyPtr l₆ 0 (vptr b k))) (sym (place-is {PARTY_BYTES} o (i .0))) refl $')
     w.bind(f'elem-out ! P.the-row (Is P.the-row) (shows 𝓤 H A P.the-row) {PARTY.spells} {PARTY.tells} fullShare (filled p (i .0) ps) (i .0) idle b o (within less) (λ _.')
     w.become(1, ['cell', 'owned', 'others'])
     w.store_behind(w.whole(2), 6, 'cell', 'typed')

@@ -1,8 +1,11 @@
 """The proof of one function: its head, the walk, and the contract from the walk."""
 import os
-from context import Walk, HERE, ending, numbered, local
+from context import Walk, HERE, numbered, local
 from shapes import Declared, Number, Plain, Lent, U32, tuple_of, product_of, place
 from imports import imports_for, use_of
+
+# A party's record has ten words.
+PARTY_BYTES = 40
 
 CRATES = os.path.join(os.path.dirname(os.path.abspath(__file__)), '..', '..', 'crates')
 
@@ -48,18 +51,14 @@ class Body(Walk):
         self.length(row, 2, length)
         self.assign(f'(bin ! {self.whole(at)} {self.whole(length)} tt)', inside, '(tt, tt)')
 
-    def branch_on(self, test, inside='may', outside='past'):
-        """The walk branches by whether q is inside the row, which is in local `test`: a walk for each way, with its name for the fact."""
+    def branch_on(self, test):
+        """The walk branches by whether q is inside the row, which is in local `test`: a walk for each way, with the fact's name `may` or `past`."""
         self.line(f'first ! $ branches ! {self.whole(test)}')
         a, b = self.branch(), self.branch()
-        a.bind(f'(λ {inside}.')
-        b.bind(f'(λ {outside}.')
+        a.bind('(λ may.')
+        b.bind('(λ past.')
         b.open += self.open
         return a, b
-
-    def refuted(self, contradiction):
-        """A way that cannot be gone."""
-        self.line(f'absurd {contradiction}' + ')' * self.open)
 
     def take_apart(self, p):
         """What a &mut owns: what is seen of it, and the borrow."""
@@ -144,7 +143,7 @@ class Body(Walk):
         fits = f'place-fits {index} (length {p.name}) {inside} ({p.room} .1)'
         self.assign(f'(bin ! {self.whole(at)} (lit ! tt) (record {{ fits = {fits} }}))', scaled, f'(tt, record {{ fits = {fits} }})')
         self.assign(f'(bin ! {self.field(k, 0)} {self.whole(scaled)} tt)', into, '(tt, tt)')
-        self.line(f'rewrite ! {self.at(f"L{into}")} (λ (x : ℕ). ‵ (fat fullShare tyPtr {local(into)} 0 (vptr {p.b} x))) (sym (place-is 36 {p.o} {index})) refl $')
+        self.line(f'rewrite ! {self.at(f"L{into}")} (λ (x : ℕ). ‵ (fat fullShare tyPtr {local(into)} 0 (vptr {p.b} x))) (sym (place-is {PARTY_BYTES} {p.o} {index})) refl $')
 
     def open_row(self, p, index, default, inside, name):
         """The row's borrow is opened, and record `index` taken out."""
@@ -162,14 +161,11 @@ class Body(Walk):
         self.open_row(p, 'i', 'Records.idle', inside, 'ip')
         self.copy(self.behind(pointer, 'element'), into, p.row.typed(f'(partyAt {p.name} i)', 'ip'))
 
-    def put_record(self, p, at, scaled, pointer, operand, value, fact, inside, resumed=None):
-        """What the operand has goes back into the row as the record of party i. Where that ends an arm, `resumed` is the statement
-        from which the function goes on."""
+    def put_record(self, p, at, scaled, pointer, operand, value, fact, inside):
+        """What the operand has goes back into the row as the record of party i."""
         self.note('the record goes back into the row')
         self.point_at(p, 2, 'i', at, scaled, pointer, inside)
-        self.store_behind(operand, pointer, 'element', p.row.typed(value, fact), last=resumed is not None)
-        if resumed is not None:
-            self.resume(resumed)
+        self.store_behind(operand, pointer, 'element', p.row.typed(value, fact))
         self.close_row(p, 'i', inside, value, fact)
 
     def close_row(self, p, index, inside, value, fact):
@@ -186,7 +182,7 @@ class Body(Walk):
 
     # ---- a call
 
-    def call(self, callee, given, facts, operands, into, result, lasts, said, is_result, primes='', last=False):
+    def call(self, callee, given, facts, operands, into, result, lasts, said, is_result, primes=''):
         """A callee is entered with `given` for its variables, and its result lands in local `into`. An operand is a local, by its
         number, or a field of one. The names that it binds:
         the result, the last values of what it is lent, what it said, and the result's relation to the machine's value."""
@@ -209,7 +205,7 @@ class Body(Walk):
         else:
             self.line(f'use0 W {pre} {goes} $')
             self.become(0, ['PRE'])
-        self.bind(f'{ending("calls-at", last)} ! fm ({c.contract} 𝓤 H A mem′ run) {c.known} {applied(f"to-{a}")} {self.operands([self.whole(x) if isinstance(x, int) else self.field(*x) for x in operands])} (λ {value}.')
+        self.bind(f'calls-at ! fm ({c.contract} 𝓤 H A mem′ run) {c.known} {applied(f"to-{a}")} {self.operands([self.whole(x) if isinstance(x, int) else self.field(*x) for x in operands])} (λ {value}.')
         alive = ' ⊛ '.join([f'‵ ({p.lifetime()})' for p in c.lent] + ['‵ ftrue'])
         alive = f'({alive})' if c.lent else alive
         self.bind(f'use1 W (later (some (λ ({result} : {row.denotation}). ({alive} ⊛ ‵ ({row.row} .own {result} ({value} ∷ []))) ⊛ '
@@ -242,7 +238,7 @@ class Body(Walk):
             self.spend(spent)
         self.front('owned')
         self.bind(f'peeks ! {row.row} (Is {row.row}) (shows 𝓤 H A {row.row}) {result} ({value} ∷ []) (λ {is_result}.')
-        self.land(into, row.typed(result, is_result), last)
+        self.land(into, row.typed(result, is_result))
         self.line(f'rewrite ! {self.at(f"L{into}")} (λ (u : Val). ‵ (fat fullShare {row.mir} {local(into)} 0 u)) (ap only ({row.tells} {result} _ {is_result})) refl $')
         self.drop('owned')
 
@@ -417,11 +413,10 @@ class Function:
 
     def write(self, body):
         text = self.prove(body)
-        rows = [i for r in self.rows for i in r.imports(self.crate)]
+        rows = [i for r in self.rows for i in r.imports(self.crate) if not i.endswith('′') or f'{r.letter}′.' in text]
         callees = [i for c in self.callees for i in c.imports(self.crate)]
         me = f'Rattle.{self.crate}.proofs.{self.name}'
         own = [f'use {me}.Key.{{name as {self.symbol}}}', f'use {me} as it', f'use {me}.Statement as stated', f'use {me}.Code as code']
-        own += [f'use {me}.Code.Mir as code-mir'] if 'code-mir.' in text else []
         about = [f'-- `{self.crate}::{self.name}` meets its contract: a walk of its MIR, made by tools/walks/{self.script}.py.'] + [f'-- {line}' for line in self.about]
         uses = [line for u in self.uses for line in ([u] if isinstance(u, str) else use_of(u[0], u[1].split(), text))]
         uses = [u.replace('CRATE', f'Rattle.{self.crate}.proofs').replace('SPECS', f'Rattle.{self.crate}.specs') for u in uses]

@@ -27,7 +27,7 @@ NAMES = [
     ('types.Kit', 'Given Item Sq runs anyQ atRet ‵ raw some later _⊛_ ⋆ _$_ _∵_ ! qed by move keep drop use0 use1 use2 use3 split join pick '
                   'rewrite fsplit fsplit3 fjoin fjoin3 feqL feqI suffices frame await done'),
     ('types.Run', 'Below again loops look look-raw init store store-raw forget stop hop fld from load lit unit-lit addr of-opd un bin and-then no-more '
-                  'assigns assigns-last land land-last first skips blocks stays leaves-loop exec branches returns returns-within enter alloc1 alloc0 params1 pass1 pass0 free1 free0'),
+                  'assigns assigns-last land first blocks stays leaves-loop exec branches returns returns-within enter alloc1 alloc0 params1 pass1 pass0 free1 free0'),
     ('types.Part', 'agg whole sub look-in'),
     ('types.Tokens', 'lft-new lft-end'),
     ('types.SemTy', 'Arr Body'),
@@ -47,7 +47,7 @@ NAMES = [
     ('denote.Triple.Entry', 'onEntry'),
     ('denote.Triple.Spec', 'Meets tripleOf'),
     ('denote.Triple.Statement', 'Contract Triple'),
-    ('denote.Triple.Call', 'calls-at calls-at-last'),
+    ('denote.Triple.Call', 'calls-at'),
     ('denote.Triple.Clauses', 'ensured lasts'),
     ('denote.Triple.Table', 'entered cited'),
     ('denote.Triple.Walked', 'says Stays stay-ref stay-slice gave-ref gave-slice stay-none stay-none-ref stay-none-slice walkOf AllGo goes-ref goes-slice goes-gave-ref '

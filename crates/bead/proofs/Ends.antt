@@ -33,13 +33,13 @@ cond-no : {X : Type 0} (t : Bool) (x y : X) → T (not t) → cond t x y ≡ y
 cond-no true x y z = absurd z
 cond-no false x y _ = refl
 
-module _ (m : Memory) (q n k : ℕ) (t : Bool) (told : t ≡ isOperation n) where
-  pub begun-by-number : T t → (o : Operation) → o ≡ operationOf n → (a : BeginAnswer) (y : ℕ) (m′ : Memory) → y ≡ beginRefusal a → called a m′ ≡ beginCall m q o k → called y m′ ≡ beginNumbered m q n k
+module _ (m : Memory) (q n k x : ℕ) (t : Bool) (told : t ≡ isOperation n) where
+  pub begun-by-number : T t → (o : Operation) → o ≡ operationOf n x → (a : BeginAnswer) (y : ℕ) (m′ : Memory) → y ≡ beginRefusal a → called a m′ ≡ beginCall m q o k → called y m′ ≡ beginNumbered m q n k x
   unfolding beginNumbered
   begun-by-number may o named a y m′ e said =
-      answered beginRefusal a y m′ (beginCall m q (operationOf n) k) e (said ∙ ap (λ (p : Operation). beginCall m q p k) named)
-      ∙ sym (cond-yes (isOperation n) (numbered beginRefusal (beginCall m q (operationOf n) k)) (called 255 m) (subst T told may))
+      answered beginRefusal a y m′ (beginCall m q (operationOf n x) k) e (said ∙ ap (λ (p : Operation). beginCall m q p k) named)
+      ∙ sym (cond-yes (isOperation n) (numbered beginRefusal (beginCall m q (operationOf n x) k)) (called 255 m) (subst T told may))
 
-  pub no-operation : T (not t) → called 255 m ≡ beginNumbered m q n k
+  pub no-operation : T (not t) → called 255 m ≡ beginNumbered m q n k x
   unfolding beginNumbered
-  no-operation refused = sym (cond-no (isOperation n) (numbered beginRefusal (beginCall m q (operationOf n) k)) (called 255 m) (subst (λ (u : Bool). T (not u)) told refused))
+  no-operation refused = sym (cond-no (isOperation n) (numbered beginRefusal (beginCall m q (operationOf n x) k)) (called 255 m) (subst (λ (u : Bool). T (not u)) told refused))

@@ -1,10 +1,10 @@
 // The public calls for Rust and C: the calls of `index`, with numbers for what they are given and answer, since no enum crosses.
-// A lent record goes in as a pointer to a #[repr(C)] struct of nine words, a slice as a pointer and a length.
+// A lent record goes in as a pointer to a #[repr(C)] struct of words, nine for the root and ten for a party, a slice as a pointer and a length.
 // Main statements: bead_format, bead_begin and bead_step answer the numbers of what the model's calls answer, and leave in every lent word what those leave, for all words, numbers and lengths.
 
 ghost use mathlib.Core.Path.{_≡_};
-ghost use Rattle.model.specs.Answers.{answerNumber, restructuringNumber, beginRefusal, formatRefusal};
-ghost use Rattle.model.specs.Calls.{called, formatCall, beginCall, stepCall};
+ghost use Rattle.model.specs.Answers.{answerNumber, settingFound, restructuringNumber, beginRefusal, formatRefusal};
+ghost use Rattle.model.specs.Calls.{called, formatCall, stepCall};
 ghost use Rattle.calls.specs.Lent.{lent};
 ghost use Rattle.bead.specs.Numbers.{sizesOf, operationOf, isOperation, replyOf, numbered, beginNumbered};
 use model::ABSENT;
@@ -38,13 +38,14 @@ pub const DONE: u32 = 2;
 // The answer found has no number in a party's record; here it is numbered after those that have.
 pub const FOUND: u32 = 6;
 
-// The reply to a step: the number of its refusal, or 0; its outcome; where it is done, the numbers of the answer and of the restructuring. What does not apply is 0.
+// The reply to a step: the number of its refusal, or 0; its outcome; where it is done, the numbers of the answer and of the restructuring, and the setting of an answer found. What does not apply is 0.
 #[repr(C)]
 pub struct BeadReply {
     pub refusal: u32,
     pub outcome: u32,
     pub answer: u32,
     pub restructuring: u32,
+    pub setting: u32,
 }
 
 // The number of an answer.
@@ -52,12 +53,26 @@ fn answer_number(answer: OperationAnswer) -> u32
     ensures { λ r. ⌜ r ≡ answerNumber answer ⌝ }
 {
     match answer {
-        OperationAnswer::Found => FOUND,
+        OperationAnswer::Found(_) => FOUND,
         OperationAnswer::Absent => ABSENT,
         OperationAnswer::Inserted => INSERTED,
         OperationAnswer::Present => PRESENT,
         OperationAnswer::Deleted => DELETED,
         OperationAnswer::NoPage => NO_PAGE,
+    }
+}
+
+// The setting that an answer carries: found's, else 0.
+fn setting_found(answer: OperationAnswer) -> u32
+    ensures { λ r. ⌜ r ≡ settingFound answer ⌝ }
+{
+    match answer {
+        OperationAnswer::Found(x) => x,
+        OperationAnswer::Absent => 0,
+        OperationAnswer::Inserted => 0,
+        OperationAnswer::Present => 0,
+        OperationAnswer::Deleted => 0,
+        OperationAnswer::NoPage => 0,
     }
 }
 
@@ -84,24 +99,28 @@ fn reply_of(answer: StepAnswer) -> BeadReply
             outcome: WAITING,
             answer: 0,
             restructuring: 0,
+            setting: 0,
         },
         StepAnswer::Moved => BeadReply {
             refusal: 0,
             outcome: MOVED,
             answer: 0,
             restructuring: 0,
+            setting: 0,
         },
         StepAnswer::Done(a, made) => BeadReply {
             refusal: 0,
             outcome: DONE,
             answer: answer_number(a),
             restructuring: restructuring_number(made),
+            setting: setting_found(a),
         },
         StepAnswer::Refused(n) => BeadReply {
             refusal: n,
             outcome: 0,
             answer: 0,
             restructuring: 0,
+            setting: 0,
         },
     }
 }
@@ -151,13 +170,13 @@ fn is_operation(number: u32) -> bool
     }
 }
 
-// The operation of a number; a number that is no operation's is taken for a delete's, and is never asked for.
-fn operation_of(number: u32) -> Operation
-    ensures { λ r. ⌜ r ≡ operationOf number ⌝ }
+// The operation of a number, an insert's with its setting; a number that is no operation's is taken for a delete's, and is never asked for.
+fn operation_of(number: u32, setting: u32) -> Operation
+    ensures { λ r. ⌜ r ≡ operationOf number setting ⌝ }
 {
     match number {
         FIND => Operation::Find,
-        INSERT => Operation::Insert,
+        INSERT => Operation::Insert(setting),
         _ => Operation::Delete,
     }
 }
@@ -181,7 +200,7 @@ pub extern "C" fn bead_format(
     format_number(answer)
 }
 
-// Begin operation 1 (find), 2 (insert) or 3 (delete) for a party: 0, or the number of the refusal; for any other number 255, and nothing is altered.
+// Begin operation 1 (find), 2 (insert, with a setting) or 3 (delete) for a party: 0, or the number of the refusal; for any other number 255, and nothing is altered.
 #[no_mangle]
 pub extern "C" fn bead_begin(
     root: &Root,
@@ -191,11 +210,20 @@ pub extern "C" fn bead_begin(
     q: u32,
     operation: u32,
     key: u32,
+    setting: u32,
 ) -> u32
-    ensures { λ r. ⌜ called r (lent (now (root .entry)) (now (parties .exit)) (now (locks .entry)) (now (pages .entry))) ≡ beginNumbered (lent (now (root .entry)) (now (parties .entry)) (now (locks .entry)) (now (pages .entry))) q operation key ⌝ }
+    ensures { λ r. ⌜ called r (lent (now (root .entry)) (now (parties .exit)) (now (locks .entry)) (now (pages .entry))) ≡ beginNumbered (lent (now (root .entry)) (now (parties .entry)) (now (locks .entry)) (now (pages .entry))) q operation key setting ⌝ }
 {
     if is_operation(operation) {
-        let answer = index::begin(root, parties, locks, pages, q, operation_of(operation), key);
+        let answer = index::begin(
+            root,
+            parties,
+            locks,
+            pages,
+            q,
+            operation_of(operation, setting),
+            key,
+        );
         return begin_number(answer);
     } else {
         return NO_OPERATION;

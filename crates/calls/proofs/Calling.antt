@@ -1,10 +1,10 @@
 -- The calls over values against the model's calls: what each leaves where it is refused, and where it is not.
--- Main statements: format-refused, format-formatted; begin-refused, begin-begun; step-refused, step-stepped.
+-- Main statements: format-refused, format-formatted; begin-refused, begin-begun; step-refused, step-stepped; past-refused.
 use mathlib.Core.Path.{_≡_, refl, sym, ap, _∙_}
 use mathlib.Core.Logic.{_≢_}
 use mathlib.Core.Bool.{Bool, true, false}
 use mathlib.Core.List.{List, [], _∷_}
-use Prim.Native.Nat.{ℕ, zero, suc, _<_}
+use Prim.Native.Nat.{ℕ, zero, suc, _<_, _≤_}
 use native.Mathlib.Omega.{arith}
 use lib.ListN.{length, set, replicate}
 use lib.Dec.{ltb}
@@ -17,7 +17,7 @@ use Rattle.model.specs.declared.StepAnswer.the-variants as StepAnswer
 use Rattle.model.specs.declared.BeginAnswer.the-variants as BeginAnswer
 use Rattle.model.specs.declared.FormatAnswer.the-variants as FormatAnswer
 use Rattle.model.specs.Records.{rootOfSizes, idle, begun}
-use Rattle.model.specs.Answers.{operationNumber}
+use Rattle.model.specs.Answers.{operationNumber, settingGiven}
 use Rattle.model.specs.Outcome.{Outcome, outcome}
 use Rattle.model.specs.Ready.{viewing}
 use Rattle.model.specs.Memory.{Memory, partyAt, afterStep, formatted}
@@ -26,7 +26,7 @@ use Rattle.model.specs.Steps.Dispatch.{stepOf}
 use Rattle.model.specs.Calls.{called, formatCall, beginCall, stepCall, stepped, withBegun}
 use Rattle.refusals.specs.Causes.{placeRows, formatCause, placeCause, beginCause, stepCause}
 use Rattle.refusals.proofs.Accepted.{format-cause-is, begin-cause-is, step-cause-is, past-row-refused, number-below, place-of-step}
-use Rattle.refusals.proofs.Causes.{earlier-stands}
+use Rattle.refusals.proofs.Causes.{earlier-stands, place-stands-at-step}
 use Rattle.calls.specs.Lent.{lent}
 
 -- A record put back where it stood; past the row's end none is written.
@@ -96,7 +96,7 @@ module _ (r : Root) (row : List Party) (ls ps : List ℕ) (parties : ℕ) (many 
       unfolding beginCall
       begin-refused ne = ap (called (BeginAnswer.Refused c)) left-alone ∙ rw (first-of-begin, ne-eqb c 0 ne) refl
 
-      pub begin-begun : c ≡ 0 → (next : Party) → next ≡ begun (operationNumber o) k → called BeginAnswer.Begun (lent r (set row q next) ls ps) ≡ beginCall (lent r row ls ps) q o k
+      pub begin-begun : c ≡ 0 → (next : Party) → next ≡ begun (operationNumber o) k (settingGiven o) → called BeginAnswer.Begun (lent r (set row q next) ls ps) ≡ beginCall (lent r row ls ps) q o k
       unfolding beginCall withBegun
       begin-begun none next e = rw (first-of-begin, none, e) refl
 
@@ -119,3 +119,12 @@ module _ (r : Root) (row : List Party) (ls ps : List ℕ) (parties : ℕ) (many 
           let as-outcome : called a (lent r′ (set row q p′) ls′ ps′) ≡ called (stepOf (p .step) (viewing r p q ls ps) .answer) (afterStep m (stepOf (p .step) (viewing r p q ls ps) .after))
           = ap (λ (o : Outcome). called (o .answer) (afterStep m (o .after))) e in
           as-outcome ∙ rw (first-of-step, none, in-row none) refl
+
+  -- Past the row's end a step is refused by the rows that look at no record.
+  pub past-refused : (q c locks pages : ℕ) → length ls ≡ locks → length ps ≡ pages → parties ≤ q → c ≡ placeCause r parties locks pages q
+      → called (StepAnswer.Refused c) (lent r row ls ps) ≡ stepCall (lent r row ls ps) q
+  unfolding stepCall
+  past-refused q c locks pages el ep past cause =
+      let met : placeCause r parties locks pages q ≢ 0 = past-row-refused r parties locks pages q past in
+      let whole : c ≡ stepCause r (partyAt row q) parties (length ls) (length ps) q = rw (el, ep) (cause ∙ place-stands-at-step r (partyAt row q) parties locks pages q met) in
+      rw (first-of-step q c (partyAt row q) (λ _. refl) whole, ne-eqb c 0 (λ e. met (sym cause ∙ e))) refl

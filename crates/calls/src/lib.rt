@@ -1,15 +1,15 @@
 // The three calls over values (document 01, "What it covers" and "Refused calls"): the root and one party's record by value, the lock words and the page words lent.
 // The refusal table's tests are made here, in its order; damage that only one step can meet is refused by that step. There is nothing that a caller must see to: the contracts hold for all words and all lengths.
-// Main statements: format, begin and step leave what the model's formatCall, beginCall and stepCall leave, whatever the other parties' records are.
+// Main statements: format, begin and step leave what the model's formatCall, beginCall and stepCall leave, whatever the other parties' records are; step_past leaves what stepCall does past the row's end.
 
 ghost use mathlib.Core.Path.{_≡_};
 ghost use mathlib.Core.List.{List};
-ghost use Prim.Native.Nat.{ℕ, _<_};
+ghost use Prim.Native.Nat.{ℕ, _<_, _≤_};
 ghost use lib.ListN.{length, set};
 ghost use Rattle.model.specs.declared.Party.{Party};
 ghost use Rattle.model.specs.Memory.{partyAt};
 ghost use Rattle.model.specs.Calls.{called, formatCall, beginCall, stepCall};
-ghost use Rattle.records.specs.Words.{recordWords, rootIn, partyIn};
+ghost use Rattle.records.specs.Words.{rootWords, partyWords, rootIn, partyIn};
 ghost use Rattle.calls.specs.Lent.{lent, leftByFormat, leftByBegin, leftByStep};
 use model::BeginAnswer;
 use model::FileSizes;
@@ -93,7 +93,7 @@ fn step_in_place(
     locks: &mut [u32],
     pages: &mut [u32],
 ) -> StepAnswer
-    requires { ⌜ (length (now root) ≡ recordWords) × (length (now party) ≡ recordWords) ⌝ }
+    requires { ⌜ (length (now root) ≡ rootWords) × (length (now party) ≡ partyWords) ⌝ }
     ensures { λ a. ⌜ ((row : List Party) → length row ≡ parties → (q < parties → partyAt row q ≡ partyIn (now (party .entry))) → called a (lent (rootIn (now (root .exit))) (set row q (partyIn (now (party .exit)))) (now (locks .exit)) (now (pages .exit))) ≡ stepCall (lent (rootIn (now (root .entry))) row (now (locks .entry)) (now (pages .entry))) q) ⌝ }
 {
     let r = records::root_of(&root[..]);
@@ -124,4 +124,11 @@ pub fn step(
         party: records::party_of(&p[..]),
         answer: answer,
     }
+}
+
+// A step for party q past the end of a row of `parties`: refused by a cause that looks at no record, and nothing is altered.
+pub fn step_past(root: Root, parties: usize, locks: usize, pages: usize, q: u32) -> StepAnswer
+    ensures { λ a. ⌜ ((row : List Party) (ls ps : List ℕ) → length row ≡ parties → length ls ≡ locks → length ps ≡ pages → parties ≤ q → called a (lent root row ls ps) ≡ stepCall (lent root row ls ps) q) ⌝ }
+{
+    StepAnswer::Refused(refusals::place_cause(root, parties, locks, pages, q))
 }

@@ -147,8 +147,8 @@ fn add(a: u32, b: u32) -> u32 {
 
 fn altered_root(before: Root, after: Root) -> u32 {
     differing(
-        records::words_of_root(before),
-        records::words_of_root(after),
+        &records::words_of_root(before),
+        &records::words_of_root(after),
     )
 }
 
@@ -166,16 +166,16 @@ fn altered_row(before: Held, after: Held) -> u32 {
 
 fn altered_party(before: Party, after: Party) -> u32 {
     differing(
-        records::words_of_party(before),
-        records::words_of_party(after),
+        &records::words_of_party(before),
+        &records::words_of_party(after),
     )
 }
 
 // How many words of a record differ.
-fn differing(a: [u32; 9], b: [u32; 9]) -> u32 {
+fn differing(a: &[u32], b: &[u32]) -> u32 {
     let mut n: u32 = 0;
     let mut i: usize = 0;
-    while i < 9 {
+    while i < a.len() && i < b.len() {
         n = add(n, differs(a[i], b[i]));
         i += 1;
     }

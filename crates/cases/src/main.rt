@@ -43,21 +43,22 @@ fn sized(
 // "Run only: P 256 accepted, 257 refused 2"; and the least and the largest sizes.
 fn sizes_within(first: Tally, call: Call) -> Tally {
     let mut t = first;
-    t = sized(t, call, 1, 12, 256, 752, 16, 0, ACCEPTED);
-    t = sized(t, call, 1, 12, 257, 752, 16, 0, 2);
-    t = sized(t, call, 256, 12, 256, 752, 16, 0, ACCEPTED);
+    t = sized(t, call, 1, 6, 256, 752, 16, 0, ACCEPTED);
+    t = sized(t, call, 1, 6, 257, 752, 16, 0, 2);
+    t = sized(t, call, 256, 6, 256, 752, 16, 0, ACCEPTED);
     t = sized(t, call, 1, 1, 1, 0, 1, 0, ACCEPTED);
     t
 }
 
-// "N original chains, 1 to P. P chains at most, 1 to 256. V overflow pages, 0 to 752. Q parties, 1 to 16. b keys a page, 1 to 12."
+// "N original chains, 1 to P. P chains at most, 1 to 256. V overflow pages, 0 to 752. Q parties, 1 to 16." With settings "b is 1 to 6".
 // With Q 0 party 0 is outside the row too (3), and with Q 17 one record too few is lent (1).
 fn sizes_outside(first: Tally, call: Call) -> Tally {
     let mut t = first;
     t = sized(t, call, 0, 3, 5, 4, 3, 0, 2);
     t = sized(t, call, 6, 3, 5, 4, 3, 0, 2);
     t = sized(t, call, 2, 0, 5, 4, 3, 0, 2);
-    t = sized(t, call, 2, 13, 5, 4, 3, 0, 2);
+    t = sized(t, call, 2, 7, 5, 4, 3, 0, 2);
+    t = sized(t, call, 2, 12, 5, 4, 3, 0, 2);
     t = sized(t, call, 0, 3, 0, 4, 3, 0, 2);
     t = sized(t, call, 2, 3, 5, 753, 3, 0, 2);
     t = sized(t, call, 2, 3, 5, 4, 0, 0, 2);

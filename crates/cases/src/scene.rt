@@ -63,6 +63,7 @@ fn first_step(operation: u32) -> Party {
         old: 0,
         owed: 0,
         answer: 0,
+        setting: 5,
     }
 }
 
@@ -104,10 +105,10 @@ fn pick(earlier: u32, later: u32, cause: u32, met: u32, unmet: u32) -> u32 {
 }
 
 // Memory of the usual sizes (N 2, b 3, P 5, V 4, Q 3: 6 lock words, 192 page words) in which the causes of these numbers are met, and no other; 0 is no cause.
-// 2: b is 13. 1: a lock word too few. 3: party Q. 4 and 5: every record is busy, or idle. 6: the free count is above V.
+// 2: b is 7. 1: a lock word too few. 3: party Q. 4 and 5: every record is busy, or idle. 6: the free count is above V.
 pub fn meeting(call: Call, earlier: u32, later: u32) -> Scene {
     let lock_words = pick(earlier, later, 1, 5, 6) as usize;
-    let capacity = pick(earlier, later, 2, 13, 3);
+    let capacity = pick(earlier, later, 2, 7, 3);
     let party = pick(earlier, later, 3, 3, 2);
     let free = pick(earlier, later, 6, 5, 0);
     let busy = pick(earlier, later, 4, model::INSERT, operation_for(call));

@@ -11,7 +11,8 @@ use borrow.Author.Tests.{eq-eqb, ne-eqb, lt-ltb, le-ltb}
 use Rattle.model.specs.declared.Root.{Root}
 use Rattle.model.specs.Answers.{answerNumber}
 use Rattle.model.specs.Records.{withFreeList}
-use Rattle.model.specs.Entries.{Entry, entryOf, hasKey, insertedInto, removedFrom, isEmpty}
+use Rattle.model.specs.declared.Entry.{Entry}
+use Rattle.model.specs.Entries.{entryOf, hasKey, insertedInto, removedFrom, isEmpty}
 use Rattle.model.specs.Pages.{pageOf, withPage, linkOf, primaryPage, scratchPage}
 use Rattle.model.specs.Chains.{damaged, sound, Chain, chainOf}
 use Rattle.model.specs.Filling.{pagesFor, primaryOf, overflowWritten}
@@ -25,26 +26,26 @@ use Rattle.chain_change.specs.Changing.{keptAnswer, changedAnswer, after
 
 -- ---- What an operation makes of a chain's records
 
-module _ (operation k : ℕ) (es : List Entry) where
-  pub key-inserted : operation ≡ 2 → hasKey k es ≡ false → changed (changedAnswer operation) (insertedInto (entryOf k) es) ≡ changeOf operation k es
+module _ (operation k x : ℕ) (es : List Entry) where
+  pub key-inserted : operation ≡ 2 → hasKey k es ≡ false → changed (changedAnswer operation) (insertedInto (entryOf k x) es) ≡ changeOf operation k x es
   unfolding changeOf answerNumber changedAnswer
   key-inserted e h = rw (eq-eqb operation 2 e, h) refl
 
-  pub key-present : operation ≡ 2 → hasKey k es ≡ true → kept (keptAnswer operation) ≡ changeOf operation k es
+  pub key-present : operation ≡ 2 → hasKey k es ≡ true → kept (keptAnswer operation) ≡ changeOf operation k x es
   unfolding changeOf answerNumber keptAnswer
   key-present e h = rw (eq-eqb operation 2 e, h) refl
 
-  pub key-deleted : (operation ≡ 2 → ⊥) → hasKey k es ≡ true → changed (changedAnswer operation) (removedFrom k es) ≡ changeOf operation k es
+  pub key-deleted : (operation ≡ 2 → ⊥) → hasKey k es ≡ true → changed (changedAnswer operation) (removedFrom k es) ≡ changeOf operation k x es
   unfolding changeOf answerNumber changedAnswer
   key-deleted e h = rw (ne-eqb operation 2 e, h) refl
 
-  pub key-absent : (operation ≡ 2 → ⊥) → hasKey k es ≡ false → kept (keptAnswer operation) ≡ changeOf operation k es
+  pub key-absent : (operation ≡ 2 → ⊥) → hasKey k es ≡ false → kept (keptAnswer operation) ≡ changeOf operation k x es
   unfolding changeOf answerNumber keptAnswer
   key-absent e h = rw (ne-eqb operation 2 e, h) refl
 
 -- ---- Restructure owed
 
-module _ (operation before after : ℕ) (es : List ℕ) where
+module _ (operation before after : ℕ) (es : List Entry) where
   pub split-owed : operation ≡ 2 → before < after → 1 ≡ owedBy operation before after es
   unfolding owedBy splitOwed
   split-owed e h = rw (eq-eqb operation 2 e, lt-ltb before after h) refl
@@ -53,12 +54,12 @@ module _ (operation before after : ℕ) (es : List ℕ) where
   unfolding owedBy splitOwed
   no-split-owed e h = rw (eq-eqb operation 2 e, le-ltb before after h) refl
 
-pub merge-owed : (operation before after : ℕ) (es : List ℕ) → (operation ≡ 2 → ⊥) → length es ≡ 0 → 2 ≡ owedBy operation before after es
+pub merge-owed : (operation before after : ℕ) (es : List Entry) → (operation ≡ 2 → ⊥) → length es ≡ 0 → 2 ≡ owedBy operation before after es
 unfolding owedBy mergeOwed isEmpty
 merge-owed operation before after [] n e = rw (ne-eqb operation 2 n) refl
 merge-owed operation before after (x ∷ es) n e = absurd (omega arith)
 
-pub no-merge-owed : (operation before after : ℕ) (es : List ℕ) → (operation ≡ 2 → ⊥) → (length es ≡ 0 → ⊥) → 0 ≡ owedBy operation before after es
+pub no-merge-owed : (operation before after : ℕ) (es : List Entry) → (operation ≡ 2 → ⊥) → (length es ≡ 0 → ⊥) → 0 ≡ owedBy operation before after es
 unfolding owedBy mergeOwed isEmpty
 no-merge-owed operation before after [] n e = absurd (e refl)
 no-merge-owed operation before after (x ∷ es) n e = rw (ne-eqb operation 2 n) refl
@@ -71,12 +72,12 @@ module _ (v : View) where
   chain-refused e = rw e refl
 
   module _ (c : Chain) (found : chainOf (v .root) (v .pages) (v .party .chain) ≡ sound c) where
-    pub change-kept : (a : ℕ) → kept a ≡ changeOf (v .party .operation) (v .party .key) (c .entries) → afterChange v (v .pages) (Changed.Kept a) ≡ step10 v
+    pub change-kept : (a : ℕ) → kept a ≡ changeOf (v .party .operation) (v .party .key) (v .party .setting) (c .entries) → afterChange v (v .pages) (Changed.Kept a) ≡ step10 v
     unfolding step10 rebuildWith changesNothing afterChange
     change-kept a e = rw (found, ← e) refl
 
     -- The change asked for makes the records es, which need k pages.
-    module _ (a : ℕ) (es : List Entry) (made : changed a es ≡ changeOf (v .party .operation) (v .party .key) (c .entries)) (k : ℕ) (many : k ≡ pagesFor (v .root .capacity) es) where
+    module _ (a : ℕ) (es : List Entry) (made : changed a es ≡ changeOf (v .party .operation) (v .party .key) (v .party .setting) (c .entries)) (k : ℕ) (many : k ≡ pagesFor (v .root .capacity) es) where
       pub no-page-answered : v .root .free < k → afterChange v (v .pages) (Changed.Kept 5) ≡ step10 v
       unfolding step10 rebuildWith changesNothing tooFew answerNumber afterChange
       no-page-answered h = rw (found, ← made, ← many, lt-ltb (v .root .free) k h) refl

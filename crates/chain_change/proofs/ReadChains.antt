@@ -1,5 +1,5 @@
--- A chain looked through whole: what was read of it, and how many keys it can have.
--- Main statements: chain-link (its link is its primary page's), chain-bounded (b keys a page at most).
+-- A chain looked through whole: what was read of it, and how many records it can have.
+-- Main statements: chain-link (its link is its primary page's), chain-bounded (b records a page at most).
 use mathlib.Core.Path.{_≡_, refl}
 use mathlib.Core.List.{List, _∷_}
 use Prim.Native.Nat.{ℕ, _+_, _*_, _≤_}
@@ -17,7 +17,7 @@ pub chain-link : (r : Root) (ps : List ℕ) (c : ℕ) (d : Chain) → chainOf r 
 unfolding readChain
 chain-link r ps c d e = let h = chain-reads r ps c d e in rw (← h .chain-is) refl
 
--- b keys a page at most.
+-- b records a page at most.
 pub chain-bounded : (r : Root) (ps : List ℕ) (c : ℕ) (d : Chain) → chainOf r ps c ≡ sound d → length (d .entries) ≤ (length (d .pages) + 1) * r .capacity
 unfolding readChain listFrom
 chain-bounded r ps c d found =

@@ -4,8 +4,9 @@
 
 ghost use mathlib.Core.Path.{_≡_};
 ghost use mathlib.Core.List.{List};
-ghost use Prim.Native.Nat.{ℕ, _-_};
+ghost use Prim.Native.Nat.{_-_};
 ghost use lib.ListN.{length};
+ghost use Rattle.model.specs.declared.Entry.{Entry};
 ghost use Rattle.model.specs.Steps.Rebuild as Rebuild;
 ghost use Rattle.chain_change.specs.Changing.{keptAnswer, changedAnswer};
 use model::ABSENT;
@@ -50,9 +51,9 @@ pub fn changed_answer(operation: u32) -> u32
     }
 }
 
-// Restructure owed: "An insert whose new chain has more overflow pages than the old owes a split, a delete that emptied its chain a merge". `count` is the new chain's keys.
+// Restructure owed: "An insert whose new chain has more overflow pages than the old owes a split, a delete that emptied its chain a merge". `count` is the new chain's records.
 pub fn owed_by(operation: u32, before: u32, after: u32, count: u32) -> u32
-    ensures { λ r. ⌜ ((es : List ℕ) → length es ≡ count → r ≡ Rebuild.owedBy operation before after es) ⌝ }
+    ensures { λ r. ⌜ ((es : List Entry) → length es ≡ count → r ≡ Rebuild.owedBy operation before after es) ⌝ }
 {
     if operation == INSERT {
         if before < after {

@@ -8,6 +8,7 @@ use Prim.Native.Nat.{ℕ, zero, suc, _+_, _-_, _*_, _≤_, _<_}
 use native.Mathlib.Omega.{arith}
 use lib.ListN.{length}
 use Rattle.model.specs.declared.Root.{Root}
+use Rattle.model.specs.declared.Entry.{Entry}
 use Rattle.model.specs.Sizes.{pageWords, mostRecords}
 use Rattle.model.specs.Pages.{pageOf, linkOf, entriesOf, linkSound, pageSound}
 use Rattle.model.specs.Chains.{damaged, sound, overflowFrom, listFrom, entriesOn}
@@ -63,12 +64,12 @@ entries-none ps zero l h = refl
 entries-none ps (suc n) l h = absurd (omega arith)
 
 -- The records of one page more stand in the buffer.
-pub page-gathered : (ps whole front next : List ℕ) (n l : ℕ) → 0 < n → whole ≡ front ++ entriesFrom ps n l → next ≡ front ++ entriesOf (pageOf ps (l - 1))
+pub page-gathered : (ps : List ℕ) (whole front next : List Entry) (n l : ℕ) → 0 < n → whole ≡ front ++ entriesFrom ps n l → next ≡ front ++ entriesOf (pageOf ps (l - 1))
     → whole ≡ next ++ entriesFrom ps (n - 1) (linkOf (pageOf ps (l - 1)))
 page-gathered ps whole front next n l some e copied =
     let rest = entriesFrom ps (n - 1) (linkOf (pageOf ps (l - 1))) in
-    e ∙ ap (λ (es : List ℕ). front ++ es) (entries-next ps n l some) ∙ sym (append-assoc front (entriesOf (pageOf ps (l - 1))) rest)
-    ∙ ap (λ (es : List ℕ). es ++ rest) (sym copied)
+    e ∙ ap (λ (es : List Entry). front ++ es) (entries-next ps n l some) ∙ sym (append-assoc front (entriesOf (pageOf ps (l - 1))) rest)
+    ∙ ap (λ (es : List Entry). es ++ rest) (sym copied)
 
-pub all-gathered : (ps whole front : List ℕ) (n l : ℕ) → n ≤ 0 → whole ≡ front ++ entriesFrom ps n l → front ≡ whole
-all-gathered ps whole front n l h e = sym (e ∙ ap (λ (es : List ℕ). front ++ es) (entries-none ps n l h) ∙ append-nil front)
+pub all-gathered : (ps : List ℕ) (whole front : List Entry) (n l : ℕ) → n ≤ 0 → whole ≡ front ++ entriesFrom ps n l → front ≡ whole
+all-gathered ps whole front n l h e = sym (e ∙ ap (λ (es : List Entry). front ++ es) (entries-none ps n l h) ∙ append-nil front)

@@ -1,21 +1,23 @@
 -- A chain whose pages were walked and whose records were gathered, over the model's chainOf.
 -- Main statements: chain-reads (what was read of a chain looked through whole), sound-ascends (its records ascend); pages-bounded, unwalked-damaged; walked-chain (what chainOf is once the pages
 -- were walked), pages-walked (how many they are); keys-fall-damaged, keys-ascend-gathered, keys-ascend-in-front (what gather answers and leaves); Whole, gathered-damaged, gathered-whole
--- (what its caller learns); front-is, front-long (a chain gathered, as the front of its buffer is lent).
+-- (what its caller learns); front-is, front-long, front-words (a chain gathered, as the front of its buffer is lent).
 use mathlib.Core.Path.{_≡_, refl, sym, ap, _∙_}
 use mathlib.Core.Bool.{Bool, true, false, cond}
 use mathlib.Core.List.{List, _∷_, _++_}
-use Prim.Native.Nat.{ℕ, _-_, _≤_}
+use Prim.Native.Nat.{ℕ, _-_, _*_, _≤_}
 use native.Mathlib.Omega.{arith}
 use lib.ListN.{length, take, length-take}
 use lib.Dec.{eqb}
 use lib.Seq.{length-take-le}
 use Rattle.model.specs.declared.Root.{Root}
-use Rattle.model.specs.Sizes.{mostRecords}
+use Rattle.model.specs.declared.Entry.{Entry}
+use Rattle.model.specs.Sizes.{mostRecords, recordWords}
 use Rattle.model.specs.Entries.{ascending}
-use Rattle.model.specs.Pages.{pageOf, levelOf, countOf, linkOf, entriesOf, pageSound, primaryPage}
+use Rattle.model.specs.Pages.{pageOf, levelOf, countOf, linkOf, recordsIn, entriesOf, pageSound, primaryPage}
 use Rattle.model.specs.Chains.{Checked, damaged, sound, soundIf, andThen, Chain, listFrom, entriesOn, readChain, ascendingChain, chainOf}
 use Rattle.model.proofs.Laws.Lists.{front-part}
+use Rattle.model.proofs.Laws.RecordWords.{length-records, records-front}
 use Rattle.model.proofs.Laws.Walks.{walked-chained}
 use Rattle.chains.specs.Walks.{counted}
 use Rattle.chains.specs.declared.Walked.the-variants as Walked
@@ -102,7 +104,7 @@ walked-chain r ps c n room can = go (pageSound r w) refl (can .walked)
           many = many;
           few = omega (arith, sound-page-counts r w good, can .keys-fit);
           followed = rw many at (walks .followed);
-          records = ap (λ (es : List ℕ). entriesOf w ++ es) (ap (λ (k : ℕ). entriesFrom ps k (linkOf w)) (sym many) ∙ walks .entries);
+          records = ap (λ (es : List Entry). entriesOf w ++ es) (ap (λ (k : ℕ). entriesFrom ps k (linkOf w)) (sym many) ∙ walks .entries);
           chain-is = rw (good, ← ex) refl;
         }
 
@@ -121,57 +123,57 @@ pages-walked r ps c n d passed e = go (ascending (entriesOn ps (c ∷ passed .xs
 
 -- ---- A chain whose records were gathered, m of them
 
-module _ (r : Root) (ps : List ℕ) (c n : ℕ) (passed : Passed r ps c n) (keys w : List ℕ) (m : ℕ) where
-  module _ (page : w ≡ pageOf ps c) (front : take m keys ≡ entriesOf w ++ entriesFrom ps n (linkOf w)) where
-    entries-are : take m keys ≡ entriesOn ps (c ∷ passed .xs)
+module _ (r : Root) (ps : List ℕ) (c n : ℕ) (passed : Passed r ps c n) (rs : List Entry) (w : List ℕ) (m : ℕ) where
+  module _ (page : w ≡ pageOf ps c) (front : take m rs ≡ entriesOf w ++ entriesFrom ps n (linkOf w)) where
+    entries-are : take m rs ≡ entriesOn ps (c ∷ passed .xs)
     entries-are = front ∙ ap (λ (v : List ℕ). entriesOf v ++ entriesFrom ps n (linkOf v)) page ∙ passed .records
 
-    pub keys-fall-damaged : ascending (take m keys) ≡ false → chainOf r ps c ≡ damaged
+    pub keys-fall-damaged : ascending (take m rs) ≡ false → chainOf r ps c ≡ damaged
     unfolding ascendingChain readChain
     keys-fall-damaged e = passed .chain-is ∙ rw (← entries-are, e) refl
 
     -- The chain that was gathered.
-    keys-ascend-sound : ascending (take m keys) ≡ true → chainOf r ps c ≡ sound (readChain ps c (passed .xs))
+    keys-ascend-sound : ascending (take m rs) ≡ true → chainOf r ps c ≡ sound (readChain ps c (passed .xs))
     unfolding ascendingChain readChain
     keys-ascend-sound e = passed .chain-is ∙ rw (← entries-are, e) refl
 
-    module _ (e : ascending (take m keys) ≡ true) (fits : m ≤ length keys) {level link : ℕ} (el : level ≡ levelOf w) (ek : link ≡ linkOf w) where
+    module _ (e : ascending (take m rs) ≡ true) (fits : m ≤ length rs) {level link : ℕ} (el : level ≡ levelOf w) (ek : link ≡ linkOf w) where
       pub keys-ascend-gathered : Gathered.Sound (record { level = level; link = link; count = m }) ≡ gathered (chainOf r ps c)
       unfolding readChain
       keys-ascend-gathered =
-          let many : m ≡ length (entriesOn ps (c ∷ passed .xs)) = sym (length-take-le m keys fits) ∙ ap length entries-are in
+          let many : m ≡ length (entriesOn ps (c ∷ passed .xs)) = sym (length-take-le m rs fits) ∙ ap length entries-are in
           rw (keys-ascend-sound e, el, ek, page, many) refl
 
-    pub keys-ascend-in-front : ascending (take m keys) ≡ true → sound (take m keys) ≡ entriesIn (chainOf r ps c)
+    pub keys-ascend-in-front : ascending (take m rs) ≡ true → sound (take m rs) ≡ entriesIn (chainOf r ps c)
     unfolding readChain
     keys-ascend-in-front e = rw (keys-ascend-sound e, entries-are) refl
 
 -- The chain x, of n overflow pages, was looked through whole: what was gathered says its fields, and its records stand at the front of the buffer.
-pub record Whole (x : Checked Chain) (n : ℕ) (g : Front) (keys : List ℕ) : Type 0 where
+pub record Whole (x : Checked Chain) (n : ℕ) (g : Front) (words : List ℕ) : Type 0 where
   pub chain : Chain
   pub is-sound : x ≡ sound chain
   pub level : g .level ≡ chain .level
   pub link : g .link ≡ chain .link
   pub pages : n ≡ length (chain .pages)
   pub count : g .count ≡ length (chain .entries)
-  pub fits : g .count ≤ length keys
-  pub entries : take (g .count) keys ≡ chain .entries
+  pub fits : g .count * recordWords ≤ length words
+  pub entries : take (g .count) (recordsIn words) ≡ chain .entries
 
 pub gathered-damaged : (x : Checked Chain) {a : Gathered} → a ≡ gathered x → a ≡ Gathered.Damaged → x ≡ damaged
 gathered-damaged damaged e f = refl
 gathered-damaged (sound c) e f = absurd (let z : _≡_ {A = ℕ} 0 1 = cc in omega arith)
 
-pub gathered-whole : {r : Root} {ps : List ℕ} {c n room : ℕ} → CanGather r ps c n room → {a : Gathered} {g : Front} (keys : List ℕ)
-    → (a ≡ gathered (chainOf r ps c)) × (inFront a keys ≡ entriesIn (chainOf r ps c)) → a ≡ Gathered.Sound g → Whole (chainOf r ps c) n g keys
-gathered-whole {r} {ps} {c} {n} {room} can {a} {g} keys told f = go (chainOf r ps c) (λ d e. pages-walked r ps c n d (walked-chain r ps c n room can) e) (told .0) (told .1)
+pub gathered-whole : {r : Root} {ps : List ℕ} {c n room : ℕ} → CanGather r ps c n room → {a : Gathered} {g : Front} (words : List ℕ)
+    → (a ≡ gathered (chainOf r ps c)) × (inFront a words ≡ entriesIn (chainOf r ps c)) → a ≡ Gathered.Sound g → Whole (chainOf r ps c) n g words
+gathered-whole {r} {ps} {c} {n} {room} can {a} {g} words told f = go (chainOf r ps c) (λ d e. pages-walked r ps c n d (walked-chain r ps c n room can) e) (told .0) (told .1)
   where
-    go : (x : Checked Chain) → ((d : Chain) → x ≡ sound d → n ≡ length (d .pages)) → a ≡ gathered x → inFront a keys ≡ entriesIn x → Whole x n g keys
+    go : (x : Checked Chain) → ((d : Chain) → x ≡ sound d → n ≡ length (d .pages)) → a ≡ gathered x → inFront a words ≡ entriesIn x → Whole x n g words
     go damaged many e h = absurd (let z : _≡_ {A = ℕ} 0 1 = cc in omega arith)
     go (sound d) many e h =
         let same : g ≡ frontOf d = cc in
-        let kept : sound (take (g .count) keys) ≡ sound (d .entries) = ap (λ (y : Gathered). inFront y keys) (sym f) ∙ h in
+        let kept : sound (take (g .count) (recordsIn words)) ≡ sound (d .entries) = ap (λ (y : Gathered). inFront y words) (sym f) ∙ h in
         let count : g .count ≡ length (d .entries) = ap (λ (y : Front). y .count) same in
-        let entries : take (g .count) keys ≡ d .entries = cc in
+        let entries : take (g .count) (recordsIn words) ≡ d .entries = cc in
         record {
           chain = d;
           is-sound = refl;
@@ -179,14 +181,17 @@ gathered-whole {r} {ps} {c} {n} {room} can {a} {g} keys told f = go (chainOf r p
           link = ap (λ (y : Front). y .link) same;
           pages = many d refl;
           count = count;
-          fits = omega (arith, sym (length-take (g .count) keys) ∙ ap length entries ∙ sym count);
+          fits = omega (arith, length-records words, sym (length-take (g .count) (recordsIn words)) ∙ ap length entries ∙ sym count);
           entries = entries;
         }
 
 -- A chain gathered, as the front of its buffer is lent.
-module _ {x : Checked Chain} {n : ℕ} (g : Front) (keys : List ℕ) (whole : Whole x n g keys) where
-  pub front-is : take (g .count - 0) keys ≡ whole .chain .entries
-  front-is = front-part (g .count) keys ∙ whole .entries
+module _ {x : Checked Chain} {n : ℕ} (g : Front) (words : List ℕ) (whole : Whole x n g words) where
+  pub front-is : recordsIn (take (g .count * recordWords - 0) words) ≡ whole .chain .entries
+  front-is = records-front (g .count) words ∙ whole .entries
 
-  pub front-long : length (take (g .count - 0) keys) ≡ g .count
+  pub front-long : length (recordsIn (take (g .count * recordWords - 0) words)) ≡ g .count
   front-long = ap length front-is ∙ sym (whole .count)
+
+  pub front-words : length (take (g .count * recordWords - 0) words) ≡ g .count * recordWords
+  front-words = ap length (front-part (g .count * recordWords) words) ∙ length-take-le (g .count * recordWords) words (whole .fits)

@@ -1,4 +1,4 @@
--- A chain looked through in two passes: its pages walked, then its keys gathered.
+-- A chain looked through in two passes: its pages walked, then its records gathered.
 -- Main definitions: overflowOf (a chain's overflow pages, walked), CanWalk, CanGather; entriesFrom and Followed (the records on the pages that a link leads to);
 -- gathered, inFront and entriesIn (a chain gathered in a buffer).
 use mathlib.Core.Path.{_≡_}
@@ -7,9 +7,9 @@ use mathlib.Core.List.{List}
 use Prim.Native.Nat.{ℕ, _+_, _*_, _≤_, _<_}
 use lib.ListN.{length, take}
 use Rattle.model.specs.declared.Root.{Root}
-use Rattle.model.specs.Sizes.{pageWords, mostRecords}
-use Rattle.model.specs.Entries.{Entry}
-use Rattle.model.specs.Pages.{pageOf, levelOf, countOf, linkOf, pageSound, primaryPage}
+use Rattle.model.specs.Sizes.{pageWords, mostRecords, recordWords}
+use Rattle.model.specs.declared.Entry.{Entry}
+use Rattle.model.specs.Pages.{pageOf, levelOf, countOf, linkOf, recordsIn, pageSound, primaryPage}
 use Rattle.model.specs.Chains.{Checked, damaged, sound, andThen, listFrom, entriesOn, Chain}
 use Rattle.chains.specs.Links.{linkedPages, LeadsOn}
 use Rattle.chains.specs.Walks.{counted}
@@ -27,12 +27,12 @@ pub record CanWalk (r : Root) (ps : List ℕ) (c : ℕ) : Type 0 where
   pub chain-fits : c < r .primaries
   pub pages-fit : pageWords * (r .primaries + r .overflow) ≤ length ps
 
--- The n overflow pages of chain c were walked, and the buffer, of `room` words, has room for the keys of all its pages.
+-- The n overflow pages of chain c were walked, and the buffer, of `room` words, has room for the records of all its pages.
 pub record CanGather (r : Root) (ps : List ℕ) (c n room : ℕ) : Type 0 where
   pub can-walk : CanWalk r ps c
   pub keys-fit : r .capacity ≤ mostRecords
   pub walked : counted (overflowOf r ps c) ≡ Walked.Pages n
-  pub has-room : mostRecords * (n + 1) ≤ room
+  pub has-room : mostRecords * recordWords * (n + 1) ≤ room
 
 -- The records on the n pages from link l on.
 unfoldable pub entriesFrom : List ℕ → ℕ → ℕ → List Entry
@@ -56,10 +56,10 @@ abbrev pub gathered : Checked Chain → Gathered
 gathered damaged = Gathered.Damaged
 gathered (sound c) = Gathered.Sound (frontOf c)
 
--- The keys that gathering left at the front of the buffer.
+-- The records that gathering left at the front of the buffer.
 abbrev pub inFront : Gathered → List ℕ → Checked (List Entry)
-inFront Gathered.Damaged keys = damaged
-inFront (Gathered.Sound g) keys = sound (take (g .count) keys)
+inFront Gathered.Damaged words = damaged
+inFront (Gathered.Sound g) words = sound (take (g .count) (recordsIn words))
 
 -- The records of a chain that was looked through whole.
 abbrev pub entriesIn : Checked Chain → Checked (List Entry)

@@ -1,12 +1,12 @@
-// Bucket chains looked through whole (document 01, steps 10, 17 and 26): the pages are walked first, and then the keys are gathered into a lent buffer.
+// Bucket chains looked through whole (document 01, steps 10, 17 and 26): the pages are walked first, and then the records are gathered into a lent buffer of words.
 // Main statements: walk is the walk of a chain's overflow pages; gather is chainOf, for every memory in which the pages were walked.
 
 ghost use mathlib.Core.Path.{_≡_};
 ghost use mathlib.Core.List.{_++_};
 ghost use Prim.Native.Nat.{_+_, _*_, _≤_, _<_};
 ghost use lib.ListN.{length, take};
-ghost use Rattle.model.specs.Sizes.{mostRecords};
-ghost use Rattle.model.specs.Pages.{countOf, linkOf, entriesOf};
+ghost use Rattle.model.specs.Sizes.{mostRecords, recordWords};
+ghost use Rattle.model.specs.Pages.{countOf, linkOf, recordsIn, entriesOf};
 ghost use Rattle.model.specs.Chains.{chainOf};
 ghost use Rattle.chains.specs.Walks.{counted};
 ghost use Rattle.chain_keys.specs.Gathering.{overflowOf, CanWalk, CanGather, Followed, entriesFrom, gathered, inFront, entriesIn};
@@ -19,14 +19,14 @@ use model::PageAddress;
 use model::RECORD_WORDS;
 use model::Root;
 
-// A chain whose keys stand at the front of a buffer: its local level, its link, and how many keys it has.
+// A chain whose records stand at the front of a buffer: its local level, its link, and how many records it has.
 pub struct Front {
     pub level: u32,
     pub link: u32,
     pub count: usize,
 }
 
-// What gathering came to: damage, or all keys.
+// What gathering came to: damage, or all records.
 pub enum Gathered {
     Damaged,
     Sound(Front),
@@ -45,45 +45,47 @@ pub fn walk(root: Root, chain: ChainAddress, pages: &[u32]) -> Walked
     }
 }
 
-// A page's keys go into the buffer from `at` on: where the next would go. All its key words are copied, and those past its keys count for nothing.
-fn copy_keys(w: Page, keys: &mut [u32], at: usize) -> usize
-    requires { ⌜ (countOf w ≤ mostRecords) × (at + mostRecords ≤ length (now keys)) ⌝ }
-    ensures { λ r. ⌜ (r ≡ at + countOf w) × (take r (now (keys .exit)) ≡ take at (now (keys .entry)) ++ entriesOf w) ⌝ }
+// A page's records go into the buffer, from record `at` on: where the next would go. All its record words are copied, and those past its records count for nothing.
+fn copy_records(w: Page, words: &mut [u32], at: usize) -> usize
+    requires { ⌜ (countOf w ≤ mostRecords) × ((at + mostRecords) * recordWords ≤ length (now words)) ⌝ }
+    ensures { λ r. ⌜ (r ≡ at + countOf w) × (take r (recordsIn (now (words .exit))) ≡ take at (recordsIn (now (words .entry))) ++ entriesOf w) ⌝ }
 {
     let n = chains::count_of(w) as usize;
+    let first = at * RECORD_WORDS;
     let mut i = 0;
-    while i < MOST_RECORDS as usize {
-        keys[at + i] = w[FIRST_RECORD + i * RECORD_WORDS];
+    while i < MOST_RECORDS as usize * RECORD_WORDS {
+        words[first + i] = w[FIRST_RECORD + i];
         i += 1;
     }
     at + n
 }
 
-// The keys on the page `w` and on the n pages that its link leads to, one page after the other, at the front of the buffer: how many there are.
-fn gather_keys(w: Page, n: u32, pages: &[u32], keys: &mut [u32]) -> usize
-    requires { ⌜ (countOf w ≤ mostRecords) × Followed (now pages) n (linkOf w) × (mostRecords * (n + 1) ≤ length (now keys)) ⌝ }
-    ensures { λ r. ⌜ (r ≤ length (now (keys .entry))) × (take r (now (keys .exit)) ≡ entriesOf w ++ entriesFrom (now (pages .entry)) n (linkOf w)) ⌝ }
+// The records on the page `w` and on the n pages that its link leads to, one page after the other, at the front of the buffer: how many there are.
+fn gather_records(w: Page, n: u32, pages: &[u32], words: &mut [u32]) -> usize
+    requires { ⌜ (countOf w ≤ mostRecords) × Followed (now pages) n (linkOf w) × (mostRecords * recordWords * (n + 1) ≤ length (now words)) ⌝ }
+    ensures { λ r. ⌜ (r * recordWords ≤ length (now (words .entry))) × (take r (recordsIn (now (words .exit))) ≡ entriesOf w ++ entriesFrom (now (pages .entry)) n (linkOf w)) ⌝ }
 {
-    let mut at = copy_keys(w, keys, 0);
+    let mut at = copy_records(w, words, 0);
     let mut l = chains::link_of(w);
     let mut left = n;
     while 0 < left {
         let page = pages::load(pages, PageAddress(l - 1));
-        at = copy_keys(page, keys, at);
+        at = copy_records(page, words, at);
         l = chains::link_of(page);
         left -= 1;
     }
     at
 }
 
-// The chain whose n overflow pages were walked, with its keys at the front of the buffer; "keys that do not strictly ascend" are damage.
-pub fn gather(root: Root, chain: ChainAddress, n: u32, pages: &[u32], keys: &mut [u32]) -> Gathered
-    requires { ⌜ CanGather root (now pages) (chain .0) n (length (now keys)) ⌝ }
-    ensures { λ r. ⌜ (r ≡ gathered (chainOf root (now (pages .entry)) (chain .0))) × (inFront r (now (keys .exit)) ≡ entriesIn (chainOf root (now (pages .entry)) (chain .0))) ⌝ }
+// The chain whose n overflow pages were walked, with its records at the front of the buffer; "keys that do not strictly ascend" are damage.
+pub fn gather(root: Root, chain: ChainAddress, n: u32, pages: &[u32], words: &mut [u32]) -> Gathered
+    requires { ⌜ CanGather root (now pages) (chain .0) n (length (now words)) ⌝ }
+    ensures { λ r. ⌜ (r ≡ gathered (chainOf root (now (pages .entry)) (chain .0))) × (inFront r (now (words .exit)) ≡ entriesIn (chainOf root (now (pages .entry)) (chain .0))) ⌝ }
 {
     let w = pages::load(pages, PageAddress(chain.0));
-    let count = gather_keys(w, n, pages, keys);
-    if entries::ascends(&keys[0..count]) {
+    let count = gather_records(w, n, pages, words);
+    let end = count * RECORD_WORDS;
+    if entries::ascends(&words[0..end]) {
         let level = chains::level_of(w);
         let link = chains::link_of(w);
         Gathered::Sound(Front { level, link, count })

@@ -7,7 +7,8 @@ use Prim.Native.Nat.{ℕ, zero-le, _+_}
 use native.Mathlib.Omega.{arith}
 use lib.ListN.{length, length-append}
 use lib.Dec.{leb}
-use Rattle.model.specs.Entries.{Entry, keyOf, hasKey, belowFirst, ascending}
+use Rattle.model.specs.declared.Entry.{Entry}
+use Rattle.model.specs.Entries.{keyOf, hasKey, belowFirst, ascending}
 use Rattle.model.proofs.Laws.Lists.{Ord, lt, ge, ord, le-leb, lt-leb}
 use Rattle.model.proofs.Laws.Entries.{has-append}
 use Rattle.chain_scan.specs.Scans.{ascentFrom, looked, examined}

@@ -9,7 +9,7 @@ use native.Mathlib.Numerals.{add-one}
 use native.Mathlib.Omega.{arith}
 use lib.ListN.{length}
 use Rattle.model.specs.declared.Root.{Root}
-use Rattle.model.specs.Sizes.{pageWords, mostRecords}
+use Rattle.model.specs.Sizes.{pageWords, mostRecords, recordWords}
 use Rattle.model.specs.Entries.{hasKey, ascending}
 use Rattle.model.specs.Pages.{pageOf, countOf, linkOf, entriesOf}
 use Rattle.model.specs.Chains.{Checked, damaged, sound, soundIf, Chain, entriesOn, readChain, ascendingChain, chainOf}
@@ -49,7 +49,7 @@ pages-passed key n ps floor count found left l none = rw (entries-none ps left l
 module _ (r : Root) (ps : List ℕ) (c n : ℕ) where
   pub walked-passed : CanWalk r ps c → r .capacity ≤ mostRecords → counted (overflowOf r ps c) ≡ Walked.Pages n → Passed r ps c n
   walked-passed can keys e =
-      walked-chain r ps c n (mostRecords * (n + 1)) (record { can-walk = can; keys-fit = keys; walked = e; has-room = omega arith })
+      walked-chain r ps c n (mostRecords * recordWords * (n + 1)) (record { can-walk = can; keys-fit = keys; walked = e; has-room = omega arith })
 
   module _ (passed : Passed r ps c n) where
     first-is : c + 1 - 1 ≡ c
@@ -73,7 +73,7 @@ module _ (r : Root) (ps : List ℕ) (c n : ℕ) where
 
 -- ---- What was found
 
--- The chain x is sound, and l says how many pages and keys it has and whether the key is among them.
+-- The chain x is sound, and l says how many pages and records it has and whether the key is among them.
 pub record LookedAt (x : Checked Chain) (key : ℕ) (l : Looked) : Type 0 where
   pub chain : Chain
   pub is-sound : x ≡ sound chain

@@ -1,14 +1,13 @@
-// A bucket chain looked through whole without keeping its keys (document 01, steps 10 and 17): its pages are walked first, and then their keys are compared page by page.
-// Main statements: has_key is hasKey of a page's records, ascend is their ascent; examine is the ascent of all records from a link on; look_through is chainOf, scanned.
+// A bucket chain looked through whole without keeping its records (document 01, steps 10 and 17): its pages are walked first, and then their keys are compared page by page.
+// Main statements: place_of says by its place whether a page has a key, and with which setting; ascend is the ascent of a page's records; examine is the ascent of all records from a link on; look_through is chainOf, scanned.
 
 ghost use mathlib.Core.Path.{_≡_};
 ghost use Prim.Native.Nat.{_+_, _≤_};
 ghost use Rattle.model.specs.Sizes.{mostRecords};
-ghost use Rattle.model.specs.Entries.{hasKey};
 ghost use Rattle.model.specs.Pages.{countOf, entriesOf};
 ghost use Rattle.model.specs.Chains.{chainOf};
 ghost use Rattle.chain_keys.specs.Gathering.{CanWalk, Followed, entriesFrom};
-ghost use Rattle.chain_scan.specs.Scans.{ascentFrom, examined, scanned};
+ghost use Rattle.chain_scan.specs.Scans.{PlaceIn, ascentFrom, examined, scanned};
 use chains::Walked;
 use model::ChainAddress;
 use model::FIRST_RECORD;
@@ -24,7 +23,7 @@ enum Ascent {
     Rises(u64),
 }
 
-// A chain that was looked through: its overflow pages, its keys, and whether the key asked for is one of them.
+// A chain that was looked through: its overflow pages, its records, and whether the key asked for is one of them.
 pub struct Looked {
     pub pages: u32,
     pub count: u32,
@@ -36,19 +35,22 @@ pub enum Scan {
     Sound(Looked),
 }
 
-// Whether a page has key k among the keys that it counts. All twelve words are compared, so that no branch goes by where the key stands.
-pub fn has_key(w: Page, k: u32) -> bool
+// The place of key k among the records that a page counts, the first where there are several; MOST_RECORDS where the page has it not.
+// All six keys are compared, from the end of the page on, so that no branch goes by where the key stands.
+pub fn place_of(w: Page, k: u32) -> usize
     requires { ⌜ countOf w ≤ mostRecords ⌝ }
-    ensures { λ r. ⌜ r ≡ hasKey k (entriesOf w) ⌝ }
+    ensures { λ r. ⌜ PlaceIn w (entriesOf w) k r ⌝ }
 {
     let count = chains::count_of(w) as usize;
-    let mut found = false;
-    let mut i = 0;
-    while i < MOST_RECORDS as usize {
-        found = found | ((w[FIRST_RECORD + i * RECORD_WORDS] == k) & (i < count));
-        i += 1;
+    let mut place = MOST_RECORDS as usize;
+    let mut i = MOST_RECORDS as usize;
+    while 0 < i {
+        i -= 1;
+        if (w[FIRST_RECORD + i * RECORD_WORDS] == k) & (i < count) {
+            place = i;
+        }
     }
-    found
+    place
 }
 
 // Whether a page's keys ascend and the first is at least `floor`. The floor of the next page is one more than the last key.
@@ -70,7 +72,7 @@ fn ascend(w: Page, floor: u64) -> Ascent
     Ascent::Rises(low)
 }
 
-// The keys on the n + 1 pages from link `first` on: those of a primary page and its n overflow pages.
+// The records on the n + 1 pages from link `first` on: those of a primary page and its n overflow pages.
 fn examine(first: u32, n: u32, key: u32, pages: &[u32]) -> Scan
     requires { ⌜ Followed (now pages) (n + 1) first × (n ≤ 752) ⌝ }
     ensures { λ r. ⌜ r ≡ examined key n (entriesFrom (now (pages .entry)) (n + 1) first) ⌝ }
@@ -87,7 +89,7 @@ fn examine(first: u32, n: u32, key: u32, pages: &[u32]) -> Scan
             Ascent::Rises(next) => floor = next,
         }
         count += chains::count_of(w);
-        found = found | has_key(w, key);
+        found = found | (place_of(w, key) < MOST_RECORDS as usize);
         l = chains::link_of(w);
         left -= 1;
     }

@@ -1,5 +1,5 @@
 -- A chain written page by page: the page made before the others are written is written after them.
--- Main statements: more-can, more-written (a page, and more keys after it); rest-can, last-written (the last page, and the rest); rest-is, nothing-is, rest-kept (what the rest is);
+-- Main statements: more-can, more-written (a page, and more records after it); rest-can, last-written (the last page, and the rest); rest-is, nothing-is, rest-kept (what the rest is);
 -- two-written (a chain and the rest, in the order of a split).
 use mathlib.Core.Path.{_≡_, refl, sym, ap, _∙_}
 use mathlib.Core.List.{List, _∷_}
@@ -8,7 +8,7 @@ use native.Mathlib.Omega.{arith}
 use lib.ListN.{length, take, drop, length-take, length-drop}
 use lib.Seq.{take-all}
 use Rattle.model.specs.Sizes.{mostRecords}
-use Rattle.model.specs.Entries.{Entry}
+use Rattle.model.specs.declared.Entry.{Entry}
 use Rattle.model.specs.Pages.{withPage, filledPage, linkToFirst}
 use Rattle.model.specs.Filling.{overflowNeeded, primaryOf, filled, overflowWritten}
 use Rattle.model.proofs.Laws.Lists.{All, all-map}
@@ -18,7 +18,7 @@ use Rattle.model.proofs.Laws.Filling.{needed-few, needed-more, length-filled, l
 use Rattle.chains.specs.Links.{nextLink, linkedPages, linkAfter}
 use Rattle.chains.proofs.Links.{NextPage, first-of, leads-all}
 use Rattle.key_source.specs.declared.Source.{Source}
-use Rattle.key_source.specs.Sources.{Sits, CanChoose, keysOf}
+use Rattle.key_source.specs.Sources.{Sits, CanChoose, chosenOf}
 use Rattle.chain_writer.specs.declared.Planned.{Planned}
 use Rattle.chain_writer.specs.declared.Rest.{Rest}
 use Rattle.chain_writer.specs.declared.Rest.the-variants.{Nothing, Chain}
@@ -31,7 +31,7 @@ placed-length : (b : ℕ) (d : Planned) (l : ℕ) (ps : List ℕ) → b ≤ most
 unfolding restWritten chainWritten
 placed-length b d l ps small can =
     let xs = linkedPages ps (overflowNeeded b (d .left)) l in
-    let es = keysOf ps (d .source) in
+    let es = chosenOf ps (d .source) in
     let beside = length-overflowWritten b small ps xs es (leads-all ps (can .can-fill .leads)) in
     length-withPage (overflowWritten b ps xs es) (d .to .0) (primaryOf b (d .level) es xs) record { fits = rw beside (can .page-fits) } (length-primaryOf b (d .level) es xs small) ∙ beside
 
@@ -40,7 +40,7 @@ unfolding restWritten
 rest-length b Nothing l ps small can = refl
 rest-length b (Chain d) l ps small can = placed-length b d l ps small can
 
--- ---- A page, and more keys after it
+-- ---- A page, and more records after it
 
 -- In the memory rs: the page x of an overflow page is written as a primary page would be, and then the page before it.
 page-before :
@@ -63,7 +63,7 @@ unfolding linkToFirst
 first-link l xs h = omega arith
 
 module _ (b : ℕ) (c : Planned) (l : ℕ) (rest : Rest) (ps : List ℕ) (can : CanWrite b c l rest ps) (more : b < c .left) where
-  -- How many pages the keys after the first b need beside the first of these.
+  -- How many pages the records after the first b need beside the first of these.
   abbrev fewer : ℕ
   fewer = overflowNeeded b (c .left - b)
 
@@ -85,10 +85,10 @@ module _ (b : ℕ) (c : Planned) (l : ℕ) (rest : Rest) (ps : List ℕ) (can : 
   same-after = ap (λ (k : ℕ). linkAfter ps k l) needed
 
   pub more-can :
-      (d : Planned) (after : ℕ) → d .left ≡ c .left - b → d .to .0 ≡ l - 1 → after ≡ nextLink ps l → keysOf ps (d .source) ≡ drop b (keysOf ps (c .source))
+      (d : Planned) (after : ℕ) → d .left ≡ c .left - b → d .to .0 ≡ l - 1 → after ≡ nextLink ps l → chosenOf ps (d .source) ≡ drop b (chosenOf ps (c .source))
       → Sits ps (d .source .place) → CanChoose (d .source .choice) → CanWrite b d after rest ps
   more-can d after left to link keys sits choose =
-      let long : length (drop b (keysOf ps (c .source))) ≡ c .left - b = length-drop b (keysOf ps (c .source)) ∙ ap (λ (n : ℕ). n - b) (can .chain .many) in
+      let long : length (drop b (chosenOf ps (c .source))) ≡ c .left - b = length-drop b (chosenOf ps (c .source)) ∙ ap (λ (n : ℕ). n - b) (can .chain .many) in
       record {
         some-key = can .some-key;
         keys-fit = can .keys-fit;
@@ -102,13 +102,13 @@ module _ (b : ℕ) (c : Planned) (l : ℕ) (rest : Rest) (ps : List ℕ) (can : 
         others = rw (left, link, ← same-after) (can .others);
       }
 
-  -- The pages after the first b keys are written, and then the page of these.
+  -- The pages after the first b records are written, and then the page of these.
   pub more-written :
-      (s : Source) (after : ℕ) (w qs : List ℕ) → after ≡ nextLink ps l → keysOf ps s ≡ drop b (keysOf ps (c .source)) → w ≡ filledPage (c .level) (take b (keysOf ps (c .source))) l
-      → qs ≡ chainWritten b (restWritten b ps rest (linkAfter ps fewer after)) (l - 1) 0 (keysOf ps s) (linkedPages ps fewer after)
+      (s : Source) (after : ℕ) (w qs : List ℕ) → after ≡ nextLink ps l → chosenOf ps s ≡ drop b (chosenOf ps (c .source)) → w ≡ filledPage (c .level) (take b (chosenOf ps (c .source))) l
+      → qs ≡ chainWritten b (restWritten b ps rest (linkAfter ps fewer after)) (l - 1) 0 (chosenOf ps s) (linkedPages ps fewer after)
       → withPage qs (c .to .0) w ≡ allWritten b c l rest ps
   more-written s after w qs link keys page written =
-      let es = keysOf ps (c .source) in
+      let es = chosenOf ps (c .source) in
       let rs = restWritten b ps rest (linkAfter ps (overflowNeeded b (c .left)) l) in
       let xs = linkedPages ps fewer (nextLink ps l) in
       let kept = rest-length b rest (linkAfter ps (overflowNeeded b (c .left)) l) ps (can .keys-fit) (can .others) in
@@ -147,10 +147,10 @@ module _ (b : ℕ) (c : Planned) (l : ℕ) (rest : Rest) (ps : List ℕ) (can : 
       go : CanPlaceRest b (Chain d) l ps
       go = rw e at here
 
-  pub last-written : (w qs : List ℕ) → w ≡ filledPage (c .level) (take (c .left) (keysOf ps (c .source))) 0 → qs ≡ restWritten b ps rest l → withPage qs (c .to .0) w ≡ allWritten b c l rest ps
+  pub last-written : (w qs : List ℕ) → w ≡ filledPage (c .level) (take (c .left) (chosenOf ps (c .source))) 0 → qs ≡ restWritten b ps rest l → withPage qs (c .to .0) w ≡ allWritten b c l rest ps
   unfolding chainWritten overflowWritten primaryOf filled linkedPages linkToFirst
   last-written w qs page written =
-      let es = keysOf ps (c .source) in
+      let es = chosenOf ps (c .source) in
       let all : take (c .left) es ≡ take b es = take-all (c .left) es (omega (arith, can .chain .many)) ∙ sym (take-all b es (omega (arith, can .chain .many, few))) in
       rw (rest-after, none-needed, page, written, all) refl
 

@@ -6,7 +6,7 @@ use Prim.Native.Nat.{ℕ, _≤_}
 use native.Mathlib.Omega.{arith}
 use lib.ListN.{length, take, drop, length-take}
 use Rattle.model.specs.Sizes.{pageWords, mostRecords}
-use Rattle.model.specs.Entries.{Entry}
+use Rattle.model.specs.declared.Entry.{Entry}
 use Rattle.model.specs.Pages.{withPage, filledPage, linkToFirst}
 use Rattle.model.specs.Filling.{filled}
 use Rattle.model.proofs.Laws.Lists.{All, all-map}

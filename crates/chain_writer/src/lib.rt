@@ -1,12 +1,12 @@
 // A new chain written without buffers (document 01, steps 10 and 17): each page is made on the way down and written on the way up,
 // so that everything is read before anything is written. A free page may also be a page of the chain that is read.
-// Main statements: page_of is filledPage of the next keys; write_chain is allWritten, for every memory.
+// Main statements: page_of is filledPage of the next records; write_chain is allWritten, for every memory.
 
 ghost use mathlib.Core.Path.{_≡_};
 ghost use Prim.Native.Nat.{_+_, _≤_};
 ghost use lib.ListN.{length};
 ghost use Rattle.model.specs.Sizes.{mostRecords};
-ghost use Rattle.key_source.specs.Sources.{Sits, CanChoose, keysOf};
+ghost use Rattle.key_source.specs.Sources.{Sits, CanChoose, chosenOf};
 ghost use Rattle.chain_writer.specs.Writing.{HasPage, allWritten, CanWrite};
 use key_source::Source;
 use model::COUNT_WORD;
@@ -18,7 +18,7 @@ use model::Page;
 use model::PageAddress;
 use model::RECORD_WORDS;
 
-// A chain to be written: its local level, how many keys it gets, where they come from, and the page for its primary page.
+// A chain to be written: its local level, how many records it gets, where they come from, and the page for its primary page.
 pub struct Planned {
     pub level: u32,
     pub left: u32,
@@ -32,15 +32,15 @@ pub enum Rest {
     Chain(Planned),
 }
 
-// A page made, and the source of the keys after its own.
+// A page made, and the source of the records after its own.
 struct Filled {
     w: Page,
     source: Source,
 }
 
-// A page of the next n keys, and the source of the others.
+// A page of the next n records, and the source of the others.
 fn page_of(level: u32, n: u32, link: u32, s: Source, pages: &[u32]) -> Filled
-    requires { ⌜ (n ≤ mostRecords) × Sits (now pages) (s .place) × CanChoose (s .choice) × (n ≤ length (keysOf (now pages) s)) ⌝ }
+    requires { ⌜ (n ≤ mostRecords) × Sits (now pages) (s .place) × CanChoose (s .choice) × (n ≤ length (chosenOf (now pages) s)) ⌝ }
     ensures { λ r. ⌜ HasPage (now (pages .entry)) level n link s r ⌝ }
 {
     let mut w = [0u32; PAGE_WORDS];
@@ -52,7 +52,9 @@ fn page_of(level: u32, n: u32, link: u32, s: Source, pages: &[u32]) -> Filled
     let mut i = 0;
     while i < end {
         let x = key_source::next(pages, t);
-        w[FIRST_RECORD + i * RECORD_WORDS] = x.key;
+        let e = x.entry;
+        w[FIRST_RECORD + i * RECORD_WORDS] = e.key;
+        w[FIRST_RECORD + i * RECORD_WORDS + 1] = e.setting;
         t = x.source;
         i += 1;
     }

@@ -11,7 +11,7 @@ use Rattle.model.specs.declared.Party.{Party}
 use Rattle.model.specs.Records.{atStep, withLev, withChain, withOther}
 use Rattle.model.specs.Addresses.{hash}
 use Rattle.model.specs.Steps.Chase.{Chase, chase, arrived, chasing}
-use Rattle.records.specs.Words.{recordWords, partyIn}
+use Rattle.records.specs.Words.{partyWords, partyIn}
 use Rattle.records.proofs.Words.{lev-written, chain-written, other-written}
 use Rattle.chase.specs.Chased.{afterChase}
 
@@ -35,7 +35,7 @@ module _ (n k c d lev : ℕ) where
       ap (λ (m : ℕ). chase n k c m lev) q ∙ rw (← e, eq-eqb h c here) refl
 
 -- Lev, chain and other chain written.
-pub leaving-written : (w : List ℕ) (lev c former : ℕ) → length w ≡ recordWords
+pub leaving-written : (w : List ℕ) (lev c former : ℕ) → length w ≡ partyWords
     → partyIn (set (set (set w 3 lev) 4 c) 5 former) ≡ withOther former (withChain c (withLev lev (partyIn w)))
 leaving-written w lev c former long =
     let long-lev = length-set w 3 lev ∙ long in

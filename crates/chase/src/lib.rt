@@ -7,7 +7,7 @@ ghost use Prim.Native.Nat.{ℕ, _-_, _≤_};
 ghost use lib.ListN.{length};
 ghost use Rattle.model.specs.declared.Root.{Root};
 ghost use Rattle.model.specs.Steps.Chase as Chase;
-ghost use Rattle.records.specs.Words.{recordWords, partyIn, seen, left, AtHand};
+ghost use Rattle.records.specs.Words.{partyWords, partyIn, seen, left, AtHand};
 ghost use Rattle.lock_requests.specs.Words.{CanLock};
 ghost use Rattle.chase.specs.Chased.{endedAt, afterChase};
 use lock_requests::CHASE;
@@ -60,7 +60,7 @@ fn chase(n: u32, key: u32, chain: ChainAddress, lev: u32, local: u32) -> Chased
 
 // The record after a chase: on to another chain, the former kept as other chain; or arrived.
 fn after_chase(party: &mut [u32], t: Chased)
-    requires { ⌜ length (now party) ≡ recordWords ⌝ }
+    requires { ⌜ length (now party) ≡ partyWords ⌝ }
     ensures { λ _. ⌜ partyIn (now (party .exit)) ≡ afterChase (endedAt t) (partyIn (now (party .entry))) ⌝ }
 {
     let chain = t.chain;

@@ -5,7 +5,7 @@ ghost use mathlib.Core.Path.{_≡_};
 ghost use Prim.Native.Nat.{_≤_};
 ghost use lib.ListN.{length};
 ghost use Rattle.model.specs.Steps.Dispatch.{stepOf};
-ghost use Rattle.records.specs.Words.{recordWords, rootIn, partyIn, seen, left, AtHand};
+ghost use Rattle.records.specs.Words.{rootWords, rootIn, partyIn, seen, left, AtHand};
 use model::Root;
 use model::StepAnswer;
 use records::STEP;
@@ -42,7 +42,7 @@ fn change_step(
     locks: &mut [u32],
     pages: &mut [u32],
 ) -> StepAnswer
-    requires { ⌜ (length (now root) ≡ recordWords) × (AtHand (rootIn (now root)) (now party) q (now locks) (now pages)) × (10 ≤ partyIn (now party) .step) × (partyIn (now party) .step ≤ 14) ⌝ }
+    requires { ⌜ (length (now root) ≡ rootWords) × (AtHand (rootIn (now root)) (now party) q (now locks) (now pages)) × (10 ≤ partyIn (now party) .step) × (partyIn (now party) .step ≤ 14) ⌝ }
     ensures { λ a. ⌜ left a (rootIn (now (root .exit))) (now (party .exit)) q (now (locks .exit)) (now (pages .exit)) ≡ stepOf (partyIn (now (party .entry)) .step) (seen (rootIn (now (root .entry))) (now (party .entry)) q (now (locks .entry)) (now (pages .entry))) ⌝ }
 {
     let k = party[STEP];
@@ -64,7 +64,7 @@ fn split_step(
     locks: &mut [u32],
     pages: &mut [u32],
 ) -> StepAnswer
-    requires { ⌜ (length (now root) ≡ recordWords) × (AtHand (rootIn (now root)) (now party) q (now locks) (now pages)) × (15 ≤ partyIn (now party) .step) × (partyIn (now party) .step ≤ 22) ⌝ }
+    requires { ⌜ (length (now root) ≡ rootWords) × (AtHand (rootIn (now root)) (now party) q (now locks) (now pages)) × (15 ≤ partyIn (now party) .step) × (partyIn (now party) .step ≤ 22) ⌝ }
     ensures { λ a. ⌜ left a (rootIn (now (root .exit))) (now (party .exit)) q (now (locks .exit)) (now (pages .exit)) ≡ stepOf (partyIn (now (party .entry)) .step) (seen (rootIn (now (root .entry))) (now (party .entry)) q (now (locks .entry)) (now (pages .entry))) ⌝ }
 {
     let k = party[STEP];
@@ -89,7 +89,7 @@ fn merge_step(
     locks: &mut [u32],
     pages: &mut [u32],
 ) -> StepAnswer
-    requires { ⌜ (length (now root) ≡ recordWords) × (AtHand (rootIn (now root)) (now party) q (now locks) (now pages)) × (23 ≤ partyIn (now party) .step) × (partyIn (now party) .step ≤ 30) ⌝ }
+    requires { ⌜ (length (now root) ≡ rootWords) × (AtHand (rootIn (now root)) (now party) q (now locks) (now pages)) × (23 ≤ partyIn (now party) .step) × (partyIn (now party) .step ≤ 30) ⌝ }
     ensures { λ a. ⌜ left a (rootIn (now (root .exit))) (now (party .exit)) q (now (locks .exit)) (now (pages .exit)) ≡ stepOf (partyIn (now (party .entry)) .step) (seen (rootIn (now (root .entry))) (now (party .entry)) q (now (locks .entry)) (now (pages .entry))) ⌝ }
 {
     let k = party[STEP];
@@ -114,7 +114,7 @@ pub fn step_by_number(
     locks: &mut [u32],
     pages: &mut [u32],
 ) -> StepAnswer
-    requires { ⌜ (length (now root) ≡ recordWords) × AtHand (rootIn (now root)) (now party) q (now locks) (now pages) ⌝ }
+    requires { ⌜ (length (now root) ≡ rootWords) × AtHand (rootIn (now root)) (now party) q (now locks) (now pages) ⌝ }
     ensures { λ a. ⌜ left a (rootIn (now (root .exit))) (now (party .exit)) q (now (locks .exit)) (now (pages .exit)) ≡ stepOf (partyIn (now (party .entry)) .step) (seen (rootIn (now (root .entry))) (now (party .entry)) q (now (locks .entry)) (now (pages .entry))) ⌝ }
 {
     let k = party[STEP];

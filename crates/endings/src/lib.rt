@@ -10,7 +10,7 @@ ghost use Rattle.model.specs.Pages.{scratchPage};
 ghost use Rattle.model.specs.Answers.{answerOf, restructuringOf};
 ghost use Rattle.model.specs.Endings as Endings;
 ghost use Rattle.model.specs.Ready.{viewing};
-ghost use Rattle.records.specs.Words.{recordWords, seen, left};
+ghost use Rattle.records.specs.Words.{partyWords, seen, left};
 ghost use Rattle.endings.specs.Scratch.{HasScratch};
 use model::OperationAnswer;
 use model::PAGE_WORDS;
@@ -62,7 +62,7 @@ pub fn done(
     answer: OperationAnswer,
     made: Restructuring,
 ) -> StepAnswer
-    requires { ⌜ (length (now party) ≡ recordWords) × HasScratch root q (now pages) ⌝ }
+    requires { ⌜ (length (now party) ≡ partyWords) × HasScratch root q (now pages) ⌝ }
     ensures { λ a. ⌜ ((p : Party) (ls : List ℕ) → left a root (now (party .exit)) q ls (now (pages .exit)) ≡ Endings.done answer made (viewing root p q ls (now (pages .entry)))) ⌝ }
 {
     pages::store(pages, scratch_page(root, q), [0; PAGE_WORDS]);
@@ -72,7 +72,7 @@ pub fn done(
 
 // Done with the answer and the restructuring of the party's record.
 pub fn finished(root: Root, party: &mut [u32], q: u32, pages: &mut [u32]) -> StepAnswer
-    requires { ⌜ (length (now party) ≡ recordWords) × HasScratch root q (now pages) ⌝ }
+    requires { ⌜ (length (now party) ≡ partyWords) × HasScratch root q (now pages) ⌝ }
     ensures { λ a. ⌜ ((ls : List ℕ) → left a root (now (party .exit)) q ls (now (pages .exit)) ≡ Endings.finished (seen root (now (party .entry)) q ls (now (pages .entry)))) ⌝ }
 {
     let answer = answer_of(party[ANSWER]);

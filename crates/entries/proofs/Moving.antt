@@ -1,51 +1,54 @@
--- Keys moved by one place in a buffer: what moves the other way is the place that is left out.
--- Main statements: allBut (a list without one place); moved-up, moved-down (one key moves, and the list without its place stays); put-in-place, left-out (what the front is at the end).
+-- Records moved by one place in a buffer: what moves the other way is the place that is left out.
+-- Main statements: allBut (a list without one place); moved-up, moved-down (one record moves, and the list without its place stays); put-in-place, left-out (what the front is at the end).
 use mathlib.Core.Path.{_≡_, refl, sym, ap, _∙_}
 use mathlib.Core.List.{List, [], _∷_, _++_, append-assoc}
 use Prim.Native.Nat.{ℕ, _+_, _-_, _≤_, _<_}
 use native.Mathlib.Numerals.{add-one}
 use native.Mathlib.Omega.{arith}
-use lib.ListN.{length, getD, set, take, drop, length-append, length-drop, length-set, take-append-drop}
+use lib.ListN.{length, set, take, drop, length-append, length-drop, length-set, take-append-drop}
 use lib.Seq.{length-take-le, append-snoc, take-suc, set-split, take-append-le, drop-append-le, take-at, drop-at, drop-set-lt, take-set-le, getD-set-same}
+use Rattle.model.specs.declared.Entry.{Entry}
+use Rattle.model.specs.Entries.{entryOf}
+use Rattle.model.specs.Filling.{recordAt}
 use Rattle.entries.proofs.Scanning.{next-of, stored-next}
 
 -- The list without what stands at place i.
-abbrev pub allBut : ℕ → List ℕ → List ℕ
+abbrev pub allBut : ℕ → List Entry → List Entry
 allBut i l = take i l ++ drop (i + 1) l
 
 -- Place j is the one after place i.
-module _ (l : List ℕ) (i j : ℕ) (next : j ≡ i + 1) (more : j < length l) where
-  -- The key at place j is stored at place i.
-  pub moved-down : allBut j (set l i (getD l j 0)) ≡ allBut i l
+module _ (l : List Entry) (i j : ℕ) (next : j ≡ i + 1) (more : j < length l) where
+  -- The record at place j is stored at place i.
+  pub moved-down : allBut j (set l i (recordAt l j)) ≡ allBut i l
   moved-down =
-      let e = getD l j 0 in
+      let e = recordAt l j in
       let rest : drop (i + 1) l ≡ e ∷ drop (j + 1) l = rw (← next) (next-of l j more) in
-      let front : take i l ++ (e ∷ drop (j + 1) l) ≡ take j (set l i e) ++ drop (j + 1) l = rw next (stored-next l i (getD l (i + 1) 0) (drop (i + 1 + 1) l) (omega arith)) in
+      let front : take i l ++ (e ∷ drop (j + 1) l) ≡ take j (set l i e) ++ drop (j + 1) l = rw next (stored-next l i (recordAt l (i + 1)) (drop (i + 1 + 1) l) (omega arith)) in
       rw (drop-set-lt (j + 1) l i e (omega arith), rest) (sym front)
 
-  -- The key at place i is stored at place j.
-  pub moved-up : allBut i (set l j (getD l i 0)) ≡ allBut j l
+  -- The record at place i is stored at place j.
+  pub moved-up : allBut i (set l j (recordAt l i)) ≡ allBut j l
   moved-up =
-      let e = getD l i 0 in
+      let e = recordAt l i in
       let room : j < length (set l j e) = rw length-set more in
       let rest : drop j (set l j e) ≡ e ∷ drop (j + 1) l
-      = next-of (set l j e) j room ∙ rw (getD-set-same l j e 0 more, drop-set-lt (j + 1) l j e (omega arith)) refl in
-      let front : take j l ≡ take i l ++ (e ∷ []) = rw (next, add-one) (take-suc l i 0 (omega arith)) in
+      = next-of (set l j e) j room ∙ rw (getD-set-same l j e (entryOf 0 0) more, drop-set-lt (j + 1) l j e (omega arith)) refl in
+      let front : take j l ≡ take i l ++ (e ∷ []) = rw (next, add-one) (take-suc l i (entryOf 0 0) (omega arith)) in
       rw (take-set-le i l j e (omega arith), ← next, rest, front) (sym (append-snoc (take i l) e (drop (j + 1) l)))
 
 -- ---- The front at the end
 
--- A key at the place that was left out.
-filled : (l m : List ℕ) (i k : ℕ) → i < length l → allBut i l ≡ m → set l i k ≡ take i m ++ (k ∷ drop i m)
+-- A record at the place that was left out.
+filled : (l m : List Entry) (i : ℕ) (k : Entry) → i < length l → allBut i l ≡ m → set l i k ≡ take i m ++ (k ∷ drop i m)
 filled l m i k h e =
     let long = length-take-le i l (omega arith) in
     let front : take i l ≡ take i m = sym (take-at (take i l) (drop (i + 1) l) i long) ∙ ap (take i) e in
     let back : drop (i + 1) l ≡ drop i m = sym (drop-at (take i l) (drop (i + 1) l) i long) ∙ ap (drop i) e in
     set-split l i k h ∙ rw (← add-one i, front, back) refl
 
-module _ (old l : List ℕ) (n i : ℕ) where
+module _ (old l : List Entry) (n i : ℕ) where
   -- The place left out moved from n to i, and k stands there.
-  pub put-in-place : (k : ℕ) → i ≤ n → n ≤ length old → i < length l → allBut i l ≡ allBut n old
+  pub put-in-place : (k : Entry) → i ≤ n → n ≤ length old → i < length l → allBut i l ≡ allBut n old
       → take (n + 1) (set l i k) ≡ take i (take n old) ++ (k ∷ drop i (take n old))
   put-in-place k h w r e =
       let es = take n old in

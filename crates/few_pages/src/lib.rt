@@ -1,10 +1,11 @@
-// Step 10 on a chain of few pages (document 01, "The thirty steps"): its keys are gathered in a small buffer, changed there and written to new pages.
+// Step 10 on a chain of few pages (document 01, "The thirty steps"): its records are gathered in a small buffer, changed there and written to new pages.
 // Main statement: change_few is the model's step10, for every chain of at most FEW overflow pages; all is read before a word is written.
 
 ghost use mathlib.Core.Path.{_≡_};
 ghost use mathlib.Core.List.{List};
 ghost use Prim.Native.Nat.{ℕ, _≤_};
 ghost use lib.ListN.{length};
+ghost use Rattle.model.specs.Pages.{recordsIn};
 ghost use Rattle.model.specs.Chains.{Chain, chainOf, sound};
 ghost use Rattle.model.specs.Ready.{viewing};
 ghost use Rattle.model.specs.Steps.Rebuild as Rebuild;
@@ -15,28 +16,30 @@ use chain_change::Rebuilt;
 use chain_keys::Gathered;
 use free_list::Drawn;
 use model::ChainAddress;
+use model::Entry;
 use model::INSERT;
 use model::NO_PAGE;
 use model::Party;
+use model::RECORD_WORDS;
 use model::Root;
 
-// The most overflow pages that are gathered: with the primary page's, 48 keys.
+// The most overflow pages that are gathered: with the primary page's, 24 records, 48 words.
 pub const FEW: u32 = 3;
 
-// The changed keys in new pages, for a chain that had n overflow pages and this local level. "if fewer pages are free than the new chain needs, the answer is no page".
+// The changed records in new pages, for a chain that had n overflow pages and this local level. "if fewer pages are free than the new chain needs, the answer is no page".
 fn write_few(
     root: Root,
     party: Party,
     q: u32,
     n: u32,
     level: u32,
-    keys: &[u32],
+    words: &[u32],
     pages: &mut [u32],
 ) -> Changed
-    requires { ⌜ CanWriteFew root q (party .chain) (now keys) (now pages) ⌝ }
-    ensures { λ r. ⌜ ((ls : List ℕ) (c : Chain) → chainOf root (now (pages .entry)) (party .chain) ≡ sound c → level ≡ c .level → n ≡ length (c .pages) → Rebuild.changed (changedAnswer (party .operation)) (now (keys .entry)) ≡ Rebuild.changeOf (party .operation) (party .key) (c .entries) → afterChange (viewing root party q ls (now (pages .entry))) (now (pages .exit)) r ≡ Rebuild.step10 (viewing root party q ls (now (pages .entry)))) ⌝ }
+    requires { ⌜ CanWriteFew root q (party .chain) (now words) (now pages) ⌝ }
+    ensures { λ r. ⌜ ((ls : List ℕ) (c : Chain) → chainOf root (now (pages .entry)) (party .chain) ≡ sound c → level ≡ c .level → n ≡ length (c .pages) → Rebuild.changed (changedAnswer (party .operation)) (recordsIn (now (words .entry))) ≡ Rebuild.changeOf (party .operation) (party .key) (party .setting) (c .entries) → afterChange (viewing root party q ls (now (pages .entry))) (now (pages .exit)) r ≡ Rebuild.step10 (viewing root party q ls (now (pages .entry)))) ⌝ }
 {
-    let m = keys.len();
+    let m = words.len() / RECORD_WORDS;
     let k = filling::pages_for(root.capacity, m);
     if (root.free as usize) < k {
         return Changed::Kept(NO_PAGE);
@@ -46,7 +49,7 @@ fn write_few(
         Drawn::Damaged => Changed::Damaged,
         Drawn::Head(head) => {
             let scratch = endings::scratch_page(root, q);
-            filling::write_chain(root.capacity, scratch, level, keys, &taken[0..k], pages);
+            filling::write_chain(root.capacity, scratch, level, words, &taken[0..k], pages);
             Changed::Written(Rebuilt {
                 answer: chain_change::changed_answer(party.operation),
                 owed: chain_change::owed_by(party.operation, n, k as u32, m as u32),
@@ -57,16 +60,16 @@ fn write_few(
     }
 }
 
-// The change of a chain whose n overflow pages were walked: `keys` is the buffer.
+// The change of a chain whose n overflow pages were walked: `words` is the buffer.
 fn change_gathered(
     root: Root,
     party: Party,
     q: u32,
     n: u32,
-    keys: &mut [u32],
+    words: &mut [u32],
     pages: &mut [u32],
 ) -> Changed
-    requires { ⌜ CanChangeFew root q (party .chain) n (now pages) × (64 ≤ length (now keys)) ⌝ }
+    requires { ⌜ CanChangeFew root q (party .chain) n (now pages) × (64 ≤ length (now words)) ⌝ }
     ensures { λ r. ⌜ ((ls : List ℕ) → afterChange (viewing root party q ls (now (pages .entry))) (now (pages .exit)) r ≡ Rebuild.step10 (viewing root party q ls (now (pages .entry)))) ⌝ }
 {
     let Gathered::Sound(g) = chain_keys::gather(
@@ -74,27 +77,32 @@ fn change_gathered(
         ChainAddress(party.chain),
         n,
         &pages[..],
-        keys,
+        words,
     ) else {
         return Changed::Damaged;
     };
     let count = g.count;
-    let at = entries::below(&keys[0..count], party.key);
-    let found = entries::has_at(&keys[0..count], at, party.key);
+    let end = count * RECORD_WORDS;
+    let at = entries::below(&words[0..end], party.key);
+    let found = entries::has_at(&words[0..end], at, party.key);
     if party.operation == INSERT {
         if found {
             return Changed::Kept(chain_change::kept_answer(party.operation));
         }
-        entries::put_in(keys, at, count, party.key);
-        let more = count + 1;
-        return write_few(root, party, q, n, g.level, &keys[0..more], pages);
+        let e = Entry {
+            key: party.key,
+            setting: party.setting,
+        };
+        entries::put_in(words, at, count, e);
+        let more = end + RECORD_WORDS;
+        return write_few(root, party, q, n, g.level, &words[0..more], pages);
     }
     if !found {
         return Changed::Kept(chain_change::kept_answer(party.operation));
     }
-    entries::leave_out(keys, at, count);
-    let fewer = count - 1;
-    write_few(root, party, q, n, g.level, &keys[0..fewer], pages)
+    entries::leave_out(words, at, count);
+    let fewer = end - RECORD_WORDS;
+    write_few(root, party, q, n, g.level, &words[0..fewer], pages)
 }
 
 // Step 10 on a chain of which n overflow pages, few, were walked.
@@ -102,6 +110,6 @@ pub fn change_few(root: Root, party: Party, q: u32, n: u32, pages: &mut [u32]) -
     requires { ⌜ CanChangeFew root q (party .chain) n (now pages) ⌝ }
     ensures { λ r. ⌜ ((ls : List ℕ) → afterChange (viewing root party q ls (now (pages .entry))) (now (pages .exit)) r ≡ Rebuild.step10 (viewing root party q ls (now (pages .entry)))) ⌝ }
 {
-    let mut keys = [0u32; 64];
-    change_gathered(root, party, q, n, &mut keys[..], pages)
+    let mut words = [0u32; 64];
+    change_gathered(root, party, q, n, &mut words[..], pages)
 }

@@ -1,5 +1,5 @@
 -- Overflow pages filled one after the other: one turn, over the model's filled.
--- Main statements: rest-run, whole-run (a page's share of the keys); first-link, no-link; page-filled (a turn), all-filled (the end); overflow-fillable.
+-- Main statements: rest-run, whole-run (a page's share of the records); first-link, no-link; page-filled (a turn), all-filled (the end); overflow-fillable.
 use mathlib.Core.Path.{_≡_, sym, ap, _∙_}
 use mathlib.Core.List.{List, [], _∷_}
 use Prim.Native.Nat.{ℕ, zero, suc, _+_, _-_, _*_, _≤_, _<_}
@@ -8,6 +8,7 @@ use native.Mathlib.Omega.{arith}
 use lib.ListN.{length, getD, take, drop, length-drop, drop-of-length-le}
 use lib.Seq.{drop-cons, drop-drop, take-all}
 use Rattle.model.specs.declared.Root.{Root}
+use Rattle.model.specs.declared.Entry.{Entry}
 use Rattle.model.specs.Sizes.{pageWords}
 use Rattle.model.specs.Pages.{withPage, filledPage, linkToFirst}
 use Rattle.model.specs.Filling.{filled}
@@ -17,30 +18,30 @@ use Rattle.filling.specs.Fills.{Run, Fillable}
 
 -- ---- A page's share
 
--- Fewer than b keys are left.
-pub rest-run : (b : ℕ) (keys : List ℕ) (at : ℕ) → at ≤ length keys → length keys - at < b → Run b keys at (length keys)
-rest-run b keys at h k =
-    let left = drop at keys in
-    let few : length left ≤ length keys - at = rw length-drop (omega arith) in
+-- Fewer than b records are left.
+pub rest-run : (b : ℕ) (es : List Entry) (at : ℕ) → at ≤ length es → length es - at < b → Run b es at (length es)
+rest-run b es at h k =
+    let left = drop at es in
+    let few : length left ≤ length es - at = rw length-drop (omega arith) in
     let fewer : length left ≤ b = omega arith in
-    let whole : length keys ≤ length keys = omega arith in
+    let whole : length es ≤ length es = omega arith in
     record {
       starts = h;
       ends = omega arith;
       few = omega arith;
-      front = take-all (length keys - at) left few ∙ sym (take-all b left fewer);
-      rest = drop-of-length-le keys whole ∙ sym (drop-of-length-le left fewer);
+      front = take-all (length es - at) left few ∙ sym (take-all b left fewer);
+      rest = drop-of-length-le es whole ∙ sym (drop-of-length-le left fewer);
     }
 
-pub whole-run : (b : ℕ) (keys : List ℕ) (at : ℕ) → at ≤ length keys → b ≤ length keys - at → Run b keys at (at + b)
-whole-run b keys at h k =
+pub whole-run : (b : ℕ) (es : List Entry) (at : ℕ) → at ≤ length es → b ≤ length es - at → Run b es at (at + b)
+whole-run b es at h k =
     let q : at + b - at ≡ b = omega arith in
     record {
       starts = omega arith;
       ends = omega arith;
       few = omega arith;
-      front = ap (λ (n : ℕ). take n (drop at keys)) q;
-      rest = sym (drop-drop b at keys);
+      front = ap (λ (n : ℕ). take n (drop at es)) q;
+      rest = sym (drop-drop b at es);
     }
 
 -- ---- Links
@@ -57,12 +58,12 @@ no-link xs i h = ap linkToFirst (drop-of-length-le xs h)
 
 module _ (b : ℕ) (ps xs : List ℕ) (i : ℕ) where
   -- Page i of the list is written.
-  pub page-filled : (es : List ℕ) → i < length xs
+  pub page-filled : (es : List Entry) → i < length xs
       → filled b ps (drop i xs) es ≡ filled b (withPage ps (getD xs i 0) (filledPage 0 (take b es) (linkToFirst (drop (i + 1) xs)))) (drop (i + 1) xs) (drop b es)
   unfolding filled
   page-filled es h = rw add-one (ap (λ (ys : List ℕ). filled b ps ys es) (drop-cons xs i 0 h))
 
-  pub all-filled : (es : List ℕ) → length xs ≤ i → filled b ps (drop i xs) es ≡ ps
+  pub all-filled : (es : List Entry) → length xs ≤ i → filled b ps (drop i xs) es ≡ ps
   unfolding filled
   all-filled es h = ap (λ (ys : List ℕ). filled b ps ys es) (drop-of-length-le xs h)
 

@@ -3,12 +3,14 @@
 use mathlib.Core.Path.{_≡_, refl}
 use mathlib.Core.Bool.{true, false}
 use mathlib.Core.List.{List}
+use mathlib.Core.Option.{some}
 use Prim.Native.Nat.{ℕ, _-_}
 use borrow.Author.Tests.{eq-eqb, ne-eqb}
 use Rattle.model.specs.declared.Root.{Root}
 use Rattle.model.specs.declared.Party.{Party}
 use Rattle.model.specs.declared.OperationAnswer.the-variants as OperationAnswer
-use Rattle.model.specs.Entries.{hasKey}
+use Rattle.model.specs.Answers.{foundOrAbsent}
+use Rattle.model.specs.Entries.{hasKey, settingIn}
 use Rattle.model.specs.Pages.{pageOf, withPage, linkOf, entriesOf, scratchPage, pageSound}
 use Rattle.model.specs.Outcome.{moved, refuse, damage}
 use Rattle.model.specs.Ready.{viewing}
@@ -29,9 +31,10 @@ module _ (r : Root) (p : Party) (q : ℕ) (ls ps : List ℕ) where
     unfolding step09
     unsound-refused bad = rw (← page, bad) refl
 
-    pub key-found : pageSound r s ≡ true → hasKey (p .key) (entriesOf s) ≡ true → answered (viewing r p q ls ps) OperationAnswer.Found ≡ step09 (viewing r p q ls ps)
-    unfolding step09
-    key-found sound there = rw (← page, sound, there) refl
+    pub key-found : {x : ℕ} → pageSound r s ≡ true → hasKey (p .key) (entriesOf s) ≡ true → settingIn (p .key) (entriesOf s) ≡ some x
+        → answered (viewing r p q ls ps) (OperationAnswer.Found x) ≡ step09 (viewing r p q ls ps)
+    unfolding step09 foundOrAbsent
+    key-found sound there setting = rw (← page, sound, there, setting) refl
 
     pub no-link-absent : pageSound r s ≡ true → hasKey (p .key) (entriesOf s) ≡ false → linkOf s ≡ 0
         → answered (viewing r p q ls ps) OperationAnswer.Absent ≡ step09 (viewing r p q ls ps)

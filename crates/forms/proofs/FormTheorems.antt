@@ -1,7 +1,7 @@
 -- Forms: a line is read exactly where the grammar derives it, as the one form that it is; reading what was printed gives the form again.
 -- Main statements: form-read, read-form; one-form; unread-form; printed-form-read, printed-form-there; form-short.
-use mathlib.Core.Path.{_≡_, refl, sym, ap, _∙_, subst}
-use mathlib.Core.List.{List, [], _∷_}
+use mathlib.Core.Path.{_≡_, refl, _∙_, subst}
+use mathlib.Core.List.{List, _∷_}
 use Prim.Native.Nat.{ℕ, _+_, _≤_}
 use native.Mathlib.Omega.{arith}
 use lib.ListN.{length, getD, take, drop}
@@ -18,11 +18,11 @@ use Rattle.forms.specs.declared.Form.{Form}
 use Rattle.forms.specs.declared.Form.the-variants as Form
 use Rattle.forms.specs.declared.FormRead.{FormRead}
 use Rattle.forms.specs.declared.FormRead.the-variants as FormRead
-use Rattle.forms.specs.Forms.{stepForm, formatForm, beginForm, formPattern, sizeNumbers, formNumbers, FormLine, formText}
-use Rattle.forms.specs.Reading.{orElse, wholly, asStep, asBegin, asFormat, readFormat, readBegin, readForm}
+use Rattle.forms.specs.Forms.{stepForm, formatForm, findForm, insertForm, deleteForm, beginForm, formPattern, sizeNumbers, operationNumbers, formNumbers, FormLine, formText}
+use Rattle.forms.specs.Reading.{asStep, asBegin, asInsert, asFormat, readFormat, readBegin, readForm}
 use Rattle.forms.specs.Printing.{longestForm, given}
 use Rattle.forms.proofs.Puts.{is-given, put-there}
-use Rattle.forms.proofs.Table.{alike, take-row, skip-row, row-sound}
+use Rattle.forms.proofs.Table.{alike, take-row, skip-row, row-sound, one-number, two-numbers, three-numbers, five-numbers}
 
 -- ---- The patterns
 
@@ -34,38 +34,41 @@ plain-format : Plain formatForm
 unfolding plain holes isDigit
 plain-format = record { parted = refl; held = lit≤ tt }
 
-plain-begin : (o : Operation) → Plain (beginForm o)
+plain-find : Plain findForm
 unfolding plain holes isDigit
-plain-begin Operation.Find = record { parted = refl; held = lit≤ tt }
-plain-begin Operation.Insert = record { parted = refl; held = lit≤ tt }
-plain-begin Operation.Delete = record { parted = refl; held = lit≤ tt }
+plain-find = record { parted = refl; held = lit≤ tt }
+
+plain-insert : Plain insertForm
+unfolding plain holes isDigit
+plain-insert = record { parted = refl; held = lit≤ tt }
+
+plain-delete : Plain deleteForm
+unfolding plain holes isDigit
+plain-delete = record { parted = refl; held = lit≤ tt }
 
 -- ---- A line that the grammar derives is read
 
-begin-read : (q : ℕ) (o : Operation) (k : ℕ) (line : List ℕ) → Derives (beginForm o) (q ∷ (k ∷ [])) line → readForm line ≡ FormRead.Read (Form.Begin q o k)
-unfolding readForm readBegin alike padded
+begin-read : (q : ℕ) (o : Operation) (k : ℕ) (line : List ℕ) → Derives (beginForm o) (q ∷ operationNumbers o k) line → readForm line ≡ FormRead.Read (Form.Begin q o k)
+unfolding readForm readBegin operationNumbers alike padded
 begin-read q Operation.Find k line d =
-    skip-row stepForm asStep _ (plain-begin Operation.Find) plain-step refl d
-    ∙ take-row (asBegin Operation.Find) _ (plain-begin Operation.Find) d
-begin-read q Operation.Insert k line d =
-    let p = plain-begin Operation.Insert in
-    skip-row stepForm asStep _ p plain-step refl d
-    ∙ skip-row (beginForm Operation.Find) (asBegin Operation.Find) _ p (plain-begin Operation.Find) refl d
-    ∙ take-row (asBegin Operation.Insert) _ p d
+    skip-row stepForm asStep _ plain-find plain-step refl d ∙ take-row (asBegin Operation.Find) _ plain-find d
+begin-read q (Operation.Insert x) k line d =
+    skip-row stepForm asStep _ plain-insert plain-step refl d
+    ∙ skip-row findForm (asBegin Operation.Find) _ plain-insert plain-find refl d
+    ∙ take-row asInsert _ plain-insert d
 begin-read q Operation.Delete k line d =
-    let p = plain-begin Operation.Delete in
-    skip-row stepForm asStep _ p plain-step refl d
-    ∙ skip-row (beginForm Operation.Find) (asBegin Operation.Find) _ p (plain-begin Operation.Find) refl d
-    ∙ skip-row (beginForm Operation.Insert) (asBegin Operation.Insert) _ p (plain-begin Operation.Insert) refl d
-    ∙ take-row (asBegin Operation.Delete) _ p d
+    skip-row stepForm asStep _ plain-delete plain-step refl d
+    ∙ skip-row findForm (asBegin Operation.Find) _ plain-delete plain-find refl d
+    ∙ skip-row insertForm asInsert _ plain-delete plain-insert refl d
+    ∙ take-row (asBegin Operation.Delete) _ plain-delete d
 
 format-read : (s : FileSizes) (line : List ℕ) → Derives formatForm (sizeNumbers s) line → readForm line ≡ FormRead.Read (Form.Format s)
 unfolding readForm readBegin readFormat alike padded sizeNumbers
 format-read s line d =
     skip-row stepForm asStep _ plain-format plain-step refl d
-    ∙ skip-row (beginForm Operation.Find) (asBegin Operation.Find) _ plain-format (plain-begin Operation.Find) refl d
-    ∙ skip-row (beginForm Operation.Insert) (asBegin Operation.Insert) _ plain-format (plain-begin Operation.Insert) refl d
-    ∙ skip-row (beginForm Operation.Delete) (asBegin Operation.Delete) _ plain-format (plain-begin Operation.Delete) refl d
+    ∙ skip-row findForm (asBegin Operation.Find) _ plain-format plain-find refl d
+    ∙ skip-row insertForm asInsert _ plain-format plain-insert refl d
+    ∙ skip-row deleteForm (asBegin Operation.Delete) _ plain-format plain-delete refl d
     ∙ take-row asFormat _ plain-format d
 
 pub form-read : (f : Form) (line : List ℕ) → FormLine f line → readForm line ≡ FormRead.Read f
@@ -76,31 +79,6 @@ form-read (Form.Step q) line d = take-row asStep _ plain-step d
 
 -- ---- A line that is read is derived by the grammar
 
--- Numbers as many as a pattern has holes.
-pub one-number : (ns : List ℕ) → length ns ≡ 1 → getD (padded ns) 0 0 ∷ [] ≡ ns
-unfolding padded
-one-number [] h = absurd (omega arith)
-one-number (a ∷ []) h = refl
-one-number (a ∷ (b ∷ ns)) h = absurd (omega arith)
-
-pub two-numbers : (ns : List ℕ) → length ns ≡ 2 → getD (padded ns) 0 0 ∷ (getD (padded ns) 1 0 ∷ []) ≡ ns
-unfolding padded
-two-numbers [] h = absurd (omega arith)
-two-numbers (a ∷ []) h = absurd (omega arith)
-two-numbers (a ∷ (b ∷ [])) h = refl
-two-numbers (a ∷ (b ∷ (c ∷ ns))) h = absurd (omega arith)
-
-five-numbers : (ns : List ℕ) → length ns ≡ 5
-    → getD (padded ns) 0 0 ∷ (getD (padded ns) 1 0 ∷ (getD (padded ns) 2 0 ∷ (getD (padded ns) 3 0 ∷ (getD (padded ns) 4 0 ∷ [])))) ≡ ns
-unfolding padded
-five-numbers [] h = absurd (omega arith)
-five-numbers (a ∷ []) h = absurd (omega arith)
-five-numbers (a ∷ (b ∷ [])) h = absurd (omega arith)
-five-numbers (a ∷ (b ∷ (c ∷ []))) h = absurd (omega arith)
-five-numbers (a ∷ (b ∷ (c ∷ (d ∷ [])))) h = absurd (omega arith)
-five-numbers (a ∷ (b ∷ (c ∷ (d ∷ (e ∷ []))))) h = refl
-five-numbers (a ∷ (b ∷ (c ∷ (d ∷ (e ∷ (g ∷ ns)))))) h = absurd (omega arith)
-
 -- A row's form is read as itself.
 row-form : (f g : Form) (ns line : List ℕ) → formNumbers g ≡ ns → Derives (formPattern g) ns line → FormRead.Read g ≡ FormRead.Read f → FormLine f line
 unfolding FormLine
@@ -109,9 +87,18 @@ row-form f g ns line same d e =
     let derived : Derives (formPattern g) (formNumbers g) line = rw same d in
     subst (λ (x : Form). Derives (formPattern x) (formNumbers x) line) equal derived
 
-begin-row : (f : Form) (o : Operation) (line ns : List ℕ) → length ns ≡ 2 → Derives (beginForm o) ns line → asBegin o (padded ns) ≡ FormRead.Read f → FormLine f line
-unfolding formPattern formNumbers
-begin-row f o line ns long d e = row-form f (Form.Begin (getD (padded ns) 0 0) o (getD (padded ns) 1 0)) ns line (two-numbers ns long) d e
+find-row : (f : Form) (line ns : List ℕ) → length ns ≡ 2 → Derives findForm ns line → asBegin Operation.Find (padded ns) ≡ FormRead.Read f → FormLine f line
+unfolding formPattern formNumbers operationNumbers
+find-row f line ns long d e = row-form f (Form.Begin (getD (padded ns) 0 0) Operation.Find (getD (padded ns) 1 0)) ns line (two-numbers ns long) d e
+
+insert-row : (f : Form) (line ns : List ℕ) → length ns ≡ 3 → Derives insertForm ns line → asInsert (padded ns) ≡ FormRead.Read f → FormLine f line
+unfolding formPattern formNumbers operationNumbers
+insert-row f line ns long d e =
+    row-form f (Form.Begin (getD (padded ns) 0 0) (Operation.Insert (getD (padded ns) 2 0)) (getD (padded ns) 1 0)) ns line (three-numbers ns long) d e
+
+delete-row : (f : Form) (line ns : List ℕ) → length ns ≡ 2 → Derives deleteForm ns line → asBegin Operation.Delete (padded ns) ≡ FormRead.Read f → FormLine f line
+unfolding formPattern formNumbers operationNumbers
+delete-row f line ns long d e = row-form f (Form.Begin (getD (padded ns) 0 0) Operation.Delete (getD (padded ns) 1 0)) ns line (two-numbers ns long) d e
 
 format-row : (f : Form) (line : List ℕ) → readFormat line ≡ FormRead.Read f → FormLine f line
 unfolding readFormat formPattern formNumbers sizeNumbers holes
@@ -124,9 +111,9 @@ pub read-form : (f : Form) (line : List ℕ) → readForm line ≡ FormRead.Read
 unfolding readForm readBegin formPattern formNumbers holes
 read-form f line =
     row-sound stepForm line asStep (readBegin line) (λ ns long d e. row-form f (Form.Step (getD (padded ns) 0 0)) ns line (one-number ns long) d e)
-    (row-sound (beginForm Operation.Find) line (asBegin Operation.Find) _ (begin-row f Operation.Find line)
-    (row-sound (beginForm Operation.Insert) line (asBegin Operation.Insert) _ (begin-row f Operation.Insert line)
-    (row-sound (beginForm Operation.Delete) line (asBegin Operation.Delete) _ (begin-row f Operation.Delete line) (format-row f line))))
+    (row-sound findForm line (asBegin Operation.Find) _ (find-row f line)
+    (row-sound insertForm line asInsert _ (insert-row f line)
+    (row-sound deleteForm line (asBegin Operation.Delete) _ (delete-row f line) (format-row f line))))
 
 -- ---- What follows
 
@@ -149,10 +136,10 @@ unfoldable pub FormFits : Form → Type 0
 FormFits f = Small (formNumbers f)
 
 form-holes : (f : Form) → length (formNumbers f) ≡ holes (formPattern f)
-unfolding formNumbers formPattern sizeNumbers holes
+unfolding formNumbers formPattern sizeNumbers operationNumbers holes
 form-holes (Form.Format s) = refl
 form-holes (Form.Begin q Operation.Find k) = refl
-form-holes (Form.Begin q Operation.Insert k) = refl
+form-holes (Form.Begin q (Operation.Insert x) k) = refl
 form-holes (Form.Begin q Operation.Delete k) = refl
 form-holes (Form.Step q) = refl
 
@@ -165,9 +152,9 @@ printed-form-read f small = form-read f (formText f) (filled-derived (formPatter
 pub form-short : (f : Form) → length (formText f) ≤ longestForm
 unfolding formText formPattern longest
 form-short (Form.Format s) = filled-short formatForm (formNumbers (Form.Format s))
-form-short (Form.Begin q Operation.Find k) = omega (arith, filled-short (beginForm Operation.Find) (formNumbers (Form.Begin q Operation.Find k)))
-form-short (Form.Begin q Operation.Insert k) = omega (arith, filled-short (beginForm Operation.Insert) (formNumbers (Form.Begin q Operation.Insert k)))
-form-short (Form.Begin q Operation.Delete k) = omega (arith, filled-short (beginForm Operation.Delete) (formNumbers (Form.Begin q Operation.Delete k)))
+form-short (Form.Begin q Operation.Find k) = omega (arith, filled-short findForm (formNumbers (Form.Begin q Operation.Find k)))
+form-short (Form.Begin q (Operation.Insert x) k) = omega (arith, filled-short insertForm (formNumbers (Form.Begin q (Operation.Insert x) k)))
+form-short (Form.Begin q Operation.Delete k) = omega (arith, filled-short deleteForm (formNumbers (Form.Begin q Operation.Delete k)))
 form-short (Form.Step q) = omega (arith, filled-short stepForm (formNumbers (Form.Step q)))
 
 -- A form that is printed stands at its place and is read again from there.

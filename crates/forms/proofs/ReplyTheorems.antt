@@ -19,7 +19,8 @@ use Rattle.model.specs.declared.StepAnswer.the-variants as StepAnswer
 use Rattle.patterns.specs.Numbers.{isDigit}
 use Rattle.patterns.specs.Patterns.{Matching, no, yes, matchFrom, padded, filled}
 use Rattle.patterns.specs.Grammar.{Derives, plain, holes, Plain}
-use Rattle.patterns.proofs.Theorems.{Small, match-complete, match-sound, derives-holes, derives-append, derives-split, literal-line, literal-derived, filled-derived, longest, filled-short}
+use Rattle.patterns.proofs.Numerals.{stops}
+use Rattle.patterns.proofs.Theorems.{Small, stops-derived, match-complete, match-sound, derives-holes, derives-append, derives-split, literal-line, literal-derived, filled-derived, longest, filled-short}
 use Rattle.forms.specs.declared.Reply.{Reply}
 use Rattle.forms.specs.declared.Reply.the-variants as Reply
 use Rattle.forms.specs.declared.ReplyRead.{ReplyRead}
@@ -36,6 +37,8 @@ use Rattle.forms.specs.Replies.{
   stepWaiting,
   stepRefused,
   stepDone,
+  answerPattern,
+  answerNumbers,
   answerText,
   restructuringText,
   formatPattern,
@@ -52,9 +55,22 @@ use Rattle.forms.specs.Replies.{
 use Rattle.forms.specs.Reading.{AnswerAt, none, at, readAnswer, readRestructuring, doneAs, doneFrom, doneAfter, readDone, readStepReply, readBeginReply, readReply}
 use Rattle.forms.specs.Printing.{longestReply, given}
 use Rattle.forms.proofs.Puts.{is-given, put-there}
-use Rattle.forms.proofs.Table.{alike, take-row, skip-row, row-sound}
-use Rattle.forms.proofs.FormTheorems.{one-number, two-numbers}
-use Rattle.forms.proofs.Words.{answer-short, restructuring-short, done-text, tail-literal, tail-plain, tail-stops, answer-complete, answer-sound, restructuring-complete, restructuring-sound}
+use Rattle.forms.proofs.Table.{alike, take-row, skip-row, row-sound, no-number, one-number, two-numbers}
+use Rattle.forms.proofs.Words.{
+  answer-short,
+  restructuring-short,
+  restructuring-literal,
+  answer-few,
+  tail-holes,
+  tail-plain,
+  restructuring-stops,
+  done-text,
+  Headed,
+  answer-complete,
+  answer-sound,
+  restructuring-complete,
+  restructuring-sound,
+}
 
 -- ---- The patterns
 
@@ -76,11 +92,15 @@ plain-head : plain false stepDone ≡ true
 unfolding plain isDigit
 plain-head = refl
 
+nothing-stops : stops [] ≡ true
+unfolding isDigit
+nothing-stops = refl
+
 plain-step : (a : StepAnswer) → Plain (stepPattern a)
 unfolding stepPattern plain holes isDigit
 plain-step StepAnswer.Waiting = record { parted = refl; held = lit≤ tt }
 plain-step StepAnswer.Moved = record { parted = refl; held = lit≤ tt }
-plain-step (StepAnswer.Done a r) = record { parted = tail-plain a r; held = omega (arith, tail-literal a r) }
+plain-step (StepAnswer.Done a r) = record { parted = tail-plain false a r; held = omega (arith, tail-holes a r, answer-few a) }
 plain-step (StepAnswer.Refused n) = record { parted = refl; held = lit≤ tt }
 
 plain-formatOk : Plain formatOk
@@ -127,19 +147,38 @@ module _ {p ns line : List ℕ} (h : Plain p) (d : Derives p ns line) where
   unfolding readStepReply
   past-step m w r = skip-row stepMoved _ _ h plain-moved m d ∙ skip-row stepWaiting _ _ h plain-waiting w d ∙ skip-row stepRefused _ _ h plain-refused r d
 
-done-read : (q : ℕ) (a : OperationAnswer) (r : Restructuring) (line : List ℕ) → Derives (stepDone ++ (answerText a ++ restructuringText r)) (q ∷ []) line
+-- The party's number stands first, the answer's behind it.
+party-first : (q : ℕ) (ms ns others : List ℕ) → length ns ≡ 1 → q ∷ ms ≡ ns ++ others → (ns ≡ q ∷ []) × (others ≡ ms)
+party-first q ms [] others long e = absurd (omega arith)
+party-first q ms (a ∷ []) others long e = (cc, cc)
+party-first q ms (a ∷ (b ∷ ns)) others long e = absurd (omega arith)
+
+tail-read : (q : ℕ) (a : OperationAnswer) (r : Restructuring) (line : List ℕ) → Derives (answerPattern a ++ restructuringText r) (answerNumbers a) line
+    → doneFrom q (readAnswer line) ≡ ReplyRead.Read (Reply.Step q (StepAnswer.Done a r))
+unfolding doneFrom doneAs
+tail-read q a r line d =
+    let s = derives-split (answerPattern a) (restructuringText r) (answerNumbers a) line d in
+    let word = literal-line (s .other) (restructuring-literal r) in
+    let numbers : s .numbers ≡ answerNumbers a = sym (s .all ∙ ap (λ (x : List ℕ). s .numbers ++ x) (word .1) ∙ append-nil (s .numbers)) in
+    let whole : line ≡ s .front ++ restructuringText r = s .whole ∙ ap (λ (x : List ℕ). s .front ++ x) (word .0) in
+    let answer : Derives (answerPattern a) (answerNumbers a) (s .front) = subst (λ (x : List ℕ). Derives (answerPattern a) x (s .front)) numbers (s .one) in
+    ap (λ (x : List ℕ). doneFrom q (readAnswer x)) whole
+    ∙ ap (doneFrom q) (answer-complete a (s .front) (restructuringText r) answer (restructuring-stops r))
+    ∙ ap (doneAs q a) (restructuring-complete r)
+
+done-read : (q : ℕ) (a : OperationAnswer) (r : Restructuring) (line : List ℕ) → Derives (stepDone ++ (answerPattern a ++ restructuringText r)) (q ∷ answerNumbers a) line
     → readDone line ≡ ReplyRead.Read (Reply.Step q (StepAnswer.Done a r))
-unfolding readDone doneAfter doneFrom doneAs padded
+unfolding readDone doneAfter padded holes
 done-read q a r line d =
-    let tail = answerText a ++ restructuringText r in
-    let s = derives-split stepDone tail (q ∷ []) line d in
-    let words = literal-line (s .other) (tail-literal a r) in
-    let numbers : s .numbers ≡ q ∷ [] = sym (s .all ∙ ap (λ (x : List ℕ). s .numbers ++ x) (words .1) ∙ append-nil (s .numbers)) in
-    let whole : line ≡ s .front ++ tail = s .whole ∙ ap (λ (x : List ℕ). s .front ++ x) (words .0) in
-    let few : 0 + length (s .numbers) ≤ 5 = rw numbers (lit≤ tt) in
-    let head : matchFrom stepDone [] line ≡ yes (q ∷ []) tail =
-    ap (matchFrom stepDone []) whole ∙ match-complete false plain-head (s .one) [] tail (tail-stops a r) few ∙ ap (λ (x : List ℕ). yes x tail) numbers in
-    ap doneAfter head ∙ ap (doneFrom q) (answer-complete a (restructuringText r)) ∙ ap (doneAs q a) (restructuring-complete r)
+    let tail = answerPattern a ++ restructuringText r in
+    let s = derives-split stepDone tail (q ∷ answerNumbers a) line d in
+    let parts = party-first q (answerNumbers a) (s .numbers) (s .others) (derives-holes (s .one)) (s .all) in
+    let behind : Derives tail (answerNumbers a) (s .rest) = subst (λ (x : List ℕ). Derives tail x (s .rest)) (parts .1) (s .other) in
+    let stop : stops (s .rest) ≡ true = ap stops (sym (append-nil (s .rest))) ∙ stops-derived (tail-plain true a r) behind [] nothing-stops in
+    let few : 0 + length (s .numbers) ≤ 5 = rw (parts .0) (lit≤ tt) in
+    let head : matchFrom stepDone [] line ≡ yes (q ∷ []) (s .rest) =
+    ap (matchFrom stepDone []) (s .whole) ∙ match-complete false plain-head (s .one) [] (s .rest) stop few ∙ ap (λ (x : List ℕ). yes x (s .rest)) (parts .0) in
+    ap doneAfter head ∙ tail-read q a r (s .rest) behind
 
 format-read : (a : FormatAnswer) (line : List ℕ) → Derives (formatPattern a) (formatNumbers a) line → readReply line ≡ ReplyRead.Read (Reply.Format a)
 unfolding readReply formatPattern formatNumbers alike padded
@@ -177,10 +216,6 @@ reply-read (Reply.Step q a) line d = step-read q a line d
 
 -- ---- A line that is read is derived by the grammar
 
-no-number : (ns : List ℕ) → length ns ≡ 0 → [] ≡ ns
-no-number [] h = refl
-no-number (a ∷ ns) h = absurd (omega arith)
-
 -- A row's reply is read as itself.
 row-reply : (r g : Reply) (ns line : List ℕ) → replyNumbers g ≡ ns → Derives (replyPattern g) ns line → ReplyRead.Read g ≡ ReplyRead.Read r → ReplyLine r line
 unfolding ReplyLine
@@ -189,18 +224,21 @@ row-reply r g ns line same d e =
     let derived : Derives (replyPattern g) (replyNumbers g) line = rw same d in
     subst (λ (x : Reply). Derives (replyPattern x) (replyNumbers x) line) equal derived
 
-done-derived : (r : Reply) (line ns rest : List ℕ) (a : OperationAnswer) (m : Restructuring) → matchFrom stepDone [] line ≡ yes ns rest → rest ≡ answerText a ++ restructuringText m
+done-derived : (r : Reply) (line ns rest : List ℕ) (a : OperationAnswer) (m : Restructuring) → matchFrom stepDone [] line ≡ yes ns rest → Headed a rest (restructuringText m)
     → ReplyRead.Read (Reply.Step (getD (padded ns) 0 0) (StepAnswer.Done a m)) ≡ ReplyRead.Read r → ReplyLine r line
 unfolding replyPattern replyNumbers stepPattern stepNumbers holes
-done-derived r line ns rest a m q words e =
-    let tail = answerText a ++ restructuringText m in
+done-derived r line ns rest a m q answer e =
+    let word = restructuringText m in
+    let pattern = stepDone ++ (answerPattern a ++ word) in
+    let party = getD (padded ns) 0 0 in
     let d = match-sound stepDone [] line ns rest q in
     let long : length ns ≡ 1 = ap length (d .all) ∙ derives-holes (d .derived) in
-    let both = derives-append (d .derived) (literal-derived tail (tail-literal a m)) in
-    let numbers : d .found ++ [] ≡ ns = append-nil (d .found) ∙ sym (d .all) in
-    let whole : d .text ++ tail ≡ line = sym (d .whole ∙ ap (λ (x : List ℕ). d .text ++ x) words) in
-    let derived : Derives (stepDone ++ tail) ns line = subst₂ (λ (x y : List ℕ). Derives (stepDone ++ tail) x y) numbers whole both in
-    row-reply r (Reply.Step (getD (padded ns) 0 0) (StepAnswer.Done a m)) ns line (one-number ns long) derived e
+    let both = derives-append (d .derived) (derives-append (answer .derived) (literal-derived word (restructuring-literal m))) in
+    let numbers : d .found ++ (answerNumbers a ++ []) ≡ party ∷ answerNumbers a =
+    ap (λ (x : List ℕ). x ++ (answerNumbers a ++ [])) (sym (one-number ns long ∙ d .all)) ∙ ap (λ (x : List ℕ). party ∷ x) (append-nil (answerNumbers a)) in
+    let whole : d .text ++ (answer .text ++ word) ≡ line = sym (d .whole ∙ ap (λ (x : List ℕ). d .text ++ x) (answer .whole)) in
+    let derived : Derives pattern (party ∷ answerNumbers a) line = subst₂ (λ (x y : List ℕ). Derives pattern x y) numbers whole both in
+    row-reply r (Reply.Step party (StepAnswer.Done a m)) (party ∷ answerNumbers a) line refl derived e
 
 done-sound : (r : Reply) (line : List ℕ) → readDone line ≡ ReplyRead.Read r → ReplyLine r line
 unfolding readDone doneAfter doneFrom doneAs
@@ -210,7 +248,7 @@ done-sound r line = go (matchFrom stepDone [] line) refl
         → doneAs (getD (padded ns) 0 0) a m ≡ ReplyRead.Read r → ReplyLine r line
     third ns rest q a left w RestructuringRead.Unread v e = absurd (let z : _≡_ {A = ℕ} 0 1 = cc in omega arith)
     third ns rest q a left w (RestructuringRead.Read m) v e =
-        done-derived r line ns rest a m q (answer-sound rest a left w ∙ ap (λ (x : List ℕ). answerText a ++ x) (restructuring-sound left m v)) e
+        done-derived r line ns rest a m q (subst (λ (x : List ℕ). Headed a rest x) (restructuring-sound left m v) (answer-sound rest a left w)) e
 
     second : (ns rest : List ℕ) → matchFrom stepDone [] line ≡ yes ns rest → (s : AnswerAt) → readAnswer rest ≡ s → doneFrom (getD (padded ns) 0 0) s ≡ ReplyRead.Read r → ReplyLine r line
     second ns rest q none w e = absurd (let z : _≡_ {A = ℕ} 0 1 = cc in omega arith)
@@ -269,7 +307,7 @@ reply-holes (Reply.Begin q BeginAnswer.Begun) = refl
 reply-holes (Reply.Begin q (BeginAnswer.Refused n)) = refl
 reply-holes (Reply.Step q StepAnswer.Waiting) = refl
 reply-holes (Reply.Step q StepAnswer.Moved) = refl
-reply-holes (Reply.Step q (StepAnswer.Done a r)) = omega (arith, tail-literal a r)
+reply-holes (Reply.Step q (StepAnswer.Done a r)) = omega (arith, tail-holes a r)
 reply-holes (Reply.Step q (StepAnswer.Refused n)) = refl
 
 pub printed-reply-read : (r : Reply) → ReplyFits r → readReply (replyText r) ≡ ReplyRead.Read r

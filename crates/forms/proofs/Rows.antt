@@ -15,8 +15,8 @@ use Rattle.forms.specs.declared.AnswerRead.the-variants as AnswerRead
 use Rattle.patterns.proofs.Matching.{EndOf, match-rest, end-from, end-later}
 use Rattle.forms.specs.declared.ReplyRead.{ReplyRead}
 use Rattle.forms.specs.declared.ReplyRead.the-variants as ReplyRead
-use Rattle.forms.specs.Replies.{stepDone, answerText}
-use Rattle.forms.specs.Reading.{orElse, AnswerAt, none, at, orNext, answerIn, readAnswer, answerRead, doneFrom, doneAfter, readDone}
+use Rattle.forms.specs.Replies.{stepDone, foundAnswer, answerPattern}
+use Rattle.forms.specs.Reading.{orElse, AnswerAt, none, at, orNext, answerIn, foundIn, readAnswer, answerRead, doneFrom, doneAfter, readDone}
 
 taken-in : {A : Type 0} (n : ℕ) (mm : Matching) (f : List ℕ → A) (other : A) (m : Match) → m ≡ matched n mm → m .matched ≡ true → f (m .numbers) ≡ orElse mm f other
 unfolding orElse matched
@@ -37,40 +37,45 @@ row-left {m = m} n mm f other e t q = q ∙ left-in n mm f other m e t
 
 -- ---- A step that is done, in parts
 
-answer-in : (n : ℕ) (mm : Matching) (a : OperationAnswer) (other : AnswerAt) (m : Match) → m ≡ matched n mm → m .matched ≡ true → AnswerRead.Read a (m .next) ≡ answerRead n (orNext mm a other)
+answer-in : (n : ℕ) (mm : Matching) (f : List ℕ → OperationAnswer) (other : AnswerAt) (m : Match) → m ≡ matched n mm → m .matched ≡ true
+    → AnswerRead.Read (f (m .numbers)) (m .next) ≡ answerRead n (orNext mm f other)
 unfolding orNext answerRead matched
-answer-in n no a other m e t = absurd (true≢false (sym t ∙ ap (λ (k : Match). k .matched) e))
-answer-in n (yes ns rest) a other m e t = ap (λ (k : Match). AnswerRead.Read a (k .next)) e
+answer-in n no f other m e t = absurd (true≢false (sym t ∙ ap (λ (k : Match). k .matched) e))
+answer-in n (yes ns rest) f other m e t = ap (λ (k : Match). AnswerRead.Read (f (k .numbers)) (k .next)) e
 
-no-answer-in : (n : ℕ) (mm : Matching) (a : OperationAnswer) (other : AnswerAt) (m : Match) → m ≡ matched n mm → m .matched ≡ false → answerRead n other ≡ answerRead n (orNext mm a other)
+no-answer-in : (n : ℕ) (mm : Matching) (f : List ℕ → OperationAnswer) (other : AnswerAt) (m : Match) → m ≡ matched n mm → m .matched ≡ false
+    → answerRead n other ≡ answerRead n (orNext mm f other)
 unfolding orNext answerRead matched
-no-answer-in n no a other m e t = refl
-no-answer-in n (yes ns rest) a other m e t = absurd (true≢false (sym (ap (λ (k : Match). k .matched) e) ∙ t))
+no-answer-in n no f other m e t = refl
+no-answer-in n (yes ns rest) f other m e t = absurd (true≢false (sym (ap (λ (k : Match). k .matched) e) ∙ t))
 
-pub answer-taken : {x : AnswerRead} {m : Match} (n : ℕ) (mm : Matching) (a : OperationAnswer) (other : AnswerAt) → m ≡ matched n mm → m .matched ≡ true → x ≡ AnswerRead.Read a (m .next) → x ≡ answerRead n (orNext mm a other)
-answer-taken {m = m} n mm a other e t q = q ∙ answer-in n mm a other m e t
+pub answer-taken : {x : AnswerRead} {m : Match} (n : ℕ) (mm : Matching) (f : List ℕ → OperationAnswer) (other : AnswerAt) → m ≡ matched n mm → m .matched ≡ true
+    → x ≡ AnswerRead.Read (f (m .numbers)) (m .next) → x ≡ answerRead n (orNext mm f other)
+answer-taken {m = m} n mm f other e t q = q ∙ answer-in n mm f other m e t
 
-pub answer-left : {x : AnswerRead} {m : Match} (n : ℕ) (mm : Matching) (a : OperationAnswer) (other : AnswerAt) → m ≡ matched n mm → m .matched ≡ false → x ≡ answerRead n other → x ≡ answerRead n (orNext mm a other)
-answer-left {m = m} n mm a other e t q = q ∙ no-answer-in n mm a other m e t
+pub answer-left : {x : AnswerRead} {m : Match} (n : ℕ) (mm : Matching) (f : List ℕ → OperationAnswer) (other : AnswerAt) → m ≡ matched n mm → m .matched ≡ false
+    → x ≡ answerRead n other → x ≡ answerRead n (orNext mm f other)
+answer-left {m = m} n mm f other e t q = q ∙ no-answer-in n mm f other m e t
 
 -- What an answer leaves is the end of the line.
-answer-rest : (a : OperationAnswer) (l : List ℕ) (other : AnswerAt) (b : OperationAnswer) (rest : List ℕ) → (other ≡ at b rest → EndOf l rest) → answerIn a l other ≡ at b rest → EndOf l rest
-unfolding answerIn orNext
-answer-rest a l other b rest next = go (matchFrom (answerText a) [] l) refl
+answer-rest : (p : List ℕ) (f : List ℕ → OperationAnswer) (l : List ℕ) (other : AnswerAt) (b : OperationAnswer) (rest : List ℕ) → (other ≡ at b rest → EndOf l rest)
+    → orNext (matchFrom p [] l) f other ≡ at b rest → EndOf l rest
+unfolding orNext
+answer-rest p f l other b rest next = go (matchFrom p [] l) refl
   where
-    go : (mm : Matching) → matchFrom (answerText a) [] l ≡ mm → orNext mm a other ≡ at b rest → EndOf l rest
+    go : (mm : Matching) → matchFrom p [] l ≡ mm → orNext mm f other ≡ at b rest → EndOf l rest
     go no q e = next e
-    go (yes ns r) q e = match-rest (answerText a) [] l ns rest (q ∙ cc)
+    go (yes ns r) q e = match-rest p [] l ns rest (q ∙ cc)
 
 pub read-answer-rest : (l : List ℕ) (b : OperationAnswer) (rest : List ℕ) → readAnswer l ≡ at b rest → EndOf l rest
-unfolding readAnswer
+unfolding readAnswer foundIn answerIn
 read-answer-rest l b rest =
-    answer-rest OperationAnswer.Found l _ b rest
-    (answer-rest OperationAnswer.Absent l _ b rest
-    (answer-rest OperationAnswer.Inserted l _ b rest
-    (answer-rest OperationAnswer.Present l _ b rest
-    (answer-rest OperationAnswer.Deleted l _ b rest
-    (answer-rest OperationAnswer.NoPage l none b rest (λ e. absurd (let z : _≡_ {A = ℕ} 0 1 = cc in omega arith)))))))
+    answer-rest foundAnswer _ l _ b rest
+    (answer-rest (answerPattern OperationAnswer.Absent) _ l _ b rest
+    (answer-rest (answerPattern OperationAnswer.Inserted) _ l _ b rest
+    (answer-rest (answerPattern OperationAnswer.Present) _ l _ b rest
+    (answer-rest (answerPattern OperationAnswer.Deleted) _ l _ b rest
+    (answer-rest (answerPattern OperationAnswer.NoPage) _ l none b rest (λ e. absurd (let z : _≡_ {A = ℕ} 0 1 = cc in omega arith)))))))
 
 told-answer : (n : ℕ) (s : AnswerAt) (a : OperationAnswer) (next : ℕ) → answerRead n s ≡ AnswerRead.Read a next → (rest : List ℕ) × (s ≡ at a rest) × (next ≡ n - length rest)
 unfolding answerRead

@@ -1,6 +1,6 @@
 -- A step's line, read in pieces: its text, its number, its bracket.
 -- Main statements: text-unfit, number-unread, number-last, bracket-missing, line-goes-on (no match); line-ends (a match).
-use mathlib.Core.Path.{_≡_, refl, sym, ap, _∙_}
+use mathlib.Core.Path.{_≡_, refl, ap, _∙_}
 use mathlib.Core.Bool.{true, false}
 use mathlib.Core.List.{List, [], _∷_}
 use Prim.Native.Nat.{ℕ, _+_, _-_, _≤_, _<_}

@@ -1,11 +1,12 @@
 -- Rows of a table tried one after the other, against the grammar.
--- Main statements: take-row, skip-row (the row that derives a line is taken, any other is skipped); row-sound (what a row answers is derived by its pattern).
+-- Main statements: take-row, skip-row (the row that derives a line is taken, any other is skipped); row-sound (what a row answers is derived by its pattern);
+-- no-number to five-numbers (the numbers of a match, from the places where the code holds them).
 use mathlib.Core.Path.{_≡_, refl, sym, ap, _∙_, subst}
 use mathlib.Core.Bool.{Bool, true, false, _&&_, true≢false}
 use mathlib.Core.List.{List, [], _∷_}
-use Prim.Native.Nat.{ℕ, _≤_}
+use Prim.Native.Nat.{ℕ}
 use native.Mathlib.Omega.{arith}
-use lib.ListN.{length}
+use lib.ListN.{length, getD}
 use lib.Dec.{eqb}
 use borrow.Author.Tests.{eq-eqb}
 use Rattle.patterns.specs.Patterns.{Matching, no, yes, matchFrom, toEnd, padded}
@@ -70,3 +71,41 @@ row-sound {B = B} {x = x} p line f other here there = go (wholly p line) refl
     go (yes ns rest) q e =
         let d = wholly-derived p line ns rest q in
         here ns (derives-holes d) d e
+
+-- ---- Numbers as many as a pattern has holes
+
+pub no-number : (ns : List ℕ) → length ns ≡ 0 → [] ≡ ns
+no-number [] h = refl
+no-number (a ∷ ns) h = absurd (omega arith)
+
+pub one-number : (ns : List ℕ) → length ns ≡ 1 → getD (padded ns) 0 0 ∷ [] ≡ ns
+unfolding padded
+one-number [] h = absurd (omega arith)
+one-number (a ∷ []) h = refl
+one-number (a ∷ (b ∷ ns)) h = absurd (omega arith)
+
+pub two-numbers : (ns : List ℕ) → length ns ≡ 2 → getD (padded ns) 0 0 ∷ (getD (padded ns) 1 0 ∷ []) ≡ ns
+unfolding padded
+two-numbers [] h = absurd (omega arith)
+two-numbers (a ∷ []) h = absurd (omega arith)
+two-numbers (a ∷ (b ∷ [])) h = refl
+two-numbers (a ∷ (b ∷ (c ∷ ns))) h = absurd (omega arith)
+
+pub three-numbers : (ns : List ℕ) → length ns ≡ 3 → getD (padded ns) 0 0 ∷ (getD (padded ns) 1 0 ∷ (getD (padded ns) 2 0 ∷ [])) ≡ ns
+unfolding padded
+three-numbers [] h = absurd (omega arith)
+three-numbers (a ∷ []) h = absurd (omega arith)
+three-numbers (a ∷ (b ∷ [])) h = absurd (omega arith)
+three-numbers (a ∷ (b ∷ (c ∷ []))) h = refl
+three-numbers (a ∷ (b ∷ (c ∷ (d ∷ ns)))) h = absurd (omega arith)
+
+pub five-numbers : (ns : List ℕ) → length ns ≡ 5
+    → getD (padded ns) 0 0 ∷ (getD (padded ns) 1 0 ∷ (getD (padded ns) 2 0 ∷ (getD (padded ns) 3 0 ∷ (getD (padded ns) 4 0 ∷ [])))) ≡ ns
+unfolding padded
+five-numbers [] h = absurd (omega arith)
+five-numbers (a ∷ []) h = absurd (omega arith)
+five-numbers (a ∷ (b ∷ [])) h = absurd (omega arith)
+five-numbers (a ∷ (b ∷ (c ∷ []))) h = absurd (omega arith)
+five-numbers (a ∷ (b ∷ (c ∷ (d ∷ [])))) h = absurd (omega arith)
+five-numbers (a ∷ (b ∷ (c ∷ (d ∷ (e ∷ []))))) h = refl
+five-numbers (a ∷ (b ∷ (c ∷ (d ∷ (e ∷ (g ∷ ns)))))) h = absurd (omega arith)

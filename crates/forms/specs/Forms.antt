@@ -17,10 +17,19 @@ stepForm = bytes "(step #)"
 abbrev pub formatForm : List ℕ
 formatForm = bytes "(format # # # # #)"
 
+abbrev pub findForm : List ℕ
+findForm = bytes "(begin # (find #))"
+
+abbrev pub insertForm : List ℕ
+insertForm = bytes "(begin # (insert # #))"
+
+abbrev pub deleteForm : List ℕ
+deleteForm = bytes "(begin # (delete #))"
+
 abbrev pub beginForm : Operation → List ℕ
-beginForm Operation.Find = bytes "(begin # (find #))"
-beginForm Operation.Insert = bytes "(begin # (insert #))"
-beginForm Operation.Delete = bytes "(begin # (delete #))"
+beginForm Operation.Find = findForm
+beginForm (Operation.Insert x) = insertForm
+beginForm Operation.Delete = deleteForm
 
 unfoldable pub formPattern : Form → List ℕ
 formPattern (Form.Format s) = formatForm
@@ -31,9 +40,15 @@ formPattern (Form.Step q) = stepForm
 unfoldable pub sizeNumbers : FileSizes → List ℕ
 sizeNumbers s = s .originals ∷ (s .capacity ∷ (s .primaries ∷ (s .overflow ∷ (s .parties ∷ []))))
 
+-- "(insert 7 5)": the key, then the setting; a find and a delete have the key alone.
+unfoldable pub operationNumbers : Operation → ℕ → List ℕ
+operationNumbers Operation.Find k = k ∷ []
+operationNumbers (Operation.Insert x) k = k ∷ (x ∷ [])
+operationNumbers Operation.Delete k = k ∷ []
+
 unfoldable pub formNumbers : Form → List ℕ
 formNumbers (Form.Format s) = sizeNumbers s
-formNumbers (Form.Begin q o k) = q ∷ (k ∷ [])
+formNumbers (Form.Begin q o k) = q ∷ operationNumbers o k
 formNumbers (Form.Step q) = q ∷ []
 
 -- The lines that are this form: numbers of one to ten digits, single spaces, nothing before or after.

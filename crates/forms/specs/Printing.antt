@@ -10,7 +10,7 @@ abbrev pub longestForm : ℕ
 longestForm = 63
 
 abbrev pub longestReply : ℕ
-longestReply = 47
+longestReply = 57
 
 -- The text, where `most` bytes from place `at` on are within n, and nothing where they are not.
 unfoldable pub given : ℕ → ℕ → ℕ → List ℕ → List ℕ

@@ -1,6 +1,6 @@
 -- How a line is read: the patterns are tried one after the other.
 -- Main definitions: readForm, readReply.
-use mathlib.Core.List.{List, [], _∷_}
+use mathlib.Core.List.{List, []}
 use Prim.Native.Nat.{ℕ, _-_}
 use lib.ListN.{length, getD}
 use Rattle.model.specs.declared.BeginAnswer.the-variants as BeginAnswer
@@ -25,8 +25,8 @@ use Rattle.forms.specs.declared.AnswerRead.{AnswerRead}
 use Rattle.forms.specs.declared.AnswerRead.the-variants as AnswerRead
 use Rattle.forms.specs.declared.RestructuringRead.{RestructuringRead}
 use Rattle.forms.specs.declared.RestructuringRead.the-variants as RestructuringRead
-use Rattle.forms.specs.Forms.{stepForm, formatForm, beginForm}
-use Rattle.forms.specs.Replies.{unreadReply, formatOk, formatRefused, beginOk, beginRefused, stepMoved, stepWaiting, stepRefused, stepDone, answerText, restructuringText}
+use Rattle.forms.specs.Forms.{stepForm, formatForm, findForm, insertForm, deleteForm}
+use Rattle.forms.specs.Replies.{unreadReply, formatOk, formatRefused, beginOk, beginRefused, stepMoved, stepWaiting, stepRefused, stepDone, foundAnswer, answerPattern, restructuringText}
 
 -- What the numbers found make, where there is a match, or else another thing.
 unfoldable pub orElse : {A : Type 0} → Matching → (List ℕ → A) → A → A
@@ -45,6 +45,9 @@ asStep ns = FormRead.Read (Form.Step (getD ns 0 0))
 abbrev pub asBegin : Operation → List ℕ → FormRead
 asBegin o ns = FormRead.Read (Form.Begin (getD ns 0 0) o (getD ns 1 0))
 
+abbrev pub asInsert : List ℕ → FormRead
+asInsert ns = FormRead.Read (Form.Begin (getD ns 0 0) (Operation.Insert (getD ns 2 0)) (getD ns 1 0))
+
 abbrev pub asFormat : List ℕ → FormRead
 asFormat ns =
     FormRead.Read (Form.Format (record {
@@ -60,9 +63,9 @@ readFormat line = orElse (wholly formatForm line) asFormat FormRead.Unread
 
 unfoldable pub readBegin : List ℕ → FormRead
 readBegin line =
-    orElse (wholly (beginForm Operation.Find) line) (asBegin Operation.Find)
-    (orElse (wholly (beginForm Operation.Insert) line) (asBegin Operation.Insert)
-    (orElse (wholly (beginForm Operation.Delete) line) (asBegin Operation.Delete) (readFormat line)))
+    orElse (wholly findForm line) (asBegin Operation.Find)
+    (orElse (wholly insertForm line) asInsert
+    (orElse (wholly deleteForm line) (asBegin Operation.Delete) (readFormat line)))
 
 unfoldable pub readForm : List ℕ → FormRead
 readForm line = orElse (wholly stepForm line) asStep (readBegin line)
@@ -74,16 +77,20 @@ pub data AnswerAt : Type 0 where
   none : AnswerAt
   at : OperationAnswer → List ℕ → AnswerAt
 
-unfoldable pub orNext : Matching → OperationAnswer → AnswerAt → AnswerAt
-orNext no a other = other
-orNext (yes ns rest) a other = at a rest
+unfoldable pub orNext : Matching → (List ℕ → OperationAnswer) → AnswerAt → AnswerAt
+orNext no f other = other
+orNext (yes ns rest) f other = at (f (padded ns)) rest
 
+-- An answer without a number.
 unfoldable pub answerIn : OperationAnswer → List ℕ → AnswerAt → AnswerAt
-answerIn a line other = orNext (matchFrom (answerText a) [] line) a other
+answerIn a line other = orNext (matchFrom (answerPattern a) [] line) (λ ns. a) other
+
+unfoldable pub foundIn : List ℕ → AnswerAt → AnswerAt
+foundIn line other = orNext (matchFrom foundAnswer [] line) (λ ns. OperationAnswer.Found (getD ns 0 0)) other
 
 unfoldable pub readAnswer : List ℕ → AnswerAt
 readAnswer line =
-    answerIn OperationAnswer.Found line
+    foundIn line
     (answerIn OperationAnswer.Absent line
     (answerIn OperationAnswer.Inserted line
     (answerIn OperationAnswer.Present line

@@ -49,13 +49,16 @@ stepRefused = bytes "(step # (refused #))"
 abbrev pub stepDone : List ℕ
 stepDone = bytes "(step # (done "
 
-abbrev pub answerText : OperationAnswer → List ℕ
-answerText OperationAnswer.Found = bytes "found "
-answerText OperationAnswer.Absent = bytes "absent "
-answerText OperationAnswer.Inserted = bytes "inserted "
-answerText OperationAnswer.Present = bytes "present "
-answerText OperationAnswer.Deleted = bytes "deleted "
-answerText OperationAnswer.NoPage = bytes "no-page "
+abbrev pub foundAnswer : List ℕ
+foundAnswer = bytes "(found #) "
+
+abbrev pub answerPattern : OperationAnswer → List ℕ
+answerPattern (OperationAnswer.Found x) = foundAnswer
+answerPattern OperationAnswer.Absent = bytes "absent "
+answerPattern OperationAnswer.Inserted = bytes "inserted "
+answerPattern OperationAnswer.Present = bytes "present "
+answerPattern OperationAnswer.Deleted = bytes "deleted "
+answerPattern OperationAnswer.NoPage = bytes "no-page "
 
 abbrev pub restructuringText : Restructuring → List ℕ
 restructuringText Restructuring.None = bytes "none))"
@@ -77,7 +80,7 @@ beginPattern (BeginAnswer.Refused n) = beginRefused
 unfoldable pub stepPattern : StepAnswer → List ℕ
 stepPattern StepAnswer.Waiting = stepWaiting
 stepPattern StepAnswer.Moved = stepMoved
-stepPattern (StepAnswer.Done a r) = stepDone ++ (answerText a ++ restructuringText r)
+stepPattern (StepAnswer.Done a r) = stepDone ++ (answerPattern a ++ restructuringText r)
 stepPattern (StepAnswer.Refused n) = stepRefused
 
 unfoldable pub replyPattern : Reply → List ℕ
@@ -94,10 +97,19 @@ unfoldable pub beginNumbers : BeginAnswer → List ℕ
 beginNumbers BeginAnswer.Begun = []
 beginNumbers (BeginAnswer.Refused n) = n ∷ []
 
+-- Found has its setting.
+unfoldable pub answerNumbers : OperationAnswer → List ℕ
+answerNumbers (OperationAnswer.Found x) = x ∷ []
+answerNumbers OperationAnswer.Absent = []
+answerNumbers OperationAnswer.Inserted = []
+answerNumbers OperationAnswer.Present = []
+answerNumbers OperationAnswer.Deleted = []
+answerNumbers OperationAnswer.NoPage = []
+
 unfoldable pub stepNumbers : StepAnswer → List ℕ
 stepNumbers StepAnswer.Waiting = []
 stepNumbers StepAnswer.Moved = []
-stepNumbers (StepAnswer.Done a r) = []
+stepNumbers (StepAnswer.Done a r) = answerNumbers a
 stepNumbers (StepAnswer.Refused n) = n ∷ []
 
 unfoldable pub replyNumbers : Reply → List ℕ
@@ -105,6 +117,10 @@ replyNumbers Reply.Unread = []
 replyNumbers (Reply.Format a) = formatNumbers a
 replyNumbers (Reply.Begin q a) = q ∷ beginNumbers a
 replyNumbers (Reply.Step q a) = q ∷ stepNumbers a
+
+-- An answer as it is printed, with the space behind it.
+unfoldable pub answerText : OperationAnswer → List ℕ
+answerText a = filled (answerPattern a) (answerNumbers a)
 
 -- The lines that are this reply.
 unfoldable pub ReplyLine : Reply → List ℕ → Type 0

@@ -1,6 +1,6 @@
 // The forms of the program turns (document 01, "The turns program"): the five that it reads and the replies that it prints, each read and printed by its pattern.
-// Main statements: read_form and read_reply are readForm and readReply; print_form and print_reply write textOf a form and of a reply. That a line is
-// read exactly where the grammar derives it, and that what is printed is read again: proofs/Theorems.
+// Main statements: read_form and read_reply are readForm and readReply; print_form and print_reply write the text of a form and of a reply. That a line is
+// read exactly where the grammar derives it, and that what is printed is read again: proofs/FormTheorems.antt and proofs/ReplyTheorems.antt.
 
 ghost use mathlib.Core.Path.{_≡_};
 ghost use mathlib.Core.Bool.{cond};
@@ -24,12 +24,12 @@ use model::StepAnswer;
 use patterns::Match;
 use patterns::Number;
 
-// The longest text of a form, `(format` with five numbers of ten digits, and of a reply, an insert done with a split or a merge skipped.
+// The longest text of a form, `(format` with five numbers of ten digits, and of a reply, a found with a split or a merge skipped.
 pub const LONGEST_FORM: usize = 63;
 
-pub const LONGEST_REPLY: usize = 47;
+pub const LONGEST_REPLY: usize = 57;
 
-// A form that turns reads: the party's number stands first, and for a begin the key last.
+// A form that turns reads: the party's number stands first; a begin has its operation, an insert with its setting, and the key.
 pub enum Form {
     Format(FileSizes),
     Begin(u32, Operation, u32),
@@ -116,10 +116,10 @@ fn read_begin(line: &[u8]) -> FormRead
         let n = m.numbers;
         return FormRead::Read(Form::Begin(n[0], Operation::Find, n[1]));
     }
-    let m = patterns::match_rest(b"(begin # (insert #))", line, 0);
+    let m = patterns::match_rest(b"(begin # (insert # #))", line, 0);
     if m.matched {
         let n = m.numbers;
-        return FormRead::Read(Form::Begin(n[0], Operation::Insert, n[1]));
+        return FormRead::Read(Form::Begin(n[0], Operation::Insert(n[2]), n[1]));
     }
     let m = patterns::match_rest(b"(begin # (delete #))", line, 0);
     if m.matched {
@@ -227,9 +227,10 @@ fn read_answer(line: &[u8], at: usize) -> AnswerRead
     requires { ⌜ at ≤ length (now line) ⌝ }
     ensures { λ r. ⌜ r ≡ answerRead (length (now (line .entry))) (readAnswer (drop at (now (line .entry)))) ⌝ }
 {
-    let m = patterns::match_at(b"found ", line, at);
+    let m = patterns::match_at(b"(found #) ", line, at);
     if m.matched {
-        return AnswerRead::Read(OperationAnswer::Found, m.next);
+        let n = m.numbers;
+        return AnswerRead::Read(OperationAnswer::Found(n[0]), m.next);
     }
     let m = patterns::match_at(b"absent ", line, at);
     if m.matched {
@@ -321,7 +322,7 @@ fn put_begin(q: u32, operation: Operation, k: u32, out: &mut [u8], at: usize) ->
 {
     match operation {
         Operation::Find => patterns::fill(b"(begin # (find #))", [q, k, 0, 0, 0], out, at),
-        Operation::Insert => patterns::fill(b"(begin # (insert #))", [q, k, 0, 0, 0], out, at),
+        Operation::Insert(x) => patterns::fill(b"(begin # (insert # #))", [q, k, x, 0, 0], out, at),
         Operation::Delete => patterns::fill(b"(begin # (delete #))", [q, k, 0, 0, 0], out, at),
     }
 }
@@ -427,12 +428,12 @@ fn put_step_reply(q: u32, answer: StepAnswer, out: &mut [u8], at: usize) -> usiz
 }
 
 fn put_answer(answer: OperationAnswer, out: &mut [u8], at: usize) -> usize
-    requires { ⌜ at + 9 ≤ length (now out) ⌝ }
+    requires { ⌜ at + 19 ≤ length (now out) ⌝ }
     ensures { λ r. ⌜ r ≡ at + length (answerText answer) ⌝ }
     ensures { λ _. ⌜ now (out .exit) ≡ sets (now (out .entry)) at (answerText answer) ⌝ }
 {
     match answer {
-        OperationAnswer::Found => patterns::fill(b"found ", [0, 0, 0, 0, 0], out, at),
+        OperationAnswer::Found(x) => patterns::fill(b"(found #) ", [x, 0, 0, 0, 0], out, at),
         OperationAnswer::Absent => patterns::fill(b"absent ", [0, 0, 0, 0, 0], out, at),
         OperationAnswer::Inserted => patterns::fill(b"inserted ", [0, 0, 0, 0, 0], out, at),
         OperationAnswer::Present => patterns::fill(b"present ", [0, 0, 0, 0, 0], out, at),

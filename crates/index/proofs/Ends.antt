@@ -1,11 +1,10 @@
 -- What the walks of this crate cite that is no step of the machine: what each callee says, and that the contract's equation follows on each way.
 -- Main statements: format-made, format-refused; begin-inside, begin-past; step-inside, step-past.
-use mathlib.Core.Path.{_≡_, refl, sym, _∙_, ap, ap₂, subst}
-use mathlib.Core.Bool.{Bool, true, false, not}
+use mathlib.Core.Path.{_≡_, refl, sym, _∙_, ap, subst}
+use mathlib.Core.Bool.{Bool, not}
 use mathlib.Core.List.{List, [], _∷_}
 use Prim.Native.Nat.{ℕ, zero, suc, _<_, _≤_, _*_, _^_}
 use native.Mathlib.Omega.{arith}
-use mir.Syntax.{Ty, Local, local}
 use lib.Dec.{T}
 use lib.ListN.{length, set, replicate}
 use Rattle.model.specs.declared.Root.{Root}
@@ -14,6 +13,7 @@ use Rattle.model.specs.declared.Operation.{Operation}
 use Rattle.model.specs.declared.FileSizes.{FileSizes}
 use Rattle.model.specs.declared.FormatAnswer.{FormatAnswer}
 use Rattle.model.specs.declared.FormatAnswer.the-variants as FormatAnswer
+use Rattle.model.specs.declared.StepAnswer.{StepAnswer}
 use Rattle.model.specs.declared.Stepped.{Stepped}
 use Rattle.model.specs.Records as Records
 use Rattle.model.specs.Memory.{Memory, partyAt}
@@ -23,14 +23,8 @@ use Rattle.calls.specs.declared.Begun.{Begun}
 use Rattle.calls.specs.Lent.{lent, rowAfter, leftByFormat, leftByBegin, leftByStep}
 use Rattle.index.specs.Answered.{isFormatted}
 
--- The locals of a function at their addresses.
-abbrev pub framed : List Local → List ℕ → List (Ty × ℕ)
-framed [] at = []
-framed (local t h ∷ ls) [] = []
-framed (local t h ∷ ls) (a ∷ at) = (t, a) ∷ framed ls at
-
--- The place of a record of 36 bytes does not wrap.
-pub place-fits : (i n : ℕ) → i < n → n * 36 < 2 ^ 63 → i * 36 < 2 ^ 64
+-- The place of a record of ten words, 40 bytes, does not wrap.
+pub place-fits : (i n : ℕ) → i < n → n * 40 < 2 ^ 63 → i * 40 < 2 ^ 64
 place-fits i n l r = omega (arith, l, r)
 
 -- A word fits an index.
@@ -61,6 +55,11 @@ BeginSaid r p parties locks pages q o k x =
 -- A step of it.
 abbrev pub StepSaid : Root → Party → ℕ → ℕ → List ℕ → List ℕ → Stepped → List ℕ → List ℕ → Type 0
 StepSaid r p parties q ls gs x ls′ gs′ = (row : List Party) → length row ≡ parties → (q < parties → partyAt row q ≡ p) → leftByStep x row q ls′ gs′ ≡ stepCall (lent r row ls gs) q
+
+-- A step past the row's end.
+abbrev pub PastSaid : Root → ℕ → ℕ → ℕ → ℕ → StepAnswer → Type 0
+PastSaid r parties locks pages q a =
+    (row : List Party) (ls gs : List ℕ) → length row ≡ parties → length ls ≡ locks → length gs ≡ pages → parties ≤ q → called a (lent r row ls gs) ≡ stepCall (lent r row ls gs) q
 
 -- ---- The row that format leaves
 
@@ -98,7 +97,5 @@ module _ (r : Root) (ps : List Party) (ls gs : List ℕ) where
         → called (x .answer) (lent (x .root) (set ps q (x .party)) ls′ gs′) ≡ stepCall (lent r ps ls gs) q
     step-inside x ls′ gs′ said = said ps refl (λ _. refl)
 
-    pub step-past : (p : Party) (x : Stepped) (ls′ gs′ : List ℕ) → length ps ≤ q → StepSaid r p (length ps) q ls gs x ls′ gs′
-        → called (x .answer) (lent (x .root) ps ls′ gs′) ≡ stepCall (lent r ps ls gs) q
-    step-past p x ls′ gs′ past said =
-        ap (λ (row : List Party). called (x .answer) (lent (x .root) row ls′ gs′)) (sym (set-past ps q (x .party) past)) ∙ said ps refl (λ h. absurd (omega (arith, h, past)))
+    pub step-past : (a : StepAnswer) → length ps ≤ q → PastSaid r (length ps) (length ls) (length gs) q a → called a (lent r ps ls gs) ≡ stepCall (lent r ps ls gs) q
+    step-past a past said = said ps ls gs refl refl refl past

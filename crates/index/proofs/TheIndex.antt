@@ -1,11 +1,10 @@
 -- THE INDEX is right: from any memory that `format` took on, every list of calls of `begin` and `step`, by any parties in any order, meets the demands. The statements are specs/TheIndex.antt.
 -- Main statements: format-accepts (memory of the lengths that the sizes ask for is formatted), start-right, index-right.
 use mathlib.Core.Path.{_≡_, refl, sym, _∙_, ap, ap₂, subst}
-use mathlib.Core.Bool.{Bool, true, false, _&&_}
-use mathlib.Core.List.{List, [], _∷_}
+use mathlib.Core.Bool.{Bool, true, false}
+use mathlib.Core.List.{List, _∷_}
 use Prim.Native.Nat.{ℕ}
 use native.Mathlib.Omega.{arith}
-use lib.Dec.{eqb}
 use lib.ListN.{length}
 use borrow.Author.Tests.{eq-eqb}
 use Rattle.model.specs.declared.FileSizes.{FileSizes}
@@ -15,15 +14,16 @@ use Rattle.model.specs.declared.BeginAnswer.{BeginAnswer}
 use Rattle.model.specs.declared.StepAnswer.{StepAnswer}
 use Rattle.model.specs.Sizes.{withinLimits, lockWords, allPageWords}
 use Rattle.model.specs.Records.{rootSized}
-use Rattle.model.specs.Memory.{Memory, partyAt, formatted}
+use Rattle.model.specs.Memory.{Memory, formatted}
 use Rattle.model.specs.Refusals.{lengthsFit}
-use Rattle.model.specs.Calls.{Called, called, formatCall, beginCall, stepCall}
-use Rattle.model.specs.Runs.{Call, Reply, toBegin, toStep, callerOf, Event, replyTo, afterCall, eventOf, events, finalMemory}
+use Rattle.model.specs.Calls.{Called, called}
+use Rattle.model.specs.Runs.{Call, Reply, toBegin, toStep, Event, replyTo, afterCall, eventOf, events, finalMemory}
 use Rattle.model.specs.Book.{emptyBook, bookAgrees, bookAtEnd}
 use Rattle.model.specs.Progress.{progresses}
 use Rattle.theory.specs.Demands.{Sizes, sizesOf, start, Reached}
 use Rattle.model.proofs.Theorems.RefusalOrder.{FormatOrder, format-order}
 use Rattle.theory.proofs.Linearization.{linearizable}
+use Rattle.theory.proofs.Settings.{founds-right}
 use Rattle.theory.proofs.Demands.{schedule-right, granted-right, singly-right, lists-right}
 use Rattle.index.specs.TheIndex.{Formatted, Made, begun, stepped, happened, Ran, ended, next, StartRight, IndexRight}
 
@@ -109,4 +109,5 @@ module _ (m₀ : Memory) (z : FileSizes) (m : Memory) (is : Formatted m₀ z m) 
         grants = granted-right sizes-given cs;
         singly = λ rest x fits. singly-right sizes-given cs rest x fits;
         linearization = linearizable sizes-given cs;
+        founds = founds-right sizes-given cs (linearizable sizes-given cs);
       }

@@ -19,6 +19,7 @@ use Rattle.model.specs.Progress.{progresses}
 use Rattle.theory.specs.Singly.{Wanted, partiesFit}
 use Rattle.theory.specs.Demands.{Sizes, sizesOf, start, Reached, bookReached, ScheduleRight, GrantsRight, AtRest, RunSingly, ListSingly}
 use Rattle.theory.specs.Linearization.{Linearization}
+use Rattle.theory.specs.Settings.{FoundsRight}
 
 -- ---- Calls of the functions
 
@@ -58,7 +59,7 @@ pub record IndexRight (z : FileSizes) (cs : List Call) (es : List Event) (m : Me
   -- The functions did what the definitions say.
   pub events-are : es ≡ events (start sizes) cs
   pub memory-is : m ≡ Reached sizes cs
-  -- Demand 3: every answer that a step gave is the set book's, and somebody under way can move.
+  -- Demand 3: every answer that a step gave is the book's, and somebody under way can move.
   pub answers : bookAgrees emptyBook es ≡ true
   pub progress : progresses (z .parties) (bookAtEnd emptyBook es) m ≡ true
   -- Demand 3 whole: answers, links, progress, sizes, no page.
@@ -66,5 +67,7 @@ pub record IndexRight (z : FileSizes) (cs : List Call) (es : List Event) (m : Me
   -- Demand 2: grants and refusals; and, where nobody is under way, an operation run alone.
   pub grants : GrantsRight sizes cs
   pub singly : AtRest (bookReached sizes cs) → (x : Wanted) → x .party < z .parties → RunSingly sizes cs x
-  -- An order of the operations, each at one call between its begin and its answer, in which a plain set gives every answer.
+  -- An order of the operations, each at one call between its begin and its answer, in which a plain map gives every answer.
   pub linearization : Linearization sizes cs
+  -- Change 1: each found answers the setting of the last insert that added its key and was not deleted since, in that order.
+  pub founds : FoundsRight sizes cs linearization

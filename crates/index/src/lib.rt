@@ -1,6 +1,6 @@
 // The public calls in the forms that document 01 names: format, begin and step, lent the root record, the row of party records, the lock words and the page words.
 // They are thin: the work is that of `calls`, which takes the root and one party's record by value. Here a record is taken out of the row, and what comes back is written where it came from;
-// past the row's end the zero record is handed on, and every call is refused.
+// past the row's end begin is handed the zero record, a step is calls::step_past, and both are refused.
 // Main statements: each call answers, and leaves in every lent word, what the model's formatCall, beginCall and stepCall say, for all words and all lengths; there is nothing that a caller must see to.
 
 ghost use mathlib.Core.Path.{_≡_};
@@ -112,12 +112,12 @@ pub fn step(
 {
     let former = *root;
     let at = q as usize;
-    let inside = at < parties.len();
-    let party = if inside { parties[at] } else { records::idle() };
-    let stepped = calls::step(former, party, parties.len(), q, locks, pages);
-    *root = stepped.root;
-    if inside {
+    if at < parties.len() {
+        let stepped = calls::step(former, parties[at], parties.len(), q, locks, pages);
+        *root = stepped.root;
         parties[at] = stepped.party;
+        return stepped.answer;
+    } else {
+        return calls::step_past(former, parties.len(), locks.len(), pages.len(), q);
     }
-    stepped.answer
 }

@@ -1,6 +1,6 @@
--- Places in a chain: the keys from a place on, key by key and page by page.
--- Main statements: first-sits, first-keys (a page's first key); next-start, page-over, none-left (a page without a key left); first-key, onward-sits (one key further);
--- length-keysAt (how many keys there are at most); chain-starts, chain-records (a chain that was looked through whole).
+-- Places in a chain: the records from a place on, record by record and page by page.
+-- Main statements: first-sits, first-records (a page's first record); next-start, page-over, none-left (a page without a record left); entryAt, first-entry, onward-sits (one record further);
+-- length-recordsAt (how many records there are at most); chain-starts, chain-records (a chain that was looked through whole).
 use mathlib.Core.Path.{_≡_, refl, sym, ap, _∙_}
 use mathlib.Core.List.{List, [], _∷_, _++_}
 use Prim.Native.Nat.{ℕ, zero, suc, _+_, _-_, _*_, _≤_, _<_}
@@ -9,10 +9,12 @@ use native.Mathlib.Omega.{arith}
 use lib.ListN.{length, getD, take, drop, length-append, length-take}
 use lib.Seq.{drop-cons, drop-drop}
 use Rattle.model.specs.declared.Root.{Root}
-use Rattle.model.specs.Sizes.{pageWords, mostRecords}
-use Rattle.model.specs.Entries.{Entry}
-use Rattle.model.specs.Pages.{pageOf, countOf, linkOf, entriesOf}
+use Rattle.model.specs.declared.Entry.{Entry}
+use Rattle.model.specs.Sizes.{pageWords, mostRecords, recordWords}
+use Rattle.model.specs.Entries.{entryOf}
+use Rattle.model.specs.Pages.{pageOf, countOf, linkOf, recordsIn, entriesOf}
 use Rattle.model.proofs.Laws.Lists.{all-map}
+use Rattle.model.proofs.Laws.RecordWords.{records-take}
 use Rattle.model.specs.Chains.{sound, Chain, listFrom, entriesOn, readChain, chainOf}
 use Rattle.model.proofs.Laws.Tests.{sound-page-links, sound-page-counts}
 use Rattle.model.proofs.Laws.Walks.{walked-chained, length-entriesOn}
@@ -23,9 +25,9 @@ use Rattle.chain_keys.specs.Gathering.{CanWalk, entriesFrom, Followed}
 use Rattle.chain_keys.proofs.Following.{Walks, walked-walks, entries-next, entries-none}
 use Rattle.chain_keys.proofs.WholeChain.{Reads, chain-reads}
 use Rattle.key_source.specs.declared.Place.{Place}
-use Rattle.key_source.specs.Sources.{keysAt, Sits, CanStart, onward}
+use Rattle.key_source.specs.Sources.{recordsAt, Sits, CanStart, onward}
 
--- ---- A page's first key
+-- ---- A page's first record
 
 -- Some words of a front, after the first m.
 part-of-front : (m k n : ℕ) (l : List ℕ) → m + k ≤ n → take k (drop m (take n l)) ≡ take k (drop m l)
@@ -38,7 +40,7 @@ part-of-front (suc m) (suc k) (suc n) [] h = refl
 part-of-front (suc m) (suc k) (suc n) (x ∷ l) h = part-of-front m (suc k) n l (omega arith)
 
 module _ (ps : List ℕ) (page n : ℕ) (can : CanStart ps page n) where
-  -- The place of the page's first key.
+  -- The place of the page's first record.
   abbrev firstPlace : Place
   firstPlace = record { at = page * 16 + 3; left = getD ps (page * 16 + 1) 0; link = getD ps (page * 16 + 2) 0; pages = n }
 
@@ -50,25 +52,30 @@ module _ (ps : List ℕ) (page n : ℕ) (can : CanStart ps page n) where
     followed = rw (link-at ps page) (can .followed);
   }
 
-  keys-read : take (countOf (pageOf ps page)) (drop (page * 16 + 3) ps) ≡ entriesOf (pageOf ps page)
+  records-read : take (countOf (pageOf ps page)) (recordsIn (drop (page * 16 + 3) ps)) ≡ entriesOf (pageOf ps page)
   unfolding entriesOf pageOf
-  keys-read =
+  records-read =
       let n = countOf (pageOf ps page) in
-      sym (part-of-front 3 n pageWords (drop (page * 16) ps) (omega (arith, can .few)) ∙ ap (take n) (drop-drop 3 (page * 16) ps))
+      let words = part-of-front 3 (n * recordWords) pageWords (drop (page * 16) ps) (omega (arith, can .few)) ∙ ap (take (n * recordWords)) (drop-drop 3 (page * 16) ps) in
+      sym (records-take n (drop (page * 16 + 3) ps)) ∙ ap recordsIn (sym words) ∙ records-take n (drop 3 (pageOf ps page))
 
-  pub first-keys : keysAt ps firstPlace ≡ entriesOf (pageOf ps page) ++ entriesFrom ps n (linkOf (pageOf ps page))
-  unfolding keysAt
-  first-keys = rw (count-at ps page, link-at ps page, keys-read)
+  pub first-records : recordsAt ps firstPlace ≡ entriesOf (pageOf ps page) ++ entriesFrom ps n (linkOf (pageOf ps page))
+  unfolding recordsAt
+  first-records = rw (count-at ps page, link-at ps page, records-read)
 
--- ---- A page without a key left
+-- ---- A page without a record left
+
+-- The record whose key is word i.
+abbrev pub entryAt : List ℕ → ℕ → Entry
+entryAt ps i = entryOf (getD ps i 0) (getD ps (i + 1) 0)
 
 module _ (ps : List ℕ) (p : Place) (sits : Sits ps p) where
-  no-key : p .left ≡ 0 → keysAt ps p ≡ entriesFrom ps (p .pages) (p .link)
-  unfolding keysAt
-  no-key e = rw e
+  no-record : p .left ≡ 0 → recordsAt ps p ≡ entriesFrom ps (p .pages) (p .link)
+  unfolding recordsAt
+  no-record e = rw e
 
-  pub none-left : p .left ≡ 0 → p .pages ≤ 0 → keysAt ps p ≡ []
-  none-left e f = no-key e ∙ entries-none ps (p .pages) (p .link) f
+  pub none-left : p .left ≡ 0 → p .pages ≤ 0 → recordsAt ps p ≡ []
+  none-left e f = no-record e ∙ entries-none ps (p .pages) (p .link) f
 
   pub linked : 0 < p .pages → 0 < p .link
   linked h = next-page ps h (sits .followed) .linked
@@ -79,21 +86,27 @@ module _ (ps : List ℕ) (p : Place) (sits : Sits ps p) where
       record { fits = next .page .fits; few = next .page .few; few-pages = omega (arith, sits .few-pages); followed = next .rest }
 
   pub page-over :
-      p .left ≡ 0 → 0 < p .pages → keysAt ps p ≡ entriesOf (pageOf ps (p .link - 1)) ++ entriesFrom ps (p .pages - 1) (linkOf (pageOf ps (p .link - 1)))
-  page-over e h = no-key e ∙ entries-next ps (p .pages) (p .link) h
+      p .left ≡ 0 → 0 < p .pages → recordsAt ps p ≡ entriesOf (pageOf ps (p .link - 1)) ++ entriesFrom ps (p .pages - 1) (linkOf (pageOf ps (p .link - 1)))
+  page-over e h = no-record e ∙ entries-next ps (p .pages) (p .link) h
 
-  -- ---- One key further
+  -- ---- One record further
 
-  pub first-key : 1 ≤ p .left → keysAt ps p ≡ getD ps (p .at) 0 ∷ keysAt ps (onward p)
-  unfolding keysAt
-  first-key h = ap (λ (es : List Entry). es ++ entriesFrom ps (p .pages) (p .link)) (go (p .left) h (sits .within))
+  pub first-entry : 1 ≤ p .left → recordsAt ps p ≡ entryAt ps (p .at) ∷ recordsAt ps (onward p)
+  unfolding recordsAt recordsIn
+  first-entry h = ap (λ (es : List Entry). es ++ entriesFrom ps (p .pages) (p .link)) (go (p .left) h (sits .within))
     where
-      go : (n : ℕ) → 1 ≤ n → p .at + n ≤ length ps → take n (drop (p .at) ps) ≡ getD ps (p .at) 0 ∷ take (n - 1) (drop (p .at + 1) ps)
+      pair : p .at + 1 < length ps → drop (p .at) ps ≡ getD ps (p .at) 0 ∷ (getD ps (p .at + 1) 0 ∷ drop (p .at + recordWords) ps)
+      pair w =
+          let on : p .at + recordWords ≡ suc (p .at + 1) = omega arith in
+          let next : drop (suc (p .at)) ps ≡ getD ps (p .at + 1) 0 ∷ drop (p .at + recordWords) ps = rw on (ap (λ (i : ℕ). drop i ps) (sym (add-one (p .at))) ∙ drop-cons ps (p .at + 1) 0 w) in
+          drop-cons ps (p .at) 0 (omega arith) ∙ ap (λ (l : List ℕ). getD ps (p .at) 0 ∷ l) next
+
+      go : (n : ℕ) → 1 ≤ n → p .at + n * recordWords ≤ length ps
+          → take n (recordsIn (drop (p .at) ps)) ≡ entryAt ps (p .at) ∷ take (n - 1) (recordsIn (drop (p .at + recordWords) ps))
       go zero h w = absurd (omega arith)
       go (suc n) h w =
-          let some : p .at < length ps = omega arith in
           let q : suc n - 1 ≡ n = omega arith in
-          rw (q, add-one) (ap (take (suc n)) (drop-cons ps (p .at) 0 some))
+          rw q (ap (λ (l : List ℕ). take (suc n) (recordsIn l)) (pair (omega (arith, w))))
 
   pub onward-sits : 1 ≤ p .left → Sits ps (onward p)
   onward-sits h = record {
@@ -103,7 +116,7 @@ module _ (ps : List ℕ) (p : Place) (sits : Sits ps p) where
     followed = sits .followed;
   }
 
--- ---- How many keys there are
+-- ---- How many records there are
 
 length-from : (ps : List ℕ) {n l : ℕ} → Followed ps n l → length (entriesFrom ps n l) ≤ mostRecords * n
 unfolding entriesFrom
@@ -111,9 +124,9 @@ length-from ps {n} {l} f =
     let few = all-map (linkedPages ps n l) (λ x h. h .few) (leads-all ps f) in
     omega (arith, length-entriesOn mostRecords ps (linkedPages ps n l) few, length-linkedPages ps n l)
 
-pub length-keysAt : (ps : List ℕ) (p : Place) → Sits ps p → length (keysAt ps p) ≤ mostRecords * 753
-unfolding keysAt
-length-keysAt ps p sits = rw (length-append, length-take) (omega (arith, length-from ps (sits .followed), sits .few, sits .few-pages))
+pub length-recordsAt : (ps : List ℕ) (p : Place) → Sits ps p → length (recordsAt ps p) ≤ mostRecords * 753
+unfolding recordsAt
+length-recordsAt ps p sits = rw (length-append, length-take) (omega (arith, length-from ps (sits .followed), sits .few, sits .few-pages))
 
 -- ---- A chain that was looked through whole can be read again, from its primary page on
 
@@ -136,4 +149,4 @@ module _ (r : Root) (ps : List ℕ) (c : ℕ) (keys : r .capacity ≤ mostRecord
 
   pub chain-records : entriesOf (pageOf ps c) ++ entriesFrom ps (length (d .pages)) (linkOf (pageOf ps c)) ≡ d .entries
   unfolding readChain entriesOn
-  chain-records = rw (← reads .chain-is) (ap (λ (es : List ℕ). entriesOf (pageOf ps c) ++ es) (walks .entries))
+  chain-records = rw (← reads .chain-is) (ap (λ (es : List Entry). entriesOf (pageOf ps c) ++ es) (walks .entries))

@@ -1,5 +1,5 @@
-// The keys of a new chain, one after the other, read where they stand (document 01, steps 10 and 17): a place in a chain, and which of the chain's keys are chosen.
-// Main statements: first_place is the place of a page's first key; next gives the first of the keys chosen and the source of the others; count says how many there are.
+// The records of a new chain, one after the other, read where they stand (document 01, steps 10 and 17): a place in a chain, and which of the chain's records are chosen.
+// Main statements: first_place is the place of a page's first record; next gives the first of the records chosen and the source of the others; count says how many there are.
 
 ghost use mathlib.Core.Path.{_≡_};
 ghost use mathlib.Core.List.{[], _++_};
@@ -9,16 +9,17 @@ ghost use lib.ListN.{length};
 ghost use Rattle.model.specs.Addresses.{hash};
 ghost use Rattle.model.specs.Pages.{pageOf, linkOf, entriesOf};
 ghost use Rattle.chain_keys.specs.Gathering.{entriesFrom};
-ghost use Rattle.key_source.specs.Sources.{keysAt, Sits, CanStart, onward, chosen, CanHalve, CanChoose, kept, extraKeys, keysOf, thenAll, Gives};
+ghost use Rattle.key_source.specs.Sources.{recordsAt, Sits, CanStart, onward, chosen, CanHalve, CanChoose, kept, extraRecords, chosenOf, thenAll, Gives};
 use model::COUNT_WORD;
 use model::ChainAddress;
+use model::Entry;
 use model::FIRST_RECORD;
 use model::LINK_WORD;
 use model::PAGE_WORDS;
 use model::PageAddress;
 use model::RECORD_WORDS;
 
-// A place in a chain: the first word of the next record, how many keys its page has from there on, the page's link, and how many pages that leads to.
+// A place in a chain: the first word of the next record, how many records its page has from there on, the page's link, and how many pages that leads to.
 pub struct Place {
     pub at: usize,
     pub left: u32,
@@ -33,10 +34,10 @@ pub struct Halving {
     pub chain: ChainAddress,
 }
 
-// Which keys of a chain a new chain has: all of them; these and one more; all but one; those that stay, or go, in a split.
+// Which records of a chain a new chain has: all of them; these and one more; all but that of a key; those that stay, or go, in a split.
 pub enum Choice {
     All,
-    With(u32),
+    With(Entry),
     Without(u32),
     Staying(Halving),
     Going(Halving),
@@ -47,16 +48,16 @@ pub struct Source {
     pub place: Place,
 }
 
-// The next key, and the source of those after it.
+// The next record, and the source of those after it.
 pub struct Given {
-    pub key: u32,
+    pub entry: Entry,
     pub source: Source,
 }
 
-// The first key of a page whose link leads to n pages.
+// The first record of a page whose link leads to n pages.
 pub fn first_place(pages: &[u32], page: PageAddress, n: u32) -> Place
     requires { ⌜ CanStart (now pages) (page .0) n ⌝ }
-    ensures { λ r. ⌜ Sits (now (pages .entry)) r × (r .pages ≡ n) × (keysAt (now (pages .entry)) r ≡ entriesOf (pageOf (now (pages .entry)) (page .0)) ++ entriesFrom (now (pages .entry)) n (linkOf (pageOf (now (pages .entry)) (page .0)))) ⌝ }
+    ensures { λ r. ⌜ Sits (now (pages .entry)) r × (r .pages ≡ n) × (recordsAt (now (pages .entry)) r ≡ entriesOf (pageOf (now (pages .entry)) (page .0)) ++ entriesFrom (now (pages .entry)) n (linkOf (pageOf (now (pages .entry)) (page .0)))) ⌝ }
 {
     let first = page.0 as usize * PAGE_WORDS;
     let left = pages[first + COUNT_WORD];
@@ -69,10 +70,10 @@ pub fn first_place(pages: &[u32], page: PageAddress, n: u32) -> Place
     }
 }
 
-// The same place past the pages that have no key left.
+// The same place past the pages that have no record left.
 fn settled(pages: &[u32], p: Place) -> Place
     requires { ⌜ Sits (now pages) p ⌝ }
-    ensures { λ r. ⌜ Sits (now (pages .entry)) r × (keysAt (now (pages .entry)) r ≡ keysAt (now (pages .entry)) p) × (r .left ≡ 0 → keysAt (now (pages .entry)) r ≡ []) ⌝ }
+    ensures { λ r. ⌜ Sits (now (pages .entry)) r × (recordsAt (now (pages .entry)) r ≡ recordsAt (now (pages .entry)) p) × (r .left ≡ 0 → recordsAt (now (pages .entry)) r ≡ []) ⌝ }
 {
     let mut q = p;
     while q.left == 0 {
@@ -86,7 +87,7 @@ fn settled(pages: &[u32], p: Place) -> Place
 
 // One record further on the same page.
 fn passed(p: Place) -> Place
-    requires { ⌜ (1 ≤ p .left) × (p .at + 1 < 2 ^ 64) ⌝ }
+    requires { ⌜ (1 ≤ p .left) × (p .at + 2 < 2 ^ 64) ⌝ }
     ensures { λ r. ⌜ r ≡ onward p ⌝ }
 {
     let mut q = p;
@@ -105,7 +106,7 @@ fn stays(h: Halving, k: u32) -> bool
     home.0 == chain.0
 }
 
-// Whether a key of the chain is chosen.
+// Whether a record of the chain is chosen, by its key.
 fn keeps(c: Choice, k: u32) -> bool
     requires { ⌜ CanChoose c ⌝ }
     ensures { λ r. ⌜ r ≡ kept c k ⌝ }
@@ -119,10 +120,10 @@ fn keeps(c: Choice, k: u32) -> bool
     }
 }
 
-// The first of the keys from a place on and one more, x, which "goes before the first larger key", and the source of the others.
-fn next_with(pages: &[u32], x: u32, p: Place) -> Given
+// The first of the records from a place on and one more, x, which "goes before the first larger key", and the source of the others.
+fn next_with(pages: &[u32], x: Entry, p: Place) -> Given
     requires { ⌜ Sits (now pages) p ⌝ }
-    ensures { λ r. ⌜ Gives (now (pages .entry)) (chosen (Choice.With x) (keysAt (now (pages .entry)) p)) r ⌝ }
+    ensures { λ r. ⌜ Gives (now (pages .entry)) (chosen (Choice.With x) (recordsAt (now (pages .entry)) p)) r ⌝ }
 {
     let q = settled(pages, p);
     if q.left == 0 {
@@ -130,12 +131,15 @@ fn next_with(pages: &[u32], x: u32, p: Place) -> Given
     }
     let at = q.at;
     let k = pages[at];
-    if x < k {
+    if x.key < k {
         return before_all(x, q);
     }
     let further = passed(q);
     Given {
-        key: k,
+        entry: Entry {
+            key: k,
+            setting: pages[at + 1],
+        },
         source: Source {
             choice: Choice::With(x),
             place: further,
@@ -143,12 +147,12 @@ fn next_with(pages: &[u32], x: u32, p: Place) -> Given
     }
 }
 
-// The key x, and after it all keys from the place on.
-fn before_all(x: u32, p: Place) -> Given
+// The record x, and after it all records from the place on.
+fn before_all(x: Entry, p: Place) -> Given
     ensures { λ r. ⌜ r ≡ thenAll x p ⌝ }
 {
     Given {
-        key: x,
+        entry: x,
         source: Source {
             choice: Choice::All,
             place: p,
@@ -156,10 +160,10 @@ fn before_all(x: u32, p: Place) -> Given
     }
 }
 
-// The first key from a place on that is chosen, and the source of the others; there is no key in addition.
+// The first record from a place on that is chosen, and the source of the others; there is none in addition.
 fn next_kept(pages: &[u32], c: Choice, p: Place) -> Given
-    requires { ⌜ Sits (now pages) p × CanChoose c × (extraKeys c ≡ 0) × (1 ≤ length (chosen c (keysAt (now pages) p))) ⌝ }
-    ensures { λ r. ⌜ Gives (now (pages .entry)) (chosen c (keysAt (now (pages .entry)) p)) r ⌝ }
+    requires { ⌜ Sits (now pages) p × CanChoose c × (extraRecords c ≡ 0) × (1 ≤ length (chosen c (recordsAt (now pages) p))) ⌝ }
+    ensures { λ r. ⌜ Gives (now (pages .entry)) (chosen c (recordsAt (now (pages .entry)) p)) r ⌝ }
 {
     let mut q = p;
     loop {
@@ -169,7 +173,10 @@ fn next_kept(pages: &[u32], c: Choice, p: Place) -> Given
         q = passed(q);
         if keeps(c, k) {
             return Given {
-                key: k,
+                entry: Entry {
+                    key: k,
+                    setting: pages[at + 1],
+                },
                 source: Source {
                     choice: c,
                     place: q,
@@ -179,10 +186,10 @@ fn next_kept(pages: &[u32], c: Choice, p: Place) -> Given
     }
 }
 
-// The first of the keys chosen, and the source of the others.
+// The first of the records chosen, and the source of the others.
 pub fn next(pages: &[u32], s: Source) -> Given
-    requires { ⌜ Sits (now pages) (s .place) × CanChoose (s .choice) × (1 ≤ length (keysOf (now pages) s)) ⌝ }
-    ensures { λ r. ⌜ Gives (now (pages .entry)) (keysOf (now (pages .entry)) s) r ⌝ }
+    requires { ⌜ Sits (now pages) (s .place) × CanChoose (s .choice) × (1 ≤ length (chosenOf (now pages) s)) ⌝ }
+    ensures { λ r. ⌜ Gives (now (pages .entry)) (chosenOf (now (pages .entry)) s) r ⌝ }
 {
     let c = s.choice;
     let p = s.place;
@@ -192,9 +199,9 @@ pub fn next(pages: &[u32], s: Source) -> Given
     }
 }
 
-// How many keys come in addition.
-fn extra_keys(c: Choice) -> u32
-    ensures { λ r. ⌜ r ≡ extraKeys c ⌝ }
+// How many records come in addition.
+fn extra_records(c: Choice) -> u32
+    ensures { λ r. ⌜ r ≡ extraRecords c ⌝ }
 {
     match c {
         Choice::With(_) => 1,
@@ -202,14 +209,14 @@ fn extra_keys(c: Choice) -> u32
     }
 }
 
-// How many keys are chosen.
+// How many records are chosen.
 pub fn count(pages: &[u32], s: Source) -> u32
     requires { ⌜ Sits (now pages) (s .place) × CanChoose (s .choice) ⌝ }
-    ensures { λ r. ⌜ r ≡ length (keysOf (now (pages .entry)) s) ⌝ }
+    ensures { λ r. ⌜ r ≡ length (chosenOf (now (pages .entry)) s) ⌝ }
 {
     let c = s.choice;
     let mut p = settled(pages, s.place);
-    let mut sum = extra_keys(c);
+    let mut sum = extra_records(c);
     while 0 < p.left {
         let at = p.at;
         let k = pages[at];

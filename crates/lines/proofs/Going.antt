@@ -8,7 +8,7 @@ use native.Mathlib.Omega.{arith}
 use lib.ListN.{length, take, drop, set, length-set, length-append, length-drop}
 use lib.Seq.{sets, sets-eq, length-sets, take-suc-set, take-at, length-take-le, drop-drop}
 use Rattle.model.specs.Memory.{Memory}
-use Rattle.model.specs.Calls.{Called, called}
+use Rattle.model.specs.Calls.{called}
 use Rattle.model.proofs.Laws.Lists.{cond-true, le-leb}
 use Rattle.forms.specs.Replies.{replyText}
 use Rattle.forms.specs.Printing.{longestReply, given}
@@ -41,19 +41,19 @@ module _ (text : List ℕ) (m₀ : Memory) (n : ℕ) (m : Memory) (out : List �
   abbrev pub givenAt : List ℕ
   givenAt = given (length out) end longestReply replyAt
 
-  given-all : end + 48 ≤ n → givenAt ≡ replyAt
+  given-all : end + 58 ≤ n → givenAt ≡ replyAt
   unfolding given
   given-all h = cond-true _ replyAt [] (le-leb (end + longestReply) (length out) (omega (arith, g .long)))
 
   -- Where the newline after the reply stands.
-  pub end-below : (e : ℕ) → end + 48 ≤ n → e ≡ end + length givenAt → e < n
+  pub end-below : (e : ℕ) → end + 58 ≤ n → e ≡ end + length givenAt → e < n
   end-below e h q =
       let short = reply-short (lineAnswered lineAt m .answer) in
       let as-given = ap (λ (l : List ℕ). length l) (given-all h) in
       omega (arith, h, q, short, as-given)
 
   -- The replies with one more, and its newline.
-  one-more : (e : ℕ) (next : List ℕ) → end + 48 ≤ n → e ≡ end + length givenAt → next ≡ sets out end givenAt → take (e + 1) (set next e newline) ≡ take end out ++ (replyAt ++ (newline ∷ []))
+  one-more : (e : ℕ) (next : List ℕ) → end + 58 ≤ n → e ≡ end + length givenAt → next ≡ sets out end givenAt → take (e + 1) (set next e newline) ≡ take end out ++ (replyAt ++ (newline ∷ []))
   one-more e next h q w =
       let short = reply-short (lineAnswered lineAt m .answer) in
       let all = given-all h in
@@ -80,7 +80,7 @@ module _ (text : List ℕ) (m₀ : Memory) (n : ℕ) (m : Memory) (out : List �
       ∙ ap (λ (k : ℕ). thenText (take k u) (drop (suc (lineLength u)) u ++ t) m) l-is
       ∙ ap (λ (v : List ℕ). thenText lineAt (v ++ t) m) (drop-drop (suc (lineLength u)) from text ∙ ap (λ (k : ℕ). drop k text) behind)
 
-  pub going-on : (m′ : Memory) (next : List ℕ) (e to′ : ℕ) → to < length text → end + 48 ≤ n → m′ ≡ lineAnswered lineAt m .memory → next ≡ sets out end givenAt → e ≡ end + length givenAt
+  pub going-on : (m′ : Memory) (next : List ℕ) (e to′ : ℕ) → to < length text → end + 58 ≤ n → m′ ≡ lineAnswered lineAt m .memory → next ≡ sets out end givenAt → e ≡ end + length givenAt
       → to′ ≡ to + 1 + lineLength (drop (to + 1) text) → Going text m₀ n m′ (set next e newline) (to + 1) (e + 1) to′
   going-on m′ next e to′ h room em w q et =
       record {
@@ -99,10 +99,10 @@ module _ (text : List ℕ) (m₀ : Memory) (n : ℕ) (m : Memory) (out : List �
       }
 
   -- Where no line was answered, there was no room for a reply, or no whole line.
-  pub stopped-full : n - end < 48 → from ≡ 0 → 48 ≤ n → lineLength text ≡ length text
+  pub stopped-full : n - end < 58 → from ≡ 0 → 58 ≤ n → lineLength text ≡ length text
   stopped-full h z room = let none = g .empty z in absurd (lt-irrefl 0 (omega (arith, room, none, h)))
 
-  pub stopped-whole : length text ≤ to → from ≡ 0 → 48 ≤ n → lineLength text ≡ length text
+  pub stopped-whole : length text ≤ to → from ≡ 0 → 58 ≤ n → lineLength text ≡ length text
   stopped-whole h z room =
       let most = length-most text in
       let ends : to ≡ 0 + lineLength (drop 0 text) = subst (λ (k : ℕ). to ≡ k + lineLength (drop k text)) z (g .ends) in

@@ -1,9 +1,9 @@
 -- Lines longer than every form: they are not read, so that of an unfinished one no more than a form's bytes and one has to be kept.
 -- Main statements: form-line-short, long-unread, long-alike (which long line is under way makes no difference), cut-alike (a long line cut).
-use mathlib.Core.Path.{_≡_, refl, sym, _∙_, ap, subst}
+use mathlib.Core.Path.{_≡_, refl, sym, _∙_, ap}
 use mathlib.Core.Bool.{Bool, true, false, cond}
 use mathlib.Core.List.{List, [], _∷_, _++_}
-use Prim.Native.Nat.{ℕ, suc, _+_, _<_, _≤_}
+use Prim.Native.Nat.{ℕ, _+_, _<_, _≤_}
 use native.Mathlib.Nat.{lt-irrefl}
 use native.Mathlib.Omega.{arith}
 use lib.ListN.{length, take, length-append}
@@ -14,7 +14,7 @@ use Rattle.model.specs.Memory.{Memory}
 use Rattle.model.specs.Calls.{Called, called}
 use Rattle.model.proofs.Laws.Lists.{eqb-same, eqb-diff}
 use Rattle.patterns.specs.Patterns.{hole}
-use Rattle.patterns.specs.Grammar.{Numeral, Derives, end, byte, number}
+use Rattle.patterns.specs.Grammar.{Derives, end, byte, number}
 use Rattle.patterns.proofs.Theorems.{longest}
 use Rattle.forms.specs.declared.Form.{Form}
 use Rattle.forms.specs.declared.Form.the-variants as Form
@@ -40,7 +40,7 @@ pub form-line-short : (f : Form) (line : List ℕ) → FormLine f line → lengt
 unfolding FormLine formPattern longest
 form-line-short (Form.Format s) line d = derived-short d
 form-line-short (Form.Begin q Operation.Find k) line d = omega (arith, derived-short d)
-form-line-short (Form.Begin q Operation.Insert k) line d = omega (arith, derived-short d)
+form-line-short (Form.Begin q (Operation.Insert x) k) line d = omega (arith, derived-short d)
 form-line-short (Form.Begin q Operation.Delete k) line d = omega (arith, derived-short d)
 form-line-short (Form.Step q) line d = omega (arith, derived-short d)
 

@@ -1,9 +1,8 @@
 -- A line of turns and all memory, taken to the reply and all memory afterwards (document 01, "The turns program").
 -- Main definitions: onWords (a call lent the first words alone), performed (a form), lineAnswered (a line).
 use mathlib.Core.List.{List, _++_}
-use Prim.Native.Nat.{ℕ, _+_, _*_}
+use Prim.Native.Nat.{ℕ, _+_}
 use lib.ListN.{take, drop}
-use Rattle.model.specs.declared.FileSizes.{FileSizes}
 use Rattle.model.specs.declared.Root.{Root}
 use Rattle.model.specs.Sizes.{lockWords, allPageWords}
 use Rattle.model.specs.Records.{rootSized}

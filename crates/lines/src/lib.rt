@@ -204,7 +204,7 @@ pub fn answer_lines(
 ) -> Lines
     ensures { λ r. ⌜ (r .from ≤ length (now (text .entry))) × (r .end ≤ length (now (out .exit))) ⌝ }
     ensures { λ r. ⌜ ((t : List ℕ) → textAnswered [] (now (text .entry) ++ t) (memoryOf held (now (locks .entry)) (now (pages .entry))) ≡ printedBefore (take (r .end) (now (out .exit))) (textAnswered [] (drop (r .from) (now (text .entry)) ++ t) (memoryOf (r .held) (now (locks .exit)) (now (pages .exit))))) ⌝ }
-    ensures { λ r. ⌜ (r .from ≡ 0 → 48 ≤ length (now (out .entry)) → lineLength (now (text .entry)) ≡ length (now (text .entry))) ⌝ }
+    ensures { λ r. ⌜ (r .from ≡ 0 → 58 ≤ length (now (out .entry)) → lineLength (now (text .entry)) ≡ length (now (text .entry))) ⌝ }
 {
     let mut held = held;
     let mut from = 0;

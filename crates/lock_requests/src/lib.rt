@@ -11,7 +11,7 @@ ghost use Rattle.model.specs.Records.{atStep};
 ghost use Rattle.model.specs.LockWords as LockWords;
 ghost use Rattle.model.specs.LockWords.{claim};
 ghost use Rattle.model.specs.LockRequests as LockRequests;
-ghost use Rattle.records.specs.Words.{recordWords, partyIn, seen, left};
+ghost use Rattle.records.specs.Words.{partyWords, partyIn, seen, left};
 ghost use Rattle.lock_requests.specs.Words.{leftAfter, CanLock};
 use model::ChainAddress;
 use model::DAMAGE;
@@ -37,7 +37,7 @@ pub fn chain_word(c: ChainAddress) -> u32
 
 // The mode in which an operation locks its chain: "read for find, selective otherwise".
 pub fn mode_of(party: &[u32]) -> Mode
-    requires { ⌜ length (now party) ≡ recordWords ⌝ }
+    requires { ⌜ length (now party) ≡ partyWords ⌝ }
     ensures { λ r. ⌜ r ≡ LockRequests.modeOf (partyIn (now (party .entry))) ⌝ }
 {
     if party[OPERATION] == FIND {
@@ -56,7 +56,7 @@ pub fn request_step(
     mode: Mode,
     k: u32,
 ) -> StepAnswer
-    requires { ⌜ (length (now party) ≡ recordWords) × (word < length (now locks)) × (q < 16) ⌝ }
+    requires { ⌜ (length (now party) ≡ partyWords) × (word < length (now locks)) × (q < 16) ⌝ }
     ensures { λ a. ⌜ ((r : Root) (ps : List ℕ) → left a r (now (party .exit)) q (now (locks .exit)) ps ≡ LockRequests.request (seen r (now (party .entry)) q (now (locks .entry)) ps) (claim word mode) (atStep k (partyIn (now (party .entry))))) ⌝ }
 {
     if lock_words::request(locks, word as usize, q, mode) {
@@ -100,7 +100,7 @@ pub fn release_step(
     mode: Mode,
     k: u32,
 ) -> StepAnswer
-    requires { ⌜ (length (now party) ≡ recordWords) × (word < length (now locks)) × (q < 16) ⌝ }
+    requires { ⌜ (length (now party) ≡ partyWords) × (word < length (now locks)) × (q < 16) ⌝ }
     ensures { λ a. ⌜ ((r : Root) (ps : List ℕ) → left a r (now (party .exit)) q (now (locks .exit)) ps ≡ LockRequests.release (seen r (now (party .entry)) q (now (locks .entry)) ps) (claim word mode ∷ []) (atStep k (partyIn (now (party .entry))))) ⌝ }
 {
     if give_up(locks, word, q, mode) {

@@ -1,6 +1,6 @@
--- The keys chosen of a chain that was looked through whole.
--- Main statements: chosen-few (how many keys there are at most), chain-level, can-start and keys-chosen (the keys can be read
--- from the primary page on); one-fewer (how many keys there are without one); made-with, made-without (they are what the operation makes of the chain).
+-- The records chosen of a chain that was looked through whole.
+-- Main statements: chosen-few (how many records there are at most), chain-level, can-start and records-chosen (the records can be read
+-- from the primary page on); one-fewer (how many records there are without one); made-with, made-without (they are what the operation makes of the chain).
 use mathlib.Core.Path.{_≡_, refl, ap, _∙_}
 use mathlib.Core.Bool.{true, false}
 use mathlib.Core.List.{List, _++_}
@@ -11,7 +11,8 @@ use lib.ListN.{length, take, drop, length-append, length-drop}
 use lib.Seq.{length-take-le}
 use Rattle.model.specs.declared.Root.{Root}
 use Rattle.model.specs.Sizes.{mostRecords}
-use Rattle.model.specs.Entries.{Entry, hasKey}
+use Rattle.model.specs.declared.Entry.{Entry}
+use Rattle.model.specs.Entries.{entryOf, hasKey}
 use Rattle.model.specs.Pages.{pageOf, levelOf, linkOf, entriesOf}
 use Rattle.model.specs.Chains.{sound, Chain, readChain, chainOf}
 use Rattle.model.specs.Steps.Rebuild.{changed, changeOf}
@@ -22,7 +23,7 @@ use Rattle.chain_keys.proofs.WholeChain.{chain-reads, sound-ascends}
 use Rattle.key_source.specs.declared.Place.{Place}
 use Rattle.key_source.specs.declared.Choice.{Choice}
 use Rattle.key_source.specs.declared.Choice.the-variants.{With, Without}
-use Rattle.key_source.specs.Sources.{keysAt, CanStart, chosen, keysOf}
+use Rattle.key_source.specs.Sources.{recordsAt, CanStart, chosen, chosenOf}
 use Rattle.key_source.proofs.Places.{chain-starts, chain-records}
 use Rattle.key_source.proofs.Choices.{most-chosen}
 use Rattle.chain_change.specs.Changing.{changedAnswer, CanChange}
@@ -35,7 +36,7 @@ module _ (r : Root) (q c : ℕ) (ps : List ℕ) (can : CanChange r q c ps) (d : 
   starts : CanStart ps c (length (d .pages))
   starts = chain-starts r ps c (can .keys-fit) (can .overflow-fits) record { chain-fits = can .chain-fits; pages-fit = can .pages-fit } d found
 
-  pub chosen-few : (choice : Choice) → length (chosen choice (d .entries)) ≤ 9037
+  pub chosen-few : (choice : Choice) → length (chosen choice (d .entries)) ≤ 4519
   chosen-few choice =
       let few : length (d .pages) + 1 ≤ 753 = omega (arith, starts .few-pages) in
       let most : (length (d .pages) + 1) * r .capacity ≤ 753 * mostRecords = mul-le-mul few (can .keys-fit) in
@@ -50,16 +51,16 @@ module _ (r : Root) (q c : ℕ) (ps : List ℕ) (can : CanChange r q c ps) (d : 
     pub can-start : CanStart ps c n
     can-start = rw many starts
 
-    keys-are : entriesOf (pageOf ps c) ++ entriesFrom ps n (linkOf (pageOf ps c)) ≡ d .entries
-    keys-are = rw many (chain-records r ps c (can .keys-fit) (can .overflow-fits) record { chain-fits = can .chain-fits; pages-fit = can .pages-fit } d found)
+    records-are : entriesOf (pageOf ps c) ++ entriesFrom ps n (linkOf (pageOf ps c)) ≡ d .entries
+    records-are = rw many (chain-records r ps c (can .keys-fit) (can .overflow-fits) record { chain-fits = can .chain-fits; pages-fit = can .pages-fit } d found)
 
-    -- The keys of a source that starts at the primary page.
-    pub keys-chosen : (choice : Choice) (p : Place) → keysAt ps p ≡ entriesOf (pageOf ps c) ++ entriesFrom ps n (linkOf (pageOf ps c))
-        → keysOf ps (record { choice = choice; place = p }) ≡ chosen choice (d .entries)
-    unfolding keysOf
-    keys-chosen choice p e = ap (chosen choice) (e ∙ keys-are)
+    -- The records of a source that starts at the primary page.
+    pub records-chosen : (choice : Choice) (p : Place) → recordsAt ps p ≡ entriesOf (pageOf ps c) ++ entriesFrom ps n (linkOf (pageOf ps c))
+        → chosenOf ps (record { choice = choice; place = p }) ≡ chosen choice (d .entries)
+    unfolding chosenOf
+    records-chosen choice p e = ap (chosen choice) (e ∙ records-are)
 
-  -- One key fewer, where the key is there.
+  -- One record fewer, where the key is there.
   pub one-fewer : (k : ℕ) → hasKey k (d .entries) ≡ true → length (chosen (Without k) (d .entries)) ≡ length (d .entries) - 1
   unfolding chosen
   one-fewer k has =
@@ -73,11 +74,11 @@ module _ (r : Root) (q c : ℕ) (ps : List ℕ) (can : CanChange r q c ps) (d : 
 
 -- ---- What the operation makes of a chain
 
-module _ (operation k : ℕ) (es : List Entry) where
-  pub made-with : operation ≡ 2 → hasKey k es ≡ false → changed (changedAnswer operation) (chosen (With k) es) ≡ changeOf operation k es
+module _ (operation k x : ℕ) (es : List Entry) where
+  pub made-with : operation ≡ 2 → hasKey k es ≡ false → changed (changedAnswer operation) (chosen (With (entryOf k x)) es) ≡ changeOf operation k x es
   unfolding chosen
-  made-with e h = key-inserted operation k es e h
+  made-with e h = key-inserted operation k x es e h
 
-  pub made-without : (operation ≡ 2 → ⊥) → hasKey k es ≡ true → changed (changedAnswer operation) (chosen (Without k) es) ≡ changeOf operation k es
+  pub made-without : (operation ≡ 2 → ⊥) → hasKey k es ≡ true → changed (changedAnswer operation) (chosen (Without k) es) ≡ changeOf operation k x es
   unfolding chosen
-  made-without e h = key-deleted operation k es e h
+  made-without e h = key-deleted operation k x es e h

@@ -1,5 +1,5 @@
 -- Step 10 on a chain of any length: what its functions may take for granted.
--- Main definitions: CanChangeLooked (the chain was looked through), CanWriteMany (the keys of the new chain are counted).
+-- Main definitions: CanChangeLooked (the chain was looked through), CanWriteMany (the records of the new chain are counted).
 use mathlib.Core.Path.{_≡_}
 use mathlib.Core.List.{List}
 use Prim.Native.Nat.{ℕ}
@@ -20,7 +20,7 @@ pub record CanChangeLooked (r : Root) (p : Party) (q : ℕ) (l : Looked) (ps : L
   pub can-change : CanChange r q (p .chain) ps
   pub looked-through : Scan.Sound l ≡ scanned (p .key) (chainOf r ps (p .chain))
 
--- The party's chain has n overflow pages; the operation makes the keys chosen of it, m of them.
+-- The party's chain has n overflow pages; the operation makes the records chosen of it, m of them.
 pub record CanWriteMany (r : Root) (p : Party) (q n : ℕ) (choice : Choice) (m : ℕ) (ps : List ℕ) : Type 0 where
   pub can-change : CanChange r q (p .chain) ps
   pub chain : Chain
@@ -28,4 +28,4 @@ pub record CanWriteMany (r : Root) (p : Party) (q n : ℕ) (choice : Choice) (m 
   pub pages : n ≡ length (chain .pages)
   pub can-choose : CanChoose choice
   pub many : length (chosen choice (chain .entries)) ≡ m
-  pub made : changed (changedAnswer (p .operation)) (chosen choice (chain .entries)) ≡ changeOf (p .operation) (p .key) (chain .entries)
+  pub made : changed (changedAnswer (p .operation)) (chosen choice (chain .entries)) ≡ changeOf (p .operation) (p .key) (p .setting) (chain .entries)

@@ -21,6 +21,7 @@ use free_list::Drawn;
 use key_source::Choice;
 use key_source::Source;
 use model::ChainAddress;
+use model::Entry;
 use model::INSERT;
 use model::NO_PAGE;
 use model::PAGE_WORDS;
@@ -36,7 +37,7 @@ fn level_at(pages: &[u32], p: PageAddress) -> u32
     pages[p.0 as usize * PAGE_WORDS]
 }
 
-// The chosen keys, m of them, in new pages, for a chain that had n overflow pages. "if fewer pages are free than the new chain needs, the answer is no page".
+// The chosen records, m of them, in new pages, for a chain that had n overflow pages. "if fewer pages are free than the new chain needs, the answer is no page".
 fn write_many(
     root: Root,
     party: Party,
@@ -86,15 +87,11 @@ fn change_looked(root: Root, party: Party, q: u32, l: Looked, pages: &mut [u32])
         if l.found {
             return Changed::Kept(chain_change::kept_answer(party.operation));
         }
-        return write_many(
-            root,
-            party,
-            q,
-            l.pages,
-            Choice::With(party.key),
-            l.count + 1,
-            pages,
-        );
+        let e = Entry {
+            key: party.key,
+            setting: party.setting,
+        };
+        return write_many(root, party, q, l.pages, Choice::With(e), l.count + 1, pages);
     }
     if !l.found {
         return Changed::Kept(chain_change::kept_answer(party.operation));

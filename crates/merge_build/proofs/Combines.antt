@@ -1,5 +1,5 @@
 -- Step 26 by its cases: which test refuses it or ends the operation, and what it leaves where none does.
--- Main statements: front-need; too-few-skipped, unbuilt-damaged, built-made (the joined keys in new pages); barred-refused, unsound-damaged, sound-combines, open-joins,
+-- Main statements: front-need; too-few-skipped, unbuilt-damaged, built-made (the joined records in new pages); barred-refused, unsound-damaged, sound-combines, open-joins,
 -- ending-is (the step);
 -- can-join, ready-can-merge, still-at-hand (what each part needs).
 use mathlib.Core.Path.{_≡_, refl, sym, ap, ap₂, _∙_}
@@ -12,9 +12,9 @@ use lib.Seq.{length-take-le}
 use borrow.Author.Tests.{lt-ltb, le-ltb}
 use Rattle.model.specs.declared.Root.{Root}
 use Rattle.model.specs.declared.Party.{Party}
-use Rattle.model.specs.Sizes.{pageWords, mostRecords}
-use Rattle.model.specs.Entries.{Entry}
-use Rattle.model.specs.Pages.{withPage, scratchPage}
+use Rattle.model.specs.declared.Entry.{Entry}
+use Rattle.model.specs.Sizes.{pageWords, mostRecords, recordWords}
+use Rattle.model.specs.Pages.{recordsIn, withPage, scratchPage}
 use Rattle.model.specs.Chains.{Checked, damaged, sound}
 use Rattle.model.specs.Filling.{overflowNeeded, pagesFor, primaryOf, overflowWritten}
 use Rattle.model.specs.FreeList.{Taken, tooFew, pagesTaken, rootAfterTaking}
@@ -22,7 +22,7 @@ use Rattle.model.specs.Outcome.{View, Outcome, refuse, damage, checked}
 use Rattle.model.specs.Ready.{Ready, viewing}
 use Rattle.model.specs.Steps.MergeBuild.{Pair, joinedEntries, mergeGoes, combined, combineWith, step26}
 use Rattle.model.specs.Steps.MergeLocks.{mergeStops}
-use Rattle.model.proofs.Laws.Lists.{front-part}
+use Rattle.model.proofs.Laws.RecordWords.{length-records, records-front}
 use Rattle.records.specs.Words.{AtHand}
 use Rattle.free_list.specs.declared.Drawn.{Drawn}
 use Rattle.free_list.specs.declared.Drawn.the-variants as Drawn
@@ -33,12 +33,13 @@ use Rattle.merge_build.specs.declared.Combined.{Combined}
 use Rattle.merge_build.specs.declared.Combined.the-variants as Combined
 use Rattle.merge_build.specs.Combining.{endingAs, joinedWith, joinedBoth, CanMerge, BothWalked}
 
--- ---- The joined keys es in new pages
+-- ---- The joined records es in new pages
 
--- The n keys at the front of a buffer, as they are lent, need as many pages as n keys.
-pub front-need : (b n : ℕ) (xs : List ℕ) {k : ℕ} → n ≤ length xs → k ≡ overflowNeeded b n → k ≡ pagesFor b (take (n - 0) xs)
+-- The n records at the front of a buffer, as they are lent, need as many pages as n records.
+pub front-need : (b n : ℕ) (xs : List ℕ) {k : ℕ} → n * recordWords ≤ length xs → k ≡ overflowNeeded b n → k ≡ pagesFor b (recordsIn (take (n * recordWords - 0) xs))
 unfolding pagesFor
-front-need b n xs h e = e ∙ ap (overflowNeeded b) (sym (ap length (front-part n xs) ∙ length-take-le n xs h))
+front-need b n xs h e =
+    e ∙ ap (overflowNeeded b) (sym (ap length (records-front n xs) ∙ length-take-le n (recordsIn xs) (omega (arith, length-records xs, h))))
 
 module _ (r : Root) (p : Party) (q : ℕ) (ls ps : List ℕ) {d : Drawn} {ps′ : List ℕ} where
   -- Nothing was written where no pages could be taken.
@@ -116,7 +117,7 @@ ending-is q ls ps ps′ er ep ex goes e = (rw (er, ep, ex) at e) ∙ open-joins 
 
 -- The buffers have room for what was walked.
 pub can-join : (r : Root) (p : Party) (q n m : ℕ) (ps a b out : List ℕ) → CanMerge r p q ps → BothWalked r p n m ps
-    → mostRecords * (n + 1) ≤ length a → mostRecords * (m + 1) ≤ length b → length a + length b ≤ length out → length out < 2 ^ 32 → CanJoin r p n m ps a b out
+    → mostRecords * recordWords * (n + 1) ≤ length a → mostRecords * recordWords * (m + 1) ≤ length b → length a + length b ≤ length out → length out < 2 ^ 32 → CanJoin r p n m ps a b out
 can-join r p q n m ps a b out can walks target-room partner-room out-room few = record {
   target = record { can-walk = can .target; keys-fit = can .can-build .keys-fit; walked = walks .target-walked; has-room = target-room };
   partner = record { can-walk = can .partner; keys-fit = can .can-build .keys-fit; walked = walks .partner-walked; has-room = partner-room };

@@ -2,11 +2,12 @@
 -- Main definitions: endingAs (what the step then leaves), joinedWith and joinedBoth (the model's step once a merge is not barred); CanCombine, CanMerge, BothWalked.
 use mathlib.Core.Path.{_≡_}
 use mathlib.Core.List.{List}
-use Prim.Native.Nat.{ℕ, _^_, _≤_, _<_}
+use Prim.Native.Nat.{ℕ, _*_, _^_, _≤_, _<_}
 use lib.ListN.{length}
 use Rattle.model.specs.declared.Root.{Root}
 use Rattle.model.specs.declared.Party.{Party}
 use Rattle.model.specs.declared.Restructuring.the-variants as Restructuring
+use Rattle.model.specs.Sizes.{recordWords}
 use Rattle.model.specs.Records.{atStep, withOld, withFreeList}
 use Rattle.model.specs.Chains.{Checked}
 use Rattle.model.specs.Outcome.{View, Outcome, withRoot, withParty, refuse, damage, moved, checked}
@@ -36,11 +37,11 @@ joinedWith v x = checked v x (λ m. combineWith v m)
 abbrev pub joinedBoth : View → Outcome
 joinedBoth v = joinedWith v (pairOf (v .root) (v .pages) (v .party .chain) (v .party .other))
 
--- The sizes are within their limits, the keys joined stand in the buffer, and there is room for every overflow page.
+-- The sizes are within their limits, the records joined stand in the buffer, and there is room for every overflow page.
 pub record CanCombine (r : Root) (q : ℕ) (j : Front) (ps out taken : List ℕ) : Type 0 where
   pub can-build : CanBuild r q ps
   pub some-key : 1 ≤ r .capacity
-  pub fits : j .count ≤ length out
+  pub fits : j .count * recordWords ≤ length out
   pub few : length out < 2 ^ 32
   pub taken-room : 752 ≤ length taken
 

@@ -1,4 +1,4 @@
-// Step 26, inside a delete (document 01, "The thirty steps"): the keys of target and partner are joined in new pages.
+// Step 26, inside a delete (document 01, "The thirty steps"): the records of target and partner are joined in new pages.
 // Main statement: step_26 is the model's step26, for every word that the memory may hold.
 
 ghost use mathlib.Core.Path.{_≡_};
@@ -6,9 +6,10 @@ ghost use mathlib.Core.List.{List};
 ghost use Prim.Native.Nat.{ℕ, _+_, _<_};
 ghost use lib.ListN.{length, take};
 ghost use Rattle.model.specs.declared.Party.{Party};
+ghost use Rattle.model.specs.Pages.{recordsIn};
 ghost use Rattle.model.specs.Ready.{viewing};
 ghost use Rattle.model.specs.Steps.MergeBuild as MergeBuild;
-ghost use Rattle.records.specs.Words.{recordWords, rootIn, seen, left, AtHand};
+ghost use Rattle.records.specs.Words.{rootWords, rootIn, seen, left, AtHand};
 ghost use Rattle.merge_join.specs.Joining.{frontOfBoth};
 ghost use Rattle.merge_build.specs.Combining.{endingAs, joinedBoth, CanCombine, CanMerge, BothWalked};
 use chain_keys::Front;
@@ -22,6 +23,7 @@ use model::MOST_PRIMARIES;
 use model::MOST_RECORDS;
 use model::Mode;
 use model::Party;
+use model::RECORD_WORDS;
 use model::Restructuring;
 use model::Root;
 use model::StepAnswer;
@@ -36,7 +38,7 @@ enum Combined {
     Made(u32, u32, u32),
 }
 
-// The keys joined at the front of `out` go into new pages, at the target's local level. "too few free: take none".
+// The records joined at the front of `out` go into new pages, at the target's local level. "too few free: take none".
 fn combine_with(
     root: Root,
     q: u32,
@@ -46,14 +48,15 @@ fn combine_with(
     taken: &mut [u32],
 ) -> Combined
     requires { ⌜ CanCombine root q j (now pages) (now out) (now taken) ⌝ }
-    ensures { λ r. ⌜ ((p : Party) (ls : List ℕ) (m : MergeBuild.Pair) → j ≡ frontOfBoth m → take (j .count) (now (out .entry)) ≡ MergeBuild.joinedEntries m → endingAs r (viewing root p q ls (now (pages .exit))) ≡ MergeBuild.combineWith (viewing root p q ls (now (pages .entry))) m) ⌝ }
+    ensures { λ r. ⌜ ((p : Party) (ls : List ℕ) (m : MergeBuild.Pair) → j ≡ frontOfBoth m → take (j .count) (recordsIn (now (out .entry))) ≡ MergeBuild.joinedEntries m → endingAs r (viewing root p q ls (now (pages .exit))) ≡ MergeBuild.combineWith (viewing root p q ls (now (pages .entry))) m) ⌝ }
 {
     let total = j.count;
     let k = filling::pages_for(root.capacity, total);
     if (root.free as usize) < k {
         return Combined::Skipped;
     }
-    match merge_chain::build_chain(root, q, j.level, &out[0..total], k, pages, taken) {
+    let end = total * RECORD_WORDS;
+    match merge_chain::build_chain(root, q, j.level, &out[0..end], k, pages, taken) {
         Drawn::Damaged => Combined::Damaged,
         Drawn::Head(head) => {
             let left = root.free - k as u32;
@@ -62,7 +65,7 @@ fn combine_with(
     }
 }
 
-// Step 26 on two chains of few pages: at most nine pages of twelve keys each. All keys are gathered before a word is written.
+// Step 26 on two chains of few pages: at most nine pages of twelve record words each. All records are gathered before a word is written.
 fn combine_few(root: Root, party: Party, q: u32, n: u32, m: u32, pages: &mut [u32]) -> Combined
     requires { ⌜ (CanMerge root party q (now pages)) × (BothWalked root party n m (now pages)) × (n + m < 9) ⌝ }
     ensures { λ r. ⌜ ((ls : List ℕ) → endingAs r (viewing root party q ls (now (pages .exit))) ≡ joinedBoth (viewing root party q ls (now (pages .entry)))) ⌝ }
@@ -113,7 +116,7 @@ fn combine_walked(root: Root, party: Party, q: u32, n: u32, m: u32, pages: &mut 
     }
 }
 
-// Both chains are walked to their ends, and their keys joined in new pages.
+// Both chains are walked to their ends, and their records joined in new pages.
 fn combine_both(root: Root, party: Party, q: u32, pages: &mut [u32]) -> Combined
     requires { ⌜ CanMerge root party q (now pages) ⌝ }
     ensures { λ r. ⌜ ((ls : List ℕ) → endingAs r (viewing root party q ls (now (pages .exit))) ≡ joinedBoth (viewing root party q ls (now (pages .entry)))) ⌝ }
@@ -163,7 +166,7 @@ pub fn step_26(
     locks: &mut [u32],
     pages: &mut [u32],
 ) -> StepAnswer
-    requires { ⌜ (length (now root) ≡ recordWords) × AtHand (rootIn (now root)) (now party) q (now locks) (now pages) ⌝ }
+    requires { ⌜ (length (now root) ≡ rootWords) × AtHand (rootIn (now root)) (now party) q (now locks) (now pages) ⌝ }
     ensures { λ a. ⌜ left a (rootIn (now (root .exit))) (now (party .exit)) q (now (locks .exit)) (now (pages .exit)) ≡ MergeBuild.step26 (seen (rootIn (now (root .entry))) (now (party .entry)) q (now (locks .entry)) (now (pages .entry))) ⌝ }
 {
     let r = records::root_of(&root[..]);

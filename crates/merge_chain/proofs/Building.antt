@@ -4,7 +4,7 @@ use mathlib.Core.Path.{_≡_, refl}
 use mathlib.Core.List.{List}
 use Prim.Native.Nat.{ℕ}
 use Rattle.model.specs.declared.Root.{Root}
-use Rattle.model.specs.Entries.{Entry}
+use Rattle.model.specs.declared.Entry.{Entry}
 use Rattle.model.specs.Pages.{withPage, scratchPage}
 use Rattle.model.specs.Chains.{damaged, sound}
 use Rattle.model.specs.Filling.{pagesFor, primaryOf, overflowWritten}

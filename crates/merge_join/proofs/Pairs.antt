@@ -4,14 +4,18 @@
 use mathlib.Core.Path.{_≡_, refl, sym, ap, ap₂, _∙_}
 use mathlib.Core.Bool.{Bool, true, false, not}
 use mathlib.Core.List.{List}
-use Prim.Native.Nat.{ℕ, _+_, _-_, _≤_}
+use Prim.Native.Nat.{ℕ, _+_, _-_, _*_, _≤_}
 use native.Mathlib.Omega.{arith}
 use lib.ListN.{length, take, length-take}
 use lib.Seq.{length-take-le}
 use Rattle.model.specs.declared.Root.{Root}
-use Rattle.model.specs.Entries.{Entry, joined, sharesKey}
+use Rattle.model.specs.declared.Entry.{Entry}
+use Rattle.model.specs.Entries.{joined, sharesKey}
+use Rattle.model.specs.Sizes.{recordWords}
+use Rattle.model.specs.Pages.{recordsIn}
 use Rattle.model.specs.Chains.{Checked, damaged, sound, andThen, Chain, chainOf}
 use Rattle.model.specs.Steps.MergeBuild.{Pair, pairOf, joinedEntries}
+use Rattle.model.proofs.Laws.RecordWords.{length-records}
 use Rattle.chain_keys.specs.declared.Front.{Front}
 use Rattle.chain_keys.specs.declared.Gathered.{Gathered}
 use Rattle.chain_keys.specs.declared.Gathered.the-variants as Gathered
@@ -45,9 +49,9 @@ module _ (r : Root) (ps : List ℕ) (c o : ℕ) where
       unfolding pairOf
       pair-sound e = rw (target, partner, e) refl
 
--- Both were gathered, and their keys joined where none is in both.
+-- Both were gathered, and their records joined where no key is in both.
 module _ (r : Root) (ps : List ℕ) (c o : ℕ) {n m : ℕ} (g h : Front) (a b : List ℕ) (target : Whole (chainOf r ps c) n g a) (partner : Whole (chainOf r ps o) m h b) where
-  module _ {ok : Bool} (told : ok ≡ not (sharesKey (take (g .count - 0) a) (take (h .count - 0) b))) where
+  module _ {ok : Bool} (told : ok ≡ not (sharesKey (recordsIn (take (g .count * recordWords - 0) a)) (recordsIn (take (h .count * recordWords - 0) b)))) where
     both : Pair
     both = record { target = target .chain; partner = partner .chain }
 
@@ -57,25 +61,25 @@ module _ (r : Root) (ps : List ℕ) (c o : ℕ) {n m : ℕ} (g h : Front) (a b :
     pub pair-damaged : ok ≡ false → pairOf r ps c o ≡ damaged
     pair-damaged e = shared-damaged r ps c o (target .chain) (target .is-sound) (partner .chain) (partner .is-sound) (sym told-of-chains ∙ e)
 
-    module _ (e : ok ≡ true) (out : List ℕ) (join : ok ≡ true → take (length (take (g .count - 0) a) + length (take (h .count - 0) b)) out ≡ joined (take (g .count - 0) a) (take (h .count - 0) b)) where
+    module _ (e : ok ≡ true) (out : List ℕ) (join : ok ≡ true → take (length (recordsIn (take (g .count * recordWords - 0) a)) + length (recordsIn (take (h .count * recordWords - 0) b))) (recordsIn out) ≡ joined (recordsIn (take (g .count * recordWords - 0) a)) (recordsIn (take (h .count * recordWords - 0) b))) where
       pair-is : pairOf r ps c o ≡ sound both
       unfolding both
       pair-is = pair-sound r ps c o (target .chain) (target .is-sound) (partner .chain) (partner .is-sound) (sym told-of-chains ∙ e)
 
-      entries-are : take (g .count + h .count) out ≡ joinedEntries both
+      entries-are : take (g .count + h .count) (recordsIn out) ≡ joinedEntries both
       unfolding joinedEntries both
       entries-are =
-          let many : length (take (g .count - 0) a) + length (take (h .count - 0) b) ≡ g .count + h .count
+          let many : length (recordsIn (take (g .count * recordWords - 0) a)) + length (recordsIn (take (h .count * recordWords - 0) b)) ≡ g .count + h .count
           = ap₂ (λ (x y : ℕ). x + y) (front-long g a target) (front-long h b partner) in
-          ap (λ (k : ℕ). take k out) (sym many) ∙ join e ∙ ap₂ joined (front-is g a target) (front-is h b partner)
+          ap (λ (k : ℕ). take k (recordsIn out)) (sym many) ∙ join e ∙ ap₂ joined (front-is g a target) (front-is h b partner)
 
-      pub pair-gathered : g .count + h .count ≤ length out → Gathered.Sound (record { level = g .level; link = g .link; count = g .count + h .count }) ≡ gatheredBoth (pairOf r ps c o)
+      pub pair-gathered : (g .count + h .count) * recordWords ≤ length out → Gathered.Sound (record { level = g .level; link = g .link; count = g .count + h .count }) ≡ gatheredBoth (pairOf r ps c o)
       unfolding both
       pair-gathered fits =
-          let many : g .count + h .count ≡ length (joinedEntries both) = sym (length-take-le (g .count + h .count) out fits) ∙ ap length entries-are in
+          let many : g .count + h .count ≡ length (joinedEntries both) = sym (length-take-le (g .count + h .count) (recordsIn out) (omega (arith, length-records out, fits))) ∙ ap length entries-are in
           rw (pair-is, target .level, target .link, many) refl
 
-      pub pair-in-front : sound (take (g .count + h .count) out) ≡ entriesInBoth (pairOf r ps c o)
+      pub pair-in-front : sound (take (g .count + h .count) (recordsIn out)) ≡ entriesInBoth (pairOf r ps c o)
       pair-in-front = rw (pair-is, entries-are) refl
 
 -- The two chains x were looked through whole: what was gathered says the target's fields, and the records of both stand at the front of the buffer.
@@ -83,8 +87,8 @@ pub record WholePair (x : Checked Pair) (j : Front) (out : List ℕ) : Type 0 wh
   pub pair : Pair
   pub is-sound : x ≡ sound pair
   pub front : j ≡ frontOfBoth pair
-  pub fits : j .count ≤ length out
-  pub entries : take (j .count) out ≡ joinedEntries pair
+  pub fits : j .count * recordWords ≤ length out
+  pub entries : take (j .count) (recordsIn out) ≡ joinedEntries pair
 
 pub both-damaged : (x : Checked Pair) {a : Gathered} → a ≡ gatheredBoth x → a ≡ Gathered.Damaged → x ≡ damaged
 both-damaged damaged e f = refl
@@ -95,12 +99,12 @@ both-whole damaged out told f = absurd (let e = told .0 in let z : _≡_ {A = �
 both-whole (sound m) {a} {j} out told f =
     let e = told .0 in
     let same : j ≡ frontOfBoth m = cc in
-    let kept : sound (take (j .count) out) ≡ sound (joinedEntries m) = ap (λ (y : Gathered). inFront y out) (sym f) ∙ told .1 in
-    let entries : take (j .count) out ≡ joinedEntries m = cc in
+    let kept : sound (take (j .count) (recordsIn out)) ≡ sound (joinedEntries m) = ap (λ (y : Gathered). inFront y out) (sym f) ∙ told .1 in
+    let entries : take (j .count) (recordsIn out) ≡ joinedEntries m = cc in
     record {
       pair = m;
       is-sound = refl;
       front = same;
-      fits = omega (arith, sym (length-take (j .count) out) ∙ ap length entries ∙ sym (ap (λ (y : Front). y .count) same));
+      fits = omega (arith, length-records out, sym (length-take (j .count) (recordsIn out)) ∙ ap length entries ∙ sym (ap (λ (y : Front). y .count) same));
       entries = entries;
     }

@@ -6,14 +6,14 @@ use lib.ListN.{length}
 use Rattle.model.specs.declared.Root.{Root}
 use Rattle.model.specs.declared.Party.{Party}
 use Rattle.model.specs.Chains.{Checked, damaged, sound, andThen}
-use Rattle.model.specs.Entries.{Entry}
+use Rattle.model.specs.declared.Entry.{Entry}
 use Rattle.model.specs.Steps.MergeBuild.{Pair, joinedEntries}
 use Rattle.chain_keys.specs.declared.Front.{Front}
 use Rattle.chain_keys.specs.declared.Gathered.{Gathered}
 use Rattle.chain_keys.specs.declared.Gathered.the-variants as Gathered
 use Rattle.chain_keys.specs.Gathering.{CanGather}
 
--- The overflow pages of target and partner were walked, n and m of them, and the buffers have room for the keys of each and of both.
+-- The overflow pages of target and partner were walked, n and m of them, and the buffers have room for the records of each and of both.
 pub record CanJoin (r : Root) (p : Party) (n m : ℕ) (ps a b out : List ℕ) : Type 0 where
   pub target : CanGather r ps (p .chain) n (length a)
   pub partner : CanGather r ps (p .other) m (length b)

@@ -1,4 +1,4 @@
-// The first part of step 26 (document 01, "The thirty steps"): the keys of both chains of a merge, gathered and joined in a buffer.
+// The first part of step 26 (document 01, "The thirty steps"): the records of both chains of a merge, gathered and joined in a buffer of words.
 // Main statement: join_chains finds what the model's pairOf finds of target and partner, for every word that the memory may hold.
 
 ghost use mathlib.Core.Path.{_≡_};
@@ -9,9 +9,10 @@ use chain_keys::Front;
 use chain_keys::Gathered;
 use model::ChainAddress;
 use model::Party;
+use model::RECORD_WORDS;
 use model::Root;
 
-// The keys of both chains, whose n and m overflow pages were walked, joined at the front of `out`, with the target's local level and link;
+// The records of both chains, whose n and m overflow pages were walked, joined at the front of `out`, with the target's local level and link;
 // "a key in both halves of a merge" is damage.
 pub fn join_chains(
     root: Root,
@@ -34,7 +35,9 @@ pub fn join_chains(
     };
     let x = g.count;
     let y = h.count;
-    if entries::join(&a[0..x], &b[0..y], out) {
+    let first = x * RECORD_WORDS;
+    let second = y * RECORD_WORDS;
+    if entries::join(&a[0..first], &b[0..second], out) {
         let count = x + y;
         Gathered::Sound(Front {
             level: g.level,

@@ -19,7 +19,7 @@ use Rattle.model.specs.Ready.{Ready}
 use Rattle.model.specs.Endings.{endedWith}
 use Rattle.model.specs.Steps.MergeLocks.{targetOf, mergeStops, merging, step24, step25}
 use Rattle.model.proofs.Laws.Retreat.{target-before}
-use Rattle.records.specs.Words.{recordWords, partyIn}
+use Rattle.records.specs.Words.{partyWords, partyIn}
 use Rattle.records.proofs.Words.{chain-written, other-written}
 
 -- The target is one of the chains there are.
@@ -44,7 +44,7 @@ module _ (v : View) {b : Bool} (e : b ≡ mergeStops (v .root)) where
   open-requests h ei ep eo = rw (← e, h, ← ei, ← ep) eo
 
 -- The party's words with target and partner written, at step 25.
-pub grant-written : (r : Root) (w : List ℕ) {t n : ℕ} → length w ≡ recordWords → t ≡ targetOf r → n ≡ mergePartner (r .originals) (r .level) (r .next)
+pub grant-written : (r : Root) (w : List ℕ) {t n : ℕ} → length w ≡ partyWords → t ≡ targetOf r → n ≡ mergePartner (r .originals) (r .level) (r .next)
     → atStep 25 (partyIn (set (set w 4 t) 5 n)) ≡ merging r (partyIn w)
 unfolding merging
 grant-written r w {t} {n} long et en =

@@ -19,7 +19,7 @@ use Rattle.model.specs.ScratchPages.{scratchOf}
 use Rattle.model.specs.LockRequests.{isHeld}
 use Rattle.model.specs.Steps.MergeLocks.{mergeStops}
 use Rattle.model.specs.Steps.MergeWrite.{rootMovedBack, step27, step28}
-use Rattle.records.specs.Words.{recordWords, rootIn}
+use Rattle.records.specs.Words.{rootWords, rootIn}
 use Rattle.records.proofs.Words.{level-written, next-written}
 
 -- ---- 27
@@ -41,7 +41,7 @@ module _ (v : View) {b : Bool} (e : b ≡ mergeStops (v .root)) where
     root-moved-back h′ ew er ep = rw (← e, h, ← e′, h′, ew, er, ep) refl
 
 -- The root's words with level and next written.
-pub moved-back-written : (w : List ℕ) (p : Party) {l : ℕ} → length w ≡ recordWords → l ≡ mergeLevel (rootIn w .level) (rootIn w .next)
+pub moved-back-written : (w : List ℕ) (p : Party) {l : ℕ} → length w ≡ rootWords → l ≡ mergeLevel (rootIn w .level) (rootIn w .next)
     → rootIn (set (set w 5 l) 6 (p .chain)) ≡ rootMovedBack p (rootIn w)
 unfolding rootMovedBack
 moved-back-written w p {l} long e =

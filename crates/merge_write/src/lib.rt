@@ -1,4 +1,4 @@
-// Merge, inside a delete (document 01, "The thirty steps"): what follows the joining of the keys, steps 27 to 29.
+// Merge, inside a delete (document 01, "The thirty steps"): what follows the joining of the records, steps 27 to 29.
 // Main statements: each step_NN is the model's stepNN, for every word that the memory may hold.
 
 ghost use mathlib.Core.Path.{_≡_};
@@ -9,7 +9,7 @@ ghost use lib.ListN.{length};
 ghost use Rattle.model.specs.Pages.{levelOf, linkSound, withLocalLevel};
 ghost use Rattle.model.specs.Chains.{listFrom};
 ghost use Rattle.model.specs.Steps.MergeWrite as MergeWrite;
-ghost use Rattle.records.specs.Words.{recordWords, rootIn, partyIn, seen, left, AtHand};
+ghost use Rattle.records.specs.Words.{rootWords, partyWords, rootIn, partyIn, seen, left, AtHand};
 ghost use Rattle.chains.specs.Walks.{counted};
 ghost use Rattle.chains.specs.declared.Walked.the-variants as Walked;
 ghost use Rattle.free_list.specs.Giving.{listed};
@@ -40,7 +40,7 @@ pub fn step_27(
     locks: &mut [u32],
     pages: &mut [u32],
 ) -> StepAnswer
-    requires { ⌜ (length (now root) ≡ recordWords) × AtHand (rootIn (now root)) (now party) q (now locks) (now pages) ⌝ }
+    requires { ⌜ (length (now root) ≡ rootWords) × AtHand (rootIn (now root)) (now party) q (now locks) (now pages) ⌝ }
     ensures { λ a. ⌜ left a (rootIn (now (root .exit))) (now (party .exit)) q (now (locks .exit)) (now (pages .exit)) ≡ MergeWrite.step27 (seen (rootIn (now (root .entry))) (now (party .entry)) q (now (locks .entry)) (now (pages .entry))) ⌝ }
 {
     let r = records::root_of(&root[..]);
@@ -101,7 +101,7 @@ fn lists_given_back(
     m: u32,
     pages: &mut [u32],
 ) -> StepAnswer
-    requires { ⌜ (length (now root) ≡ recordWords) × (length (now party) ≡ recordWords) × (CanClear (rootIn (now root)) (partyIn (now party)) (now pages)) × (linkSound (rootIn (now root)) second ≡ true) × (counted (listFrom (rootIn (now root)) (now pages) (partyIn (now party) .old)) ≡ Walked.Pages n) × (counted (listFrom (rootIn (now root)) (now pages) second) ≡ Walked.Pages m) ⌝ }
+    requires { ⌜ (length (now root) ≡ rootWords) × (length (now party) ≡ partyWords) × (CanClear (rootIn (now root)) (partyIn (now party)) (now pages)) × (linkSound (rootIn (now root)) second ≡ true) × (counted (listFrom (rootIn (now root)) (now pages) (partyIn (now party) .old)) ≡ Walked.Pages n) × (counted (listFrom (rootIn (now root)) (now pages) second) ≡ Walked.Pages m) ⌝ }
     ensures { λ a. ⌜ ((q : ℕ) (ls : List ℕ) → left a (rootIn (now (root .exit))) (now (party .exit)) q ls (now (pages .exit)) ≡ roomyCleared (seen (rootIn (now (root .entry))) (now (party .entry)) q ls (now (pages .entry))) (listed (listFrom (rootIn (now (root .entry))) (now (pages .entry)) (partyIn (now (party .entry)) .old)) ++ listed (listFrom (rootIn (now (root .entry))) (now (pages .entry)) second))) ⌝ }
 {
     let r = records::root_of(&root[..]);
@@ -118,7 +118,7 @@ fn lists_given_back(
 
 // Both lists are walked to their ends before a word is written.
 fn lists_walked(root: &mut [u32], party: &mut [u32], second: u32, pages: &mut [u32]) -> StepAnswer
-    requires { ⌜ (length (now root) ≡ recordWords) × (length (now party) ≡ recordWords) × (CanClear (rootIn (now root)) (partyIn (now party)) (now pages)) × (linkSound (rootIn (now root)) second ≡ true) ⌝ }
+    requires { ⌜ (length (now root) ≡ rootWords) × (length (now party) ≡ partyWords) × (CanClear (rootIn (now root)) (partyIn (now party)) (now pages)) × (linkSound (rootIn (now root)) second ≡ true) ⌝ }
     ensures { λ a. ⌜ ((q : ℕ) (ls : List ℕ) → left a (rootIn (now (root .exit))) (now (party .exit)) q ls (now (pages .exit)) ≡ bothCleared (seen (rootIn (now (root .entry))) (now (party .entry)) q ls (now (pages .entry))) second) ⌝ }
 {
     let r = records::root_of(&root[..]);
@@ -139,7 +139,7 @@ pub fn step_29(
     locks: &mut [u32],
     pages: &mut [u32],
 ) -> StepAnswer
-    requires { ⌜ (length (now root) ≡ recordWords) × AtHand (rootIn (now root)) (now party) q (now locks) (now pages) ⌝ }
+    requires { ⌜ (length (now root) ≡ rootWords) × AtHand (rootIn (now root)) (now party) q (now locks) (now pages) ⌝ }
     ensures { λ a. ⌜ left a (rootIn (now (root .exit))) (now (party .exit)) q (now (locks .exit)) (now (pages .exit)) ≡ MergeWrite.step29 (seen (rootIn (now (root .entry))) (now (party .entry)) q (now (locks .entry)) (now (pages .entry))) ⌝ }
 {
     let r = records::root_of(&root[..]);

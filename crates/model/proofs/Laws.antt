@@ -1,6 +1,7 @@
 -- Laws of the definitions: lists, fields, pages, addresses, filling, the free list, formatted memory.
 pub mod Lists
 pub mod Booleans
+pub mod Answers
 pub mod Distinct
 pub mod Entries
 pub mod Changes
@@ -10,6 +11,7 @@ pub mod Ascending
 pub mod Addresses
 pub mod Fields
 pub mod Pages
+pub mod RecordWords
 pub mod Tests
 pub mod Structure
 pub mod Filling

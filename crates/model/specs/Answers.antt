@@ -1,6 +1,8 @@
 -- Document 01's numbers and words for the cases of the answer enums, of operations and of restructurings; what an answer to a step says.
--- Main definitions: operationNumber, answerNumber and answerOf (a party's answer so far), refusalNumber, restructuringOf (from what is owed); isMoved, performs.
-use mathlib.Core.Bool.{Bool, true, false, cond}
+-- Main definitions: operationNumber and settingGiven; answerNumber and answerOf (a party's answer so far), foundOrAbsent, settingFound, sameAnswer; refusalNumber, restructuringOf (from what is
+-- owed); isMoved, performs.
+use mathlib.Core.Bool.{Bool, true, false, cond, _&&_}
+use mathlib.Core.Option.{Option, none, some}
 use Prim.Native.Nat.{ℕ}
 use lib.Dec.{eqb}
 use Rattle.model.specs.declared.BeginAnswer.{BeginAnswer}
@@ -20,8 +22,14 @@ use Rattle.model.specs.Records.{findOperation, insertOperation, deleteOp
 -- "operation (0 idle, 1 find, 2 insert, 3 delete)".
 unfoldable pub operationNumber : Operation → ℕ
 operationNumber Operation.Find = findOperation
-operationNumber Operation.Insert = insertOperation
+operationNumber (Operation.Insert x) = insertOperation
 operationNumber Operation.Delete = deleteOperation
+
+-- The setting that an operation is given: an insert's, else 0.
+unfoldable pub settingGiven : Operation → ℕ
+settingGiven Operation.Find = 0
+settingGiven (Operation.Insert x) = x
+settingGiven Operation.Delete = 0
 
 -- "answer so far (0 none, 1 inserted, 2 present, 3 deleted, 4 absent, 5 no page)". Found stands in no record; it is numbered after them.
 unfoldable pub answerNumber : OperationAnswer → ℕ
@@ -30,7 +38,7 @@ answerNumber OperationAnswer.Present = 2
 answerNumber OperationAnswer.Deleted = 3
 answerNumber OperationAnswer.Absent = 4
 answerNumber OperationAnswer.NoPage = 5
-answerNumber OperationAnswer.Found = 6
+answerNumber (OperationAnswer.Found x) = 6
 
 -- The answer that a record's number names, for 1 to 5.
 unfoldable pub answerOf : ℕ → OperationAnswer
@@ -39,6 +47,24 @@ answerOf n =
     (cond (eqb n 2) OperationAnswer.Present
     (cond (eqb n 3) OperationAnswer.Deleted
     (cond (eqb n 4) OperationAnswer.Absent OperationAnswer.NoPage)))
+
+-- What a find answers, from the setting of its key, if there is one: "Found answers the setting".
+unfoldable pub foundOrAbsent : Option ℕ → OperationAnswer
+foundOrAbsent none = OperationAnswer.Absent
+foundOrAbsent (some x) = OperationAnswer.Found x
+
+-- The setting that an answer carries: found's, else 0.
+unfoldable pub settingFound : OperationAnswer → ℕ
+settingFound OperationAnswer.Inserted = 0
+settingFound OperationAnswer.Present = 0
+settingFound OperationAnswer.Deleted = 0
+settingFound OperationAnswer.Absent = 0
+settingFound OperationAnswer.NoPage = 0
+settingFound (OperationAnswer.Found x) = x
+
+-- Whether two answers are the same, their settings too.
+unfoldable pub sameAnswer : OperationAnswer → OperationAnswer → Bool
+sameAnswer a b = eqb (answerNumber a) (answerNumber b) && eqb (settingFound a) (settingFound b)
 
 -- The restructurings in the order in which document 01 lists them.
 unfoldable pub restructuringNumber : Restructuring → ℕ

@@ -1,4 +1,4 @@
--- The set book (document 01, "The set book"): what every answer of a run must be.
+-- The book (document 01, "The set book"; by document 02, change 1, it keeps a map): what every answer of a run must be.
 -- It is fed the events of a run, and compares each answer with its note.
 -- Main definitions: Book, emptyBook; enter; noteAtSix, noteAtTen and noteAtEleven; bookAfter, agrees (one event); bookAgrees, bookAtEnd (over a whole list).
 use mathlib.Core.Bool.{Bool, true, false, cond, _&&_}
@@ -14,12 +14,12 @@ use Rattle.model.specs.declared.StepAnswer.{StepAnswer}
 use Rattle.model.specs.declared.StepAnswer.the-variants as StepAnswer
 use Rattle.model.specs.declared.BeginAnswer.{BeginAnswer}
 use Rattle.model.specs.declared.BeginAnswer.the-variants as BeginAnswer
-use Rattle.model.specs.Answers.{answerNumber}
+use Rattle.model.specs.Answers.{foundOrAbsent, sameAnswer}
 use Rattle.model.specs.Runs.{Call, beginFor, stepFor, Reply, toBegin, toStep, Event}
 
--- What the book keeps beside a key that is in: nothing.
+-- What the book keeps beside a key that is in: its setting.
 abbrev pub Value : Type 0
-Value = Unit {0}
+Value = ℕ
 
 -- An operation under way: operation, key and note; a blank note is none.
 pub record Entered : Type 0 where
@@ -27,7 +27,7 @@ pub record Entered : Type 0 where
   pub key : ℕ
   pub note : Option OperationAnswer
 
--- "The book keeps a set of keys, at first empty, and for each operation under way its party, operation, key and note."
+-- "The book keeps a set of keys, at first empty, and for each operation under way its party, operation, key and note": the keys with their settings; an insert's setting stands in its operation.
 pub record Book : Type 0 where
   pub contents : ℕ → Option Value
   pub entries : ℕ → Option Entered
@@ -57,29 +57,29 @@ noted e a = record { operation = e .operation; key = e .key; note = some a }
 unfoldable pub enter : Book → ℕ → Operation → ℕ → Book
 enter b q o k = withEntry b q (some (record { operation = o; key = k; note = none }))
 
--- "6 of a find: note found if the key is in the set, else absent; a later 6 replaces it."
-unfoldable pub noteAtSix : Operation → Bool → Option OperationAnswer
-noteAtSix Operation.Find there = some (cond there OperationAnswer.Found OperationAnswer.Absent)
-noteAtSix Operation.Insert there = none
-noteAtSix Operation.Delete there = none
+-- "6 of a find: note found if the key is in the set, else absent; a later 6 replaces it": found with the setting that the map has.
+unfoldable pub noteAtSix : Operation → Option Value → Option OperationAnswer
+noteAtSix Operation.Find x = some (foundOrAbsent x)
+noteAtSix (Operation.Insert y) x = none
+noteAtSix Operation.Delete x = none
 
 -- "10: note present for an insert whose key is in, absent for a delete whose key is out, else no page."
 unfoldable pub noteAtTen : Operation → Bool → OperationAnswer
 noteAtTen Operation.Find there = OperationAnswer.NoPage
-noteAtTen Operation.Insert there = cond there OperationAnswer.Present OperationAnswer.NoPage
+noteAtTen (Operation.Insert y) there = cond there OperationAnswer.Present OperationAnswer.NoPage
 noteAtTen Operation.Delete there = cond there OperationAnswer.NoPage OperationAnswer.Absent
 
 -- "11: an insert adds its key, note inserted, or present if it was in. A delete removes it, note deleted, or absent if it was out."
 unfoldable pub noteAtEleven : Operation → Bool → OperationAnswer
-noteAtEleven Operation.Find there = OperationAnswer.Found
-noteAtEleven Operation.Insert there = cond there OperationAnswer.Present OperationAnswer.Inserted
+noteAtEleven Operation.Find there = OperationAnswer.NoPage
+noteAtEleven (Operation.Insert y) there = cond there OperationAnswer.Present OperationAnswer.Inserted
 noteAtEleven Operation.Delete there = cond there OperationAnswer.Deleted OperationAnswer.Absent
 
--- What the key holds after step 11, from what it held.
+-- What the map has of the key after step 11, from what it had: an insert adds its setting, or keeps the one that is there.
 unfoldable pub contentAtEleven : Operation → Option Value → Option Value
 contentAtEleven Operation.Find x = x
-contentAtEleven Operation.Insert none = some tt
-contentAtEleven Operation.Insert (some x) = some x
+contentAtEleven (Operation.Insert y) none = some y
+contentAtEleven (Operation.Insert y) (some x) = some x
 contentAtEleven Operation.Delete x = none
 
 -- The book after a step of this number, performed for party q with the entry e.
@@ -90,7 +90,7 @@ notedIfFind b q e (some a) = withEntry b q (some (noted e a))
 unfoldable pub noteStep : Book → ℕ → Entered → ℕ → Book
 noteStep b q e number =
     let there = isIn (b .contents (e .key)) in
-    let six = notedIfFind b q e (noteAtSix (e .operation) there) in
+    let six = notedIfFind b q e (noteAtSix (e .operation) (b .contents (e .key))) in
     let ten = withEntry b q (some (noted e (noteAtTen (e .operation) there))) in
     let eleven = withContent (withEntry b q (some (noted e (noteAtEleven (e .operation) there)))) (e .key) (contentAtEleven (e .operation) (b .contents (e .key))) in
     cond (eqb number 6) six (cond (eqb number 10) ten (cond (eqb number 11) eleven b))
@@ -120,7 +120,7 @@ bookAfter b (stepFor q) number (toStep a) = afterReply b q number a
 -- Whether an answer is the note.
 unfoldable pub isNote : OperationAnswer → Option OperationAnswer → Bool
 isNote a none = false
-isNote a (some n) = eqb (answerNumber a) (answerNumber n)
+isNote a (some n) = sameAnswer a n
 
 unfoldable pub isNoteOf : OperationAnswer → Option Entered → Bool
 isNoteOf a none = false

@@ -12,7 +12,7 @@ use Rattle.model.specs.declared.BeginAnswer.the-variants as BeginAnswer
 use Rattle.model.specs.declared.FormatAnswer.{FormatAnswer}
 use Rattle.model.specs.declared.FormatAnswer.the-variants as FormatAnswer
 use Rattle.model.specs.Records.{rootOfSizes, begun}
-use Rattle.model.specs.Answers.{operationNumber}
+use Rattle.model.specs.Answers.{operationNumber, settingGiven}
 use Rattle.model.specs.Memory.{Memory, partyAt, viewOf, afterStep, formatted}
 use Rattle.model.specs.Refusals.{firstCause, formatRows, beginRows, stepRows}
 use Rattle.model.specs.Steps.Dispatch.{stepOf}
@@ -34,7 +34,7 @@ formatCall m n b p v q =
 
 -- The memory with an operation begun for party q.
 unfoldable pub withBegun : Memory → ℕ → Operation → ℕ → Memory
-withBegun m q o k = record { root = m .root; parties = set (m .parties) q (begun (operationNumber o) k); locks = m .locks; pages = m .pages }
+withBegun m q o k = record { root = m .root; parties = set (m .parties) q (begun (operationNumber o) k (settingGiven o)); locks = m .locks; pages = m .pages }
 
 -- Begin an operation with key k for party q.
 unfoldable pub beginCall : Memory → ℕ → Operation → ℕ → Called BeginAnswer

@@ -5,7 +5,8 @@ use mathlib.Core.List.{List, [], _∷_, _++_}
 use Prim.Native.Nat.{ℕ, zero, suc}
 use lib.Dec.{eqb}
 use Rattle.model.specs.declared.Root.{Root}
-use Rattle.model.specs.Entries.{Entry, ascending}
+use Rattle.model.specs.declared.Entry.{Entry}
+use Rattle.model.specs.Entries.{ascending}
 use Rattle.model.specs.Pages.{pageOf, levelOf, linkOf, entriesOf, pageSound, primaryPage, linkedPage}
 
 -- What was read, or that a number was damaged.

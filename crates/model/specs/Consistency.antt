@@ -1,25 +1,26 @@
--- What Ellis 1987 argues for in section 4, over the memory alone: P2 with its statements S1 to S4 and, outside a restructuring, S3′ and S4′ (section 4.2); P3, where a search ends (4.3); the set of P4 (4.4).
+-- What Ellis 1987 argues for in section 4, over the memory alone: P2 with its statements S1 to S4 and, outside a restructuring, S3′ and S4′ (section 4.2); P3, where a search ends (4.3); the records of P4 (4.4).
 -- P1 is specs/Progress.antt; P4's answers are specs/Book.antt.
--- Main definitions: Consistent (P2), HomeLocked, SearchEnds and LeftToWalk (P3), SameSet (P4).
+-- Main definitions: Consistent (P2), PairsPlaced (where each record stands), HomeLocked, SearchEnds and LeftToWalk (P3), SameMap (P4).
 use mathlib.Core.Path.{_≡_}
 use mathlib.Core.Bool.{Bool, true, false, cond, _||_}
-use mathlib.Core.List.{List, _++_}
+use mathlib.Core.List.{List, _∷_, _++_}
 use mathlib.Core.Option.{some}
-use Prim.Native.Nat.{ℕ, _+_, _≤_, _<_}
-use lib.ListN.{getD}
+use Prim.Native.Nat.{ℕ, _+_, _/_, _%_, _≤_, _<_}
+use lib.ListN.{length, getD}
 use lib.Dec.{ltb, leb}
 use Rattle.model.specs.declared.Party.{Party}
-use Rattle.model.specs.declared.OperationAnswer.the-variants as OperationAnswer
+use Rattle.model.specs.Answers.{foundOrAbsent}
 use Rattle.model.specs.Sizes.{within}
 use Rattle.model.specs.LockWords.{holds, chainWord}
 use Rattle.model.specs.Addresses.{span, hash, chainCount}
-use Rattle.model.specs.Entries.{hasKey}
+use Rattle.model.specs.Entries.{hasKey, settingIn}
 use Rattle.model.specs.Pages.{pageOf, entriesOf, primaryPage, scratchPage}
 use Rattle.model.specs.Chains.{sound, Chain, chainOf, listFrom, entriesOn}
+use Rattle.model.specs.Filling.{recordAt, PairIs}
 use Rattle.model.specs.LockRequests.{modeOf}
 use Rattle.model.specs.Memory.{Memory, partyAt}
 use Rattle.model.specs.Calls.{stepCall}
-use Rattle.model.specs.Book.{Book, Entered, isIn}
+use Rattle.model.specs.Book.{Book, Entered, Value}
 use Rattle.model.specs.Effects.{scratchLink}
 
 -- ---- P2, the file
@@ -53,6 +54,11 @@ pub record Consistent (m : Memory) : Type 0 where
   -- S3′ and S4′, where "no restructuring operation (split or merge) is in progress": x = next, so n = 2^level N + next.
   pub at-rest : ((q : ℕ) → restructures (partyAt (m .parties) q) ≡ false) → split ≡ m .root .next
 
+-- Where each record stands: record i of a chain is pair i mod b of the chain's page i / b, the primary page first.
+pub record PairsPlaced (m : Memory) (f : Consistent m) : Type 0 where
+  pub placed : (c i : ℕ) → c < chainsWith m (f .split) → i < length (f .chain c .entries)
+      → PairIs (pageOf (m .pages) (getD (primaryPage c ∷ f .chain c .pages) (i / m .root .capacity) 0)) (i % m .root .capacity) (recordAt (f .chain c .entries) i)
+
 -- ---- P3, the search
 
 -- Party q's chain is the home of its key, and locked by it: "an appropriate target bucket has been locked", "h_(bucketchain.locallevel)(k) = bucketchain".
@@ -67,25 +73,25 @@ pub record SearchEnds (m : Memory) (q : ℕ) : Type 0 where
   pub at-home : HomeLocked m q
   pub current : pageOf (stepCall m q .memory .pages) (scratchPage (m .root) q) ≡ pageOf (m .pages) (primaryPage (partyAt (m .parties) q .chain))
 
--- 9: its chain is locked for reading; scratch and the pages behind it are what is left to look at, and have the key exactly where the book noted found.
+-- 9: its chain is locked for reading; scratch and the pages behind it are what is left to look at, and have the key, with this setting, exactly where the book noted found with it.
 pub record LeftToWalk (m : Memory) (b : Book) (q : ℕ) : Type 0 where
   pub entered : Entered
   pub entry : b .entries q ≡ some entered
   pub rest : List ℕ
   pub reads : listFrom (m .root) (m .pages) (scratchLink m q) ≡ sound rest
   pub note : entered .note
-      ≡ some (cond (hasKey (partyAt (m .parties) q .key) (entriesOf (pageOf (m .pages) (scratchPage (m .root) q)) ++ entriesOn (m .pages) rest)) OperationAnswer.Found OperationAnswer.Absent)
+      ≡ some (foundOrAbsent (settingIn (partyAt (m .parties) q .key) (entriesOf (pageOf (m .pages) (scratchPage (m .root) q)) ++ entriesOn (m .pages) rest)))
   pub locked : holds (getD (m .locks) (chainWord (partyAt (m .parties) q .chain)) 0) q (modeOf (partyAt (m .parties) q)) ≡ true
 
--- ---- P4, the set
+-- ---- P4, the records
 
--- A chain of the file has key k.
-pub record InFile (m : Memory) (f : Consistent m) (k : ℕ) : Type 0 where
+-- A chain of the file has key k, with setting x.
+pub record InFile (m : Memory) (f : Consistent m) (k : ℕ) (x : Value) : Type 0 where
   pub number : ℕ
   pub inside : number < chainsWith m (f .split)
-  pub has : hasKey k (f .chain number .entries) ≡ true
+  pub has : settingIn k (f .chain number .entries) ≡ some x
 
--- "The set of records in the hashfile" is the book's set, which decisive steps alone change.
-pub record SameSet (m : Memory) (b : Book) (f : Consistent m) : Type 0 where
-  pub in-set : (k : ℕ) → InFile m f k → isIn (b .contents k) ≡ true
-  pub in-file : (k : ℕ) → isIn (b .contents k) ≡ true → InFile m f k
+-- "The set of records in the hashfile" is the book's map, which decisive steps alone change.
+pub record SameMap (m : Memory) (b : Book) (f : Consistent m) : Type 0 where
+  pub in-map : (k : ℕ) (x : Value) → InFile m f k x → b .contents k ≡ some x
+  pub in-file : (k : ℕ) (x : Value) → b .contents k ≡ some x → InFile m f k x

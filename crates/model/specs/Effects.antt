@@ -1,4 +1,4 @@
--- What each call alters, by its answer (document 01, "Agreement": "a step that alters nothing and says moved" does not meet demand 1), and what the set book is fed of it.
+-- What each call alters, by its answer (document 01, "Agreement": "a step that alters nothing and says moved" does not meet demand 1), and what the book is fed of it.
 -- Main definitions: AltersOwn, StepAlters (a step that moved or is done alters the party's own words, any other call of step alters nothing); WaitsForLock; Begins, BeginAlters;
 -- BookFed, BookCompares, BookEnters. The theorems that they hold are in proofs/.
 use mathlib.Core.Path.{_≡_}
@@ -15,7 +15,7 @@ use Rattle.model.specs.declared.Restructuring.{Restructuring}
 use Rattle.model.specs.declared.StepAnswer.the-variants as StepAnswer
 use Rattle.model.specs.declared.BeginAnswer.the-variants as BeginAnswer
 use Rattle.model.specs.Records.{begun}
-use Rattle.model.specs.Answers.{operationNumber, performs}
+use Rattle.model.specs.Answers.{operationNumber, settingGiven, performs}
 use Rattle.model.specs.LockWords.{Claim}
 use Rattle.model.specs.Pages.{pageOf, linkOf, scratchPage}
 use Rattle.model.specs.LockRequests.{isGranted}
@@ -70,9 +70,9 @@ pub record WaitsForLock (m : Memory) (q : ℕ) : Type 0 where
 
 -- ---- A call of begin
 
--- "A begin sets operation, key and step 1 and zeroes the rest" of the party's record, and leaves every other word.
+-- "A begin sets operation, key and step 1 and zeroes the rest" of the party's record but an insert's setting, and leaves every other word.
 pub record Begins (m : Memory) (q : ℕ) (o : Operation) (k : ℕ) : Type 0 where
-  pub own : partyAt (beginCall m q o k .memory .parties) q ≡ begun (operationNumber o) k
+  pub own : partyAt (beginCall m q o k .memory .parties) q ≡ begun (operationNumber o) k (settingGiven o)
   pub others : (j : ℕ) → j ≢ q → partyAt (beginCall m q o k .memory .parties) j ≡ partyAt (m .parties) j
   pub as-many : length (beginCall m q o k .memory .parties) ≡ length (m .parties)
   pub root : beginCall m q o k .memory .root ≡ m .root
@@ -85,7 +85,7 @@ pub record BeginAlters (m : Memory) (q : ℕ) (o : Operation) (k : ℕ) : Type 0
   pub accepted : beginCall m q o k .answer ≡ BeginAnswer.Begun → Begins m q o k
   pub refused : (n : ℕ) → beginCall m q o k .answer ≡ BeginAnswer.Refused n → beginCall m q o k .memory ≡ m
 
--- ---- What the set book is fed
+-- ---- What the book is fed
 
 -- Of every call: the call itself, the party's own step number and the answer that this very call returned; the next call meets the memory that this one left.
 pub record BookFed (m : Memory) : Type 0 where
@@ -107,7 +107,7 @@ pub record BookCompares (m : Memory) (b : Book) (q : ℕ) : Type 0 where
   pub compares : (a : OperationAnswer) (s : Restructuring) → stepCall m q .answer ≡ StepAnswer.Done a s
       → agreesTo b (eventOf m (stepFor q)) ≡ isNoteOf a (noteFor b q (b .entries q) (partyAt (m .parties) q .step) .entries q)
 
--- A begin enters its own operation and key for its party, with a blank note; every other entry and the set stay.
+-- A begin enters its own operation and key for its party, with a blank note; every other entry and the map stay.
 pub record BookEnters (m : Memory) (b : Book) (q : ℕ) (o : Operation) (k : ℕ) : Type 0 where
   pub own : bookThen b (eventOf m (beginFor q o k)) .entries q ≡ some (record { operation = o; key = k; note = none })
   pub others : (j : ℕ) → j ≢ q → bookThen b (eventOf m (beginFor q o k)) .entries j ≡ b .entries j

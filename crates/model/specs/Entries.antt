@@ -1,28 +1,34 @@
 -- The records of the file and ascending lists of them (document 01, "A chain's keys ascend").
--- A record (document 01: a bead's key) is its key alone; what tells records apart is keyOf.
--- Main definitions: Entry, keyOf; hasKey, ascending, insertedInto, removedFrom, joined, sharesKey; staying and going (the halves of a split).
+-- A record (document 02, change 1: "a key and a 32-bit setting") is told apart by its key alone: order, doubles and "in both halves" never look at the setting.
+-- Main definitions: keyOf, settingOf, entryOf; hasKey, settingIn, ascending, insertedInto, removedFrom, joined, sharesKey; staying and going (the halves of a split).
 use mathlib.Core.Bool.{Bool, true, false, cond, _&&_, _||_}
 use mathlib.Core.List.{List, [], _∷_}
+use mathlib.Core.Option.{Option, none, some}
 use Prim.Native.Nat.{ℕ}
 use lib.Dec.{ltb, eqb}
+use Rattle.model.specs.declared.Entry.{Entry}
 use Rattle.model.specs.Addresses.{hash}
 
--- One record of the file.
-abbrev pub Entry : Type 0
-Entry = ℕ
-
--- The record's key.
+-- The record's key, and its setting.
 abbrev pub keyOf : Entry → ℕ
-keyOf e = e
+keyOf e = e .key
 
--- The record that an operation with this key inserts.
-abbrev pub entryOf : ℕ → Entry
-entryOf k = k
+abbrev pub settingOf : Entry → ℕ
+settingOf e = e .setting
+
+-- The record that an insert with this key and this setting puts in.
+abbrev pub entryOf : ℕ → ℕ → Entry
+entryOf k x = record { key = k; setting = x }
 
 -- Whether some record of the list has key k.
 unfoldable pub hasKey : ℕ → List Entry → Bool
 hasKey k [] = false
 hasKey k (e ∷ es) = eqb (keyOf e) k || hasKey k es
+
+-- The setting of the first record that has key k, if there is one.
+unfoldable pub settingIn : ℕ → List Entry → Option ℕ
+settingIn k [] = none
+settingIn k (e ∷ es) = cond (eqb (keyOf e) k) (some (settingOf e)) (settingIn k es)
 
 -- Whether k is below the first key of the list.
 unfoldable pub belowFirst : ℕ → List Entry → Bool

@@ -1,12 +1,15 @@
 -- Pages filled with a chain's records (document 01: "the first b in its primary page, the next b in its first overflow page, and so on").
--- Main definitions: overflowNeeded; primaryOf (a chain's primary page); overflowWritten (its overflow pages).
+-- Main definitions: overflowNeeded; primaryOf (a chain's primary page); overflowWritten (its overflow pages); PairIs (where a record stands on a page).
+use mathlib.Core.Path.{_≡_}
 use mathlib.Core.List.{List, [], _∷_}
-use Prim.Native.Nat.{ℕ, _+_, _-_, _/_}
-use lib.ListN.{length, take, drop}
-use Rattle.model.specs.Entries.{Entry}
+use Prim.Native.Nat.{ℕ, _+_, _-_, _*_, _/_}
+use lib.ListN.{length, getD, take, drop}
+use Rattle.model.specs.declared.Entry.{Entry}
+use Rattle.model.specs.Sizes.{recordWords}
+use Rattle.model.specs.Entries.{keyOf, settingOf, entryOf}
 use Rattle.model.specs.Pages.{filledPage, withPage, linkToFirst}
 
--- "m keys need ceil(m/b) − 1 overflow pages, none for m = 0": b keys a page, m keys.
+-- "m keys need ceil(m/b) − 1 overflow pages, none for m = 0": b records a page, m records.
 unfoldable pub overflowNeeded : ℕ → ℕ → ℕ
 overflowNeeded b m = (m + (b - 1)) / b - 1
 
@@ -26,3 +29,12 @@ filled b ps (x ∷ xs) es = filled b (withPage ps x (filledPage 0 (take b es) (l
 -- The page memory with the overflow pages of a chain written: the records after the first b.
 unfoldable pub overflowWritten : ℕ → List ℕ → List ℕ → List Entry → List ℕ
 overflowWritten b ps xs es = filled b ps xs (drop b es)
+
+-- Record i of a list; past its end, a pair of zeros.
+abbrev pub recordAt : List Entry → ℕ → Entry
+recordAt es i = getD es i (entryOf 0 0)
+
+-- Pair i of the page w is the record e: "key first".
+pub record PairIs (w : List ℕ) (i : ℕ) (e : Entry) : Type 0 where
+  pub key-word : getD w (3 + i * recordWords) 0 ≡ keyOf e
+  pub setting-word : getD w (4 + i * recordWords) 0 ≡ settingOf e

@@ -1,5 +1,5 @@
 -- Locks held, derived from the calls made and not from the lock words (demand 2): each grant adds a lock, each give-up takes it away.
--- Sizes are those of a root record z, given to format; who is under way goes by the calls (the set book's entries).
+-- Sizes are those of a root record z, given to format; who is under way goes by the calls (the book's entries).
 -- Main definitions: tableOne (Table I, its nine entries), Hold, permitted; givesUp (what each step gives up), holdsAfter; grantRight, stepRight, beginRight (one answer); grantsRight (over a
 -- whole list).
 use mathlib.Core.Bool.{Bool, true, false, cond, not, _&&_, _||_}

@@ -1,13 +1,14 @@
 -- Pages of sixteen words in the page memory, and link words (document 01, "The lent memory").
--- Main definitions: pageOf, withPage; the fields of a page; filledPage, freePage, zeroPage; where the pages stand; linkSound, pageSound (the tests of a page followed).
+-- Main definitions: pageOf, withPage; the fields of a page; recordsIn and wordsOf (records as words); filledPage, freePage, zeroPage; where the pages stand; linkSound, pageSound (the tests of a page followed).
 use mathlib.Core.Bool.{Bool, _&&_, _||_}
 use mathlib.Core.List.{List, [], _∷_, _++_}
 use Prim.Native.Nat.{ℕ, _+_, _-_, _*_}
 use lib.ListN.{length, getD, take, drop, replicate}
 use lib.Dec.{ltb, leb, eqb}
 use Rattle.model.specs.declared.Root.{Root}
-use Rattle.model.specs.Sizes.{pageWords, mostRecords}
-use Rattle.model.specs.Entries.{Entry}
+use Rattle.model.specs.Sizes.{pageWords, mostRecords, recordWords}
+use Rattle.model.specs.declared.Entry.{Entry}
+use Rattle.model.specs.Entries.{keyOf, settingOf, entryOf}
 
 -- The sixteen words of page p.
 unfoldable pub pageOf : List ℕ → ℕ → List ℕ
@@ -27,13 +28,24 @@ countOf w = getD w 1 0
 unfoldable pub linkOf : List ℕ → ℕ
 linkOf w = getD w 2 0
 
--- "words 3 to 14 the keys": as many as the count says.
+-- Words read as records, two a record, "key first"; a last word without a second is none.
+unfoldable pub recordsIn : List ℕ → List Entry
+recordsIn [] = []
+recordsIn (k ∷ []) = []
+recordsIn (k ∷ (x ∷ ws)) = entryOf k x ∷ recordsIn ws
+
+-- "words 3 to 14 of a page hold six such pairs": as many as the count says.
 unfoldable pub entriesOf : List ℕ → List Entry
-entriesOf w = take (countOf w) (drop 3 w)
+entriesOf w = take (countOf w) (recordsIn (drop 3 w))
+
+-- The words of records, one record after the other.
+unfoldable pub wordsOf : List Entry → List ℕ
+wordsOf [] = []
+wordsOf (e ∷ es) = keyOf e ∷ (settingOf e ∷ wordsOf es)
 
 -- A page made of a local level, a run of records and a link; "word 15 zero. Unused key words are zero."
 unfoldable pub filledPage : ℕ → List Entry → ℕ → List ℕ
-filledPage level es link = level ∷ (length es ∷ (link ∷ (es ++ replicate (mostRecords + 1 - length es) 0)))
+filledPage level es link = level ∷ (length es ∷ (link ∷ (wordsOf es ++ replicate (mostRecords * recordWords + 1 - length es * recordWords) 0)))
 
 -- "A free page is zero except word 2, its link in the free list."
 unfoldable pub freePage : ℕ → List ℕ

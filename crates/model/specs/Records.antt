@@ -86,11 +86,11 @@ rootSized s = rootOfSizes (s .originals) (s .capacity) (s .primaries) (s .overfl
 
 -- The zero record: a party that is idle.
 abbrev pub idle : Party
-idle = record { operation = 0; key = 0; step = 0; lev = 0; chain = 0; other = 0; old = 0; owed = 0; answer = 0 }
+idle = record { operation = 0; key = 0; step = 0; lev = 0; chain = 0; other = 0; old = 0; owed = 0; answer = 0; setting = 0 }
 
--- "A begin sets operation, key and step 1 and zeroes the rest."
-abbrev pub begun : ℕ → ℕ → Party
-begun o k = record { operation = o; key = k; step = 1; lev = 0; chain = 0; other = 0; old = 0; owed = 0; answer = 0 }
+-- "A begin sets operation, key and step 1 and zeroes the rest"; "The party's record gains the setting": operation o, key k, setting x.
+abbrev pub begun : ℕ → ℕ → ℕ → Party
+begun o k x = record { operation = o; key = k; step = 1; lev = 0; chain = 0; other = 0; old = 0; owed = 0; answer = 0; setting = x }
 
 -- The party at another step number.
 abbrev pub atStep : ℕ → Party → Party
@@ -104,6 +104,7 @@ atStep x p = record {
   old = p .old;
   owed = p .owed;
   answer = p .answer;
+  setting = p .setting;
 }
 
 -- The party with another lev.
@@ -118,6 +119,7 @@ withLev x p = record {
   old = p .old;
   owed = p .owed;
   answer = p .answer;
+  setting = p .setting;
 }
 
 -- The party with another chain.
@@ -132,6 +134,7 @@ withChain x p = record {
   old = p .old;
   owed = p .owed;
   answer = p .answer;
+  setting = p .setting;
 }
 
 -- The party with another other chain.
@@ -146,6 +149,7 @@ withOther x p = record {
   old = p .old;
   owed = p .owed;
   answer = p .answer;
+  setting = p .setting;
 }
 
 -- The party with another old overflow link.
@@ -160,6 +164,7 @@ withOld x p = record {
   old = x;
   owed = p .owed;
   answer = p .answer;
+  setting = p .setting;
 }
 
 -- The party with another restructuring owed.
@@ -174,6 +179,7 @@ withOwed x p = record {
   old = p .old;
   owed = x;
   answer = p .answer;
+  setting = p .setting;
 }
 
 -- The party with another answer so far.
@@ -188,4 +194,5 @@ withAnswer x p = record {
   old = p .old;
   owed = p .owed;
   answer = x;
+  setting = p .setting;
 }

@@ -8,7 +8,7 @@ use Rattle.model.specs.declared.BeginAnswer.{BeginAnswer}
 use Rattle.model.specs.Memory.{Memory, partyAt}
 use Rattle.model.specs.Calls.{beginCall, stepCall}
 
--- A begin: party, operation, key. A step: party.
+-- A begin: party, operation (an insert's with its setting), key. A step: party.
 pub data Call : Type 0 where
   beginFor : ℕ → Operation → ℕ → Call
   stepFor : ℕ → Call

@@ -4,7 +4,7 @@ use mathlib.Core.List.{List}
 use Prim.Native.Nat.{ℕ}
 use Rattle.model.specs.declared.Root.{Root}
 use Rattle.model.specs.Records.{atStep}
-use Rattle.model.specs.Entries.{Entry}
+use Rattle.model.specs.declared.Entry.{Entry}
 use Rattle.model.specs.Pages.{pageOf, withPage, scratchPage, pageSound, primaryPage}
 use Rattle.model.specs.Filling.{pagesFor, primaryOf, overflowWritten}
 use Rattle.model.specs.Outcome.{View, withRoot, withParty, withPages, Outcome, moved, guarded}

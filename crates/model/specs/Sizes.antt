@@ -9,7 +9,7 @@ use Rattle.model.specs.declared.Root.{Root}
 abbrev pub pageWords : ℕ
 pageWords = 16
 
--- The limits: "P chains at most, 1 to 256. V overflow pages, 0 to 752. Q parties, 1 to 16. b keys a page, 1 to 12."
+-- The limits: "P chains at most, 1 to 256. V overflow pages, 0 to 752. Q parties, 1 to 16." (document 01), "b is 1 to 6" (document 02, change 1).
 abbrev pub mostPrimaries : ℕ
 mostPrimaries = 256
 
@@ -20,13 +20,17 @@ abbrev pub mostParties : ℕ
 mostParties = 16
 
 abbrev pub mostRecords : ℕ
-mostRecords = 12
+mostRecords = 6
+
+-- Words that a record takes on a page: its key, then its setting.
+abbrev pub recordWords : ℕ
+recordWords = 2
 
 -- x is from a to e.
 abbrev pub within : ℕ → ℕ → ℕ → Bool
 within a e x = leb a x && leb x e
 
--- "N original chains, 1 to P. P chains at most, 1 to 256. V overflow pages, 0 to 752. Q parties, 1 to 16. b keys a page, 1 to 12."
+-- "N original chains, 1 to P. P chains at most, 1 to 256. V overflow pages, 0 to 752. Q parties, 1 to 16." "b is 1 to 6".
 unfoldable pub withinLimits : Root → Bool
 withinLimits r =
     within 1 (r .primaries) (r .originals) && within 1 mostPrimaries (r .primaries) && leb (r .overflow) mostOverflow && within 1 mostParties (r .parties) && within 1 mostRecords (r .capacity)

@@ -13,8 +13,8 @@ pub const MOST_OVERFLOW: u32 = 752;
 // "Q parties, 1 to 16."
 pub const MOST_PARTIES: u32 = 16;
 
-// "b keys a page, 1 to 12."
-pub const MOST_RECORDS: u32 = 12;
+// "b is 1 to 6": the most records that a page holds.
+pub const MOST_RECORDS: u32 = 6;
 
 // ---- A page (document 01, "The lent memory")
 
@@ -24,7 +24,7 @@ pub const PAGE_WORDS: usize = 16;
 // The words of one page, by value.
 pub type Page = [u32; PAGE_WORDS];
 
-// "Word 0 is the local level ..., word 1 the key count, word 2 the link ..., words 3 to 14 the keys".
+// "Word 0 is the local level ..., word 1 the key count, word 2 the link ...", "words 3 to 14 of a page hold six such pairs, key first".
 pub const LEVEL_WORD: usize = 0;
 
 pub const COUNT_WORD: usize = 1;
@@ -33,8 +33,8 @@ pub const LINK_WORD: usize = 2;
 
 pub const FIRST_RECORD: usize = 3;
 
-// A record is its key alone: the words that a record takes on a page.
-pub const RECORD_WORDS: usize = 1;
+// The words that a record takes on a page: its key, then its setting.
+pub const RECORD_WORDS: usize = 2;
 
 // ---- Numbers in a party's record (document 01, "The lent memory")
 
@@ -126,6 +126,14 @@ pub struct Party {
     pub old: u32,
     pub owed: u32,
     pub answer: u32,
+    // An insert's setting; 0 for a find or a delete.
+    pub setting: u32,
+}
+
+// A record of the file: "a key and a 32-bit setting".
+pub struct Entry {
+    pub key: u32,
+    pub setting: u32,
 }
 
 // A bucket chain's number: that of its primary page and, plus one, of its lock word.
@@ -141,16 +149,16 @@ pub enum Mode {
     Exclusive,
 }
 
-// What a party can begin.
+// What a party can begin, beside its key. An insert has the setting that goes into the file with the key.
 pub enum Operation {
     Find,
-    Insert,
+    Insert(u32),
     Delete,
 }
 
-// What an operation answers.
+// What an operation answers. Found has the setting of the key.
 pub enum OperationAnswer {
-    Found,
+    Found(u32),
     Absent,
     Inserted,
     Present,

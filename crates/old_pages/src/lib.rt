@@ -7,7 +7,7 @@ ghost use lib.ListN.{length};
 ghost use Rattle.model.specs.Pages.{namesOverflow};
 ghost use Rattle.model.specs.Chains.{listFrom};
 ghost use Rattle.model.specs.Steps.OldPages as OldPages;
-ghost use Rattle.records.specs.Words.{recordWords, rootIn, partyIn, seen, left, AtHand};
+ghost use Rattle.records.specs.Words.{rootWords, rootIn, partyIn, seen, left, AtHand};
 ghost use Rattle.chains.specs.Walks.{counted};
 ghost use Rattle.chains.specs.declared.Walked.the-variants as Walked;
 ghost use Rattle.free_list.specs.Giving.{listed};
@@ -50,7 +50,7 @@ fn old_given_back(
     locks: &mut [u32],
     pages: &mut [u32],
 ) -> StepAnswer
-    requires { ⌜ (length (now root) ≡ recordWords) × (AtHand (rootIn (now root)) (now party) q (now locks) (now pages)) × (namesOverflow (rootIn (now root)) (partyIn (now party) .old) ≡ true) × (counted (listFrom (rootIn (now root)) (now pages) (partyIn (now party) .old)) ≡ Walked.Pages n) ⌝ }
+    requires { ⌜ (length (now root) ≡ rootWords) × (AtHand (rootIn (now root)) (now party) q (now locks) (now pages)) × (namesOverflow (rootIn (now root)) (partyIn (now party) .old) ≡ true) × (counted (listFrom (rootIn (now root)) (now pages) (partyIn (now party) .old)) ≡ Walked.Pages n) ⌝ }
     ensures { λ a. ⌜ left a (rootIn (now (root .exit))) (now (party .exit)) q (now (locks .exit)) (now (pages .exit)) ≡ OldPages.oldGivenBack (seen (rootIn (now (root .entry))) (now (party .entry)) q (now (locks .entry)) (now (pages .entry))) (listed (listFrom (rootIn (now (root .entry))) (now (pages .entry)) (partyIn (now (party .entry)) .old))) ⌝ }
 {
     let r = records::root_of(&root[..]);
@@ -76,7 +76,7 @@ pub fn step_14(
     locks: &mut [u32],
     pages: &mut [u32],
 ) -> StepAnswer
-    requires { ⌜ (length (now root) ≡ recordWords) × AtHand (rootIn (now root)) (now party) q (now locks) (now pages) ⌝ }
+    requires { ⌜ (length (now root) ≡ rootWords) × AtHand (rootIn (now root)) (now party) q (now locks) (now pages) ⌝ }
     ensures { λ a. ⌜ left a (rootIn (now (root .exit))) (now (party .exit)) q (now (locks .exit)) (now (pages .exit)) ≡ OldPages.step14 (seen (rootIn (now (root .entry))) (now (party .entry)) q (now (locks .entry)) (now (pages .entry))) ⌝ }
 {
     let r = records::root_of(&root[..]);

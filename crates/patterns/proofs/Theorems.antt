@@ -1,6 +1,6 @@
 -- Patterns and the grammar: a line is matched exactly where the grammar derives it, with the numbers derived; a line is derived by one pattern, with one list of
 -- numbers; what is filled is derived, so it is matched again.
--- Main statements: match-complete, match-sound; line-matched, matched-line (for whole lines); same-pattern, same-numbers; filled-derived, filled-matched;
+-- Main statements: match-complete, match-sound; stops-derived; line-matched, matched-line (for whole lines); same-pattern, same-numbers; filled-derived, filled-matched;
 -- derives-append, derives-split, filled-append (patterns joined); filled-literal, literal-derived, literal-line (patterns without holes).
 use mathlib.Core.Path.{_≡_, refl, sym, ap, _∙_, subst₂}
 use mathlib.Core.Bool.{Bool, true, false, cond, not, _&&_, true≢false}
@@ -20,7 +20,7 @@ use Rattle.patterns.proofs.Numerals.{stops, scan-complete, scan-sound, 
 -- ---- What is derived is matched
 
 -- Behind a hole no digit follows.
-stops-derived : {p ns l : List ℕ} → plain true p ≡ true → Derives p ns l → (rest : List ℕ) → stops rest ≡ true → stops (l ++ rest) ≡ true
+pub stops-derived : {p ns l : List ℕ} → plain true p ≡ true → Derives p ns l → (rest : List ℕ) → stops rest ≡ true → stops (l ++ rest) ≡ true
 unfolding plain
 stops-derived h end rest s = s
 stops-derived h (byte {b} {p} {ns} {l} e d) rest s = both-true (not (isDigit b)) (plain false p) (rw (ne-eqb b hole e) at h) .0

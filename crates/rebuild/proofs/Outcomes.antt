@@ -11,7 +11,7 @@ use Rattle.model.specs.Pages.{pageOf, linkOf, primaryPage}
 use Rattle.model.specs.Outcome.{refuse, damage, moved}
 use Rattle.model.specs.Ready.{viewing}
 use Rattle.model.specs.Steps.Rebuild.{step10}
-use Rattle.records.specs.Words.{recordWords, partyIn}
+use Rattle.records.specs.Words.{partyWords, partyIn}
 use Rattle.records.proofs.Words.{answer-written, old-written, owed-written}
 use Rattle.chain_change.specs.declared.Rebuilt.{Rebuilt}
 use Rattle.chain_change.specs.declared.Changed.{Changed}
@@ -39,8 +39,8 @@ module _ (r₀ : Root) (p₀ : Party) (q : ℕ) (ls ps ps′ : List ℕ) {r : Ro
   chain-changed m link d el er′ ep′ = rw (er′, ep′, el) (rw d at there)
 
 -- The party's words, written one after the other.
-module _ (w : List ℕ) (long : length w ≡ recordWords) (a : ℕ) where
-  still-long : (l : List ℕ) (i x : ℕ) → length l ≡ recordWords → length (set l i x) ≡ recordWords
+module _ (w : List ℕ) (long : length w ≡ partyWords) (a : ℕ) where
+  still-long : (l : List ℕ) (i x : ℕ) → length l ≡ partyWords → length (set l i x) ≡ partyWords
   still-long l i x e = length-set l i x ∙ e
 
   pub answer-words : partyIn (set w 8 a) ≡ withAnswer a (partyIn w)

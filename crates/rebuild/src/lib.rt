@@ -9,7 +9,7 @@ ghost use lib.ListN.{length};
 ghost use Rattle.model.specs.Records.{atStep, withAnswer, withOld, withOwed, withFreeList};
 ghost use Rattle.model.specs.Ready.{viewing};
 ghost use Rattle.model.specs.Steps.Rebuild as Rebuild;
-ghost use Rattle.records.specs.Words.{recordWords, rootIn, partyIn, seen, left, AtHand};
+ghost use Rattle.records.specs.Words.{rootWords, partyWords, rootIn, partyIn, seen, left, AtHand};
 ghost use Rattle.chain_change.specs.Changing.{afterChange, CanChange};
 use chain_change::Changed;
 use chain_change::Rebuilt;
@@ -44,7 +44,7 @@ fn change(root: Root, party: Party, q: u32, pages: &mut [u32]) -> Changed
 
 // An operation that changes nothing sets the answer alone.
 fn keep(party: &mut [u32], answer: u32)
-    requires { ⌜ length (now party) ≡ recordWords ⌝ }
+    requires { ⌜ length (now party) ≡ partyWords ⌝ }
     ensures { λ _. ⌜ partyIn (now (party .exit)) ≡ atStep 12 (withAnswer answer (partyIn (now (party .entry)))) ⌝ }
 {
     party[ANSWER] = answer;
@@ -53,7 +53,7 @@ fn keep(party: &mut [u32], answer: u32)
 
 // The record after a change: "set answer, old link and owed".
 fn note(party: &mut [u32], m: Rebuilt, link: u32)
-    requires { ⌜ length (now party) ≡ recordWords ⌝ }
+    requires { ⌜ length (now party) ≡ partyWords ⌝ }
     ensures { λ _. ⌜ partyIn (now (party .exit)) ≡ atStep 11 (withOwed (m .owed) (withOld link (withAnswer (m .answer) (partyIn (now (party .entry)))))) ⌝ }
 {
     party[ANSWER] = m.answer;
@@ -64,7 +64,7 @@ fn note(party: &mut [u32], m: Rebuilt, link: u32)
 
 // The root with the pages that were taken off the free list.
 fn take_off(root: &mut [u32], m: Rebuilt)
-    requires { ⌜ length (now root) ≡ recordWords ⌝ }
+    requires { ⌜ length (now root) ≡ rootWords ⌝ }
     ensures { λ _. ⌜ rootIn (now (root .exit)) ≡ withFreeList (m .head) (rootIn (now (root .entry)) .free - m .taken) (rootIn (now (root .entry))) ⌝ }
 {
     let free = chain_change::less(root[FREE], m.taken);
@@ -80,7 +80,7 @@ pub fn step_10(
     locks: &mut [u32],
     pages: &mut [u32],
 ) -> StepAnswer
-    requires { ⌜ (length (now root) ≡ recordWords) × AtHand (rootIn (now root)) (now party) q (now locks) (now pages) ⌝ }
+    requires { ⌜ (length (now root) ≡ rootWords) × AtHand (rootIn (now root)) (now party) q (now locks) (now pages) ⌝ }
     ensures { λ a. ⌜ left a (rootIn (now (root .exit))) (now (party .exit)) q (now (locks .exit)) (now (pages .exit)) ≡ Rebuild.step10 (seen (rootIn (now (root .entry))) (now (party .entry)) q (now (locks .entry)) (now (pages .entry))) ⌝ }
 {
     let r = records::root_of(&root[..]);

@@ -1,5 +1,5 @@
--- The core's own copies of the root record and of a party's record: nine words each, in the order in which document 01 names the fields.
--- Main definitions: rootIn and partyIn (the record that nine words make); seen and left (the two sides of a step function's equation); AtHand (what it may take for granted).
+-- The core's own copies of the root record and of a party's record: nine words and ten, in the order in which document 01 names the fields, the setting last.
+-- Main definitions: rootIn and partyIn (the record that such words make); seen and left (the two sides of a step function's equation); AtHand (what it may take for granted).
 use mathlib.Core.Path.{_≡_}
 use mathlib.Core.List.{List}
 use Prim.Native.Nat.{ℕ}
@@ -11,8 +11,11 @@ use Rattle.model.specs.Outcome.{View, Outcome, outcome}
 use Rattle.model.specs.Ready.{Ready, viewing}
 
 -- Words of a root record, and of a party's record.
-abbrev pub recordWords : ℕ
-recordWords = 9
+abbrev pub rootWords : ℕ
+rootWords = 9
+
+abbrev pub partyWords : ℕ
+partyWords = 10
 
 -- The root record of nine words.
 abbrev pub rootIn : List ℕ → Root
@@ -28,7 +31,7 @@ rootIn w = record {
   free = getD w 8 0;
 }
 
--- The party's record of nine words.
+-- The party's record of ten words.
 abbrev pub partyIn : List ℕ → Party
 partyIn w = record {
   operation = getD w 0 0;
@@ -40,6 +43,7 @@ partyIn w = record {
   old = getD w 6 0;
   owed = getD w 7 0;
   answer = getD w 8 0;
+  setting = getD w 9 0;
 }
 
 -- The view that a step function is lent: the root by value, the party's record as words, the party's number, lock words and page words.
@@ -52,5 +56,5 @@ left a r p q ls ps = outcome a (seen r p q ls ps)
 
 -- What holds once the refusal table's tests have passed: the party's record has its words, and the view is Ready.
 pub record AtHand (r : Root) (p : List ℕ) (q : ℕ) (ls ps : List ℕ) : Type 0 where
-  pub words : length p ≡ recordWords
+  pub words : length p ≡ partyWords
   pub ready : Ready (seen r p q ls ps)

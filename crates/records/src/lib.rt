@@ -1,13 +1,13 @@
 // The root record and a party's record (document 01, "The lent memory"): as format and begin write them whole, and as the core's own words.
-// The core works on a copy of each record, nine words in document 01's order; here the words have their names.
+// The core works on a copy of each record, nine words of a root and ten of a party, in the documents' order; here the words have their names.
 // Main statements: each function equals the model's definition of the same thing, for every word given; root_of and party_of are rootIn and partyIn,
 // and words_of_root and words_of_party undo them; at_step changes one word.
 ghost use mathlib.Core.Path.{_≡_};
 ghost use lib.ListN.{length};
 ghost use Rattle.model.specs.Records as Records;
 ghost use Rattle.model.specs.Records.{rootSized, atStep};
-ghost use Rattle.model.specs.Answers.{operationNumber};
-ghost use Rattle.records.specs.Words.{recordWords, rootIn, partyIn};
+ghost use Rattle.model.specs.Answers.{operationNumber, settingGiven};
+ghost use Rattle.records.specs.Words.{rootWords, partyWords, rootIn, partyIn};
 use model::DELETE;
 use model::FIND;
 use model::FileSizes;
@@ -44,6 +44,8 @@ pub const OWED: usize = 7;
 
 pub const ANSWER: usize = 8;
 
+pub const SETTING: usize = 9;
+
 // A root record of these sizes, all else zero.
 pub fn root_of_sizes(sizes: FileSizes) -> Root
     ensures { λ r. ⌜ r ≡ rootSized sizes ⌝ }
@@ -75,6 +77,7 @@ pub fn idle() -> Party
         old: 0,
         owed: 0,
         answer: 0,
+        setting: 0,
     }
 }
 
@@ -84,19 +87,31 @@ pub fn operation_number(operation: Operation) -> u32
 {
     match operation {
         Operation::Find => FIND,
-        Operation::Insert => INSERT,
+        Operation::Insert(_) => INSERT,
         Operation::Delete => DELETE,
     }
 }
 
-// "A begin sets operation, key and step 1 and zeroes the rest."
+// The setting that an operation is given: an insert's, else 0.
+pub fn setting_given(operation: Operation) -> u32
+    ensures { λ r. ⌜ r ≡ settingGiven operation ⌝ }
+{
+    match operation {
+        Operation::Find => 0,
+        Operation::Insert(x) => x,
+        Operation::Delete => 0,
+    }
+}
+
+// "A begin sets operation, key and step 1 and zeroes the rest"; "The party's record gains the setting".
 pub fn begun(operation: Operation, key: u32) -> Party
-    ensures { λ r. ⌜ r ≡ Records.begun (operationNumber operation) key ⌝ }
+    ensures { λ r. ⌜ r ≡ Records.begun (operationNumber operation) key (settingGiven operation) ⌝ }
 {
     let mut party = idle();
     party.operation = operation_number(operation);
     party.key = key;
     party.step = 1;
+    party.setting = setting_given(operation);
     party
 }
 
@@ -118,7 +133,7 @@ pub fn words_of_root(r: Root) -> [u32; 9]
 }
 
 // The words of a party's record.
-pub fn words_of_party(p: Party) -> [u32; 9]
+pub fn words_of_party(p: Party) -> [u32; 10]
     ensures { λ w. ⌜ partyIn w ≡ p ⌝ }
 {
     [
@@ -131,12 +146,13 @@ pub fn words_of_party(p: Party) -> [u32; 9]
         p.old,
         p.owed,
         p.answer,
+        p.setting,
     ]
 }
 
 // The root record that nine words make.
 pub fn root_of(w: &[u32]) -> Root
-    requires { ⌜ length (now w) ≡ recordWords ⌝ }
+    requires { ⌜ length (now w) ≡ rootWords ⌝ }
     ensures { λ r. ⌜ r ≡ rootIn (now (w .entry)) ⌝ }
 {
     Root {
@@ -152,9 +168,9 @@ pub fn root_of(w: &[u32]) -> Root
     }
 }
 
-// The party's record that nine words make.
+// The party's record that ten words make.
 pub fn party_of(w: &[u32]) -> Party
-    requires { ⌜ length (now w) ≡ recordWords ⌝ }
+    requires { ⌜ length (now w) ≡ partyWords ⌝ }
     ensures { λ r. ⌜ r ≡ partyIn (now (w .entry)) ⌝ }
 {
     Party {
@@ -167,12 +183,13 @@ pub fn party_of(w: &[u32]) -> Party
         old: w[OLD],
         owed: w[OWED],
         answer: w[ANSWER],
+        setting: w[SETTING],
     }
 }
 
 // "The step number is that of the next step."
 pub fn at_step(party: &mut [u32], k: u32)
-    requires { ⌜ length (now party) ≡ recordWords ⌝ }
+    requires { ⌜ length (now party) ≡ partyWords ⌝ }
     ensures { λ _. ⌜ partyIn (now (party .exit)) ≡ atStep k (partyIn (now (party .entry))) ⌝ }
 {
     party[STEP] = k;

@@ -31,7 +31,7 @@ use model::Party;
 use model::Root;
 use model::SIZE_REFUSED;
 
-// "N original chains, 1 to P. P chains at most, 1 to 256. V overflow pages, 0 to 752. Q parties, 1 to 16. b keys a page, 1 to 12."
+// "N original chains, 1 to P. P chains at most, 1 to 256. V overflow pages, 0 to 752. Q parties, 1 to 16." "b is 1 to 6".
 pub fn within_limits(root: Root) -> bool
     ensures { λ r. ⌜ r ≡ withinLimits root ⌝ }
 {

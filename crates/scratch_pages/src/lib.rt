@@ -7,7 +7,7 @@ ghost use Prim.Native.Nat.{ℕ, _<_};
 ghost use lib.ListN.{length};
 ghost use Rattle.model.specs.Pages.{pageOf, scratchPage};
 ghost use Rattle.model.specs.ScratchPages as ScratchPages;
-ghost use Rattle.records.specs.Words.{recordWords, partyIn, seen, left};
+ghost use Rattle.records.specs.Words.{partyWords, partyIn, seen, left};
 ghost use Rattle.endings.specs.Scratch.{HasScratch};
 use model::DAMAGE;
 use model::Page;
@@ -32,7 +32,7 @@ pub fn primary_written(
     pages: &mut [u32],
     next: u32,
 ) -> StepAnswer
-    requires { ⌜ (length (now party) ≡ recordWords) × (HasScratch root q (now pages)) × (partyIn (now party) .chain < root .primaries) ⌝ }
+    requires { ⌜ (length (now party) ≡ partyWords) × (HasScratch root q (now pages)) × (partyIn (now party) .chain < root .primaries) ⌝ }
     ensures { λ a. ⌜ ((ls : List ℕ) → left a root (now (party .exit)) q ls (now (pages .exit)) ≡ ScratchPages.primaryWritten (seen root (now (party .entry)) q ls (now (pages .entry))) next) ⌝ }
 {
     let w = scratch_of(root, q, &pages[..]);

@@ -29,7 +29,7 @@ use Rattle.free_list.proofs.Linked.{head-drawn, damage-drawn}
 use Rattle.chain_scan.specs.declared.Looked.{Looked}
 use Rattle.chain_scan.specs.declared.Scan.the-variants as Scan
 use Rattle.chain_scan.specs.Scans.{scanned}
-use Rattle.key_source.specs.Sources.{keysOf}
+use Rattle.key_source.specs.Sources.{chosenOf}
 use Rattle.split_build.specs.declared.Division.{Division}
 use Rattle.split_build.specs.Dividing.{recordsOf, both, halved, stayingFrom, goingFrom, Divides, firstNeed, bothNeed, CanWriteHalves, bothWritten}
 use Rattle.split_build.proofs.Halving.{looks, halves, both-few, first-is, all-are, halves-are, can-write-halves}
@@ -63,7 +63,7 @@ module _ (r : Root) (p : List ℕ) (q : ℕ) (ls ps : List ℕ) (hand : AtHand r
         m + n ≤ r .free → (h link scratch : ℕ) {r′ : Root} {p′ : Party} {ps′ : List ℕ} → Drawn.Head h ≡ drawn (pagesTaken r ps (m + n)) → link ≡ linkOf (pageOf ps (partyIn p .chain))
         → scratch ≡ scratchPage r q → r′ ≡ withFreeList h (r .free - (m + n)) r → p′ ≡ atStep 18 (partyIn (set p 6 link))
         → ps′
-        ≡ bothWritten (r .capacity) (r .level + 1) (partyIn p .other) scratch (both (keysOf ps (stayingFrom d)) (keysOf ps (goingFrom d))) (firstNeed r d) (linkedPages ps (bothNeed r d) (r .head)) ps
+        ≡ bothWritten (r .capacity) (r .level + 1) (partyIn p .other) scratch (both (chosenOf ps (stayingFrom d)) (chosenOf ps (goingFrom d))) (firstNeed r d) (linkedPages ps (bothNeed r d) (r .head)) ps
         → moved (viewing r′ p′ q ls ps′) ≡ step17 (seen r p q ls ps)
     moves enough h link scratch e el es er ep written =
         let whole = looks r p q ls ps hand l looked in
@@ -71,8 +71,8 @@ module _ (r : Root) (p : List ℕ) (q : ℕ) (ls ps : List ℕ) (hand : AtHand r
         let t : Taken = record { pages = linkedPages ps (m + n) (r .head); head = h } in
         let write : ℕ → Halves → ℕ → List ℕ
         = λ s x k. bothWritten (r .capacity) (r .level + 1) (partyIn p .other) s x (firstNeed r d) (linkedPages ps k (r .head)) ps in
-        let same : both (keysOf ps (stayingFrom d)) (keysOf ps (goingFrom d)) ≡ hs = halves-are r p q ls ps hand l looked d divides in
-        let pages = written ∙ ap (λ (s : ℕ). write s (both (keysOf ps (stayingFrom d)) (keysOf ps (goingFrom d))) (bothNeed r d)) es
+        let same : both (chosenOf ps (stayingFrom d)) (chosenOf ps (goingFrom d)) ≡ hs = halves-are r p q ls ps hand l looked d divides in
+        let pages = written ∙ ap (λ (s : ℕ). write s (both (chosenOf ps (stayingFrom d)) (chosenOf ps (goingFrom d))) (bothNeed r d)) es
         ∙ ap₂ (λ (x : Halves) (k : ℕ). write (scratchPage r q) x k) same (sym needed) in
         let party = ep ∙ ap (atStep 18) (old-written p link (hand .words)) ∙ ap (λ (x : ℕ). atStep 18 (withOld x (partyIn p))) (el ∙ whole .link) in
         taken-divided r (partyIn p) q ls ps open-to (whole .chain) (whole .is-sound) (m + n) (needed ∙ all-are r p q ls ps hand l looked d divides) enough t (firstNeed r d)

@@ -11,7 +11,7 @@ use Rattle.model.specs.Pages.{withPage}
 use Rattle.model.specs.Filling.{overflowNeeded, primaryOf, overflowWritten}
 use Rattle.chains.specs.Links.{linkedPages, linkAfter}
 use Rattle.chains.proofs.Links.{length-linkedPages, pages-append, leads-all, front-apart, back-apart, both-apart}
-use Rattle.key_source.specs.Sources.{keysOf}
+use Rattle.key_source.specs.Sources.{chosenOf}
 use Rattle.chain_writer.specs.declared.Planned.{Planned}
 use Rattle.chain_writer.specs.declared.Rest.the-variants.{Chain}
 use Rattle.chain_writer.specs.Writing.{restWritten, allWritten, CanWrite}
@@ -69,12 +69,12 @@ module _ (r : Root) (ps : List ℕ) (d : Division) (scratch other : PageAddress)
 
   pub both-written :
       allWritten (r .capacity) (stayPlan (r .level + 1)) (r .head) (Chain (goPlan (r .level + 1))) ps
-      ≡ bothWritten (r .capacity) (r .level + 1) (other .0) (scratch .0) (both (keysOf ps (stayingFrom d)) (keysOf ps (goingFrom d))) (firstNeed r d) (linkedPages ps (bothNeed r d) (r .head)) ps
+      ≡ bothWritten (r .capacity) (r .level + 1) (other .0) (scratch .0) (both (chosenOf ps (stayingFrom d)) (chosenOf ps (goingFrom d))) (firstNeed r d) (linkedPages ps (bothNeed r d) (r .head)) ps
   unfolding bothWritten restWritten
   both-written =
       let b = r .capacity in
-      let es = keysOf ps (stayingFrom d) in
-      let fs = keysOf ps (goingFrom d) in
+      let es = chosenOf ps (stayingFrom d) in
+      let fs = chosenOf ps (goingFrom d) in
       let write = can-write-both (r .level + 1) in
       let written : List ℕ → List ℕ → List ℕ
       = λ xs ys. withPage (withPage (overflowWritten b (overflowWritten b ps xs es) ys fs) (other .0) (primaryOf b (r .level + 1) fs ys)) (scratch .0) (primaryOf b (r .level + 1) es xs) in

@@ -1,5 +1,5 @@
 -- The party's chain, looked through, and its division: what dividing it and writing its halves need.
--- Main statements: some-stay, division-divides (a division, by its parts); can-divide; both-few (pages needed are no more than keys), first-is, all-are (the pages that the model counts), can-write-halves, halves-are.
+-- Main statements: some-stay, division-divides (a division, by its parts); can-divide; both-few (pages needed are no more than records), first-is, all-are (the pages that the model counts), can-write-halves, halves-are.
 use mathlib.Core.Path.{_≡_, sym, ap, ap₂, _∙_}
 use mathlib.Core.List.{List}
 use Prim.Native.Nat.{ℕ, _+_, _-_, _*_, _/_, _≤_, _<_}
@@ -10,7 +10,8 @@ use Rattle.model.specs.declared.Root.{Root}
 use Rattle.model.specs.declared.ChainAddress.{ChainAddress}
 use Rattle.model.specs.Pages.{scratchPage}
 use Rattle.model.specs.Chains.{sound, chainOf}
-use Rattle.model.specs.Entries.{Entry, staying, going}
+use Rattle.model.specs.declared.Entry.{Entry}
+use Rattle.model.specs.Entries.{staying, going}
 use Rattle.model.specs.Filling.{overflowNeeded, pagesFor}
 use Rattle.model.specs.FreeList.{Taken, pagesTaken}
 use Rattle.model.specs.Steps.SplitBuild.{Halves, halvesNeed}
@@ -21,7 +22,7 @@ use Rattle.chain_scan.specs.declared.Scan.the-variants as Scan
 use Rattle.chain_scan.specs.Scans.{scanned}
 use Rattle.key_source.specs.declared.Halving.{Halving}
 use Rattle.key_source.specs.declared.Place.{Place}
-use Rattle.key_source.specs.Sources.{Sits, keysAt, chosen, keysOf}
+use Rattle.key_source.specs.Sources.{Sits, recordsAt, chosen, chosenOf}
 use Rattle.key_source.proofs.Choices.{halves-length}
 use Rattle.chains.specs.Links.{linkedPages}
 use Rattle.chains.proofs.Links.{leads-all, front-apart}
@@ -33,7 +34,7 @@ use Rattle.split_build.proofs.Looking.{Looks, chain-looked}
 
 -- ---- How many
 
--- Pages needed are no more than keys.
+-- Pages needed are no more than records.
 pub needed-at-most : (b m : ℕ) → 1 ≤ b → overflowNeeded b m ≤ m
 unfolding overflowNeeded
 needed-at-most b m some =
@@ -42,7 +43,7 @@ needed-at-most b m some =
     let less : (m + (b - 1)) / b < m + 2 = div-lt-iff-lt-mul {k = b} {x = m + (b - 1)} {y = m + 2} (omega arith) .1 most in
     omega (arith, less)
 
--- Together the halves have all keys.
+-- Together the halves have all records.
 pub halved-length : (h : Halving) (es : List Entry) → length (staying (h .originals) (h .level) (h .chain .0) es) + length (going (h .originals) (h .level) (h .chain .0) es) ≡ length es
 unfolding chosen
 halved-length h es = halves-length h es
@@ -57,16 +58,16 @@ module _ (r : Root) (ps : List ℕ) (c : ChainAddress) (l : Looked) (can : CanDi
   abbrev division : Division
   division = record { halving = halvingOf r c; place = place; staying = n; going = l .count - n }
 
-  module _ (sits : Sits ps place) (keys : keysAt ps place ≡ recordsOf ps (c .0) (l .pages)) (many : n ≡ length (keysOf ps (stayingFrom division))) where
+  module _ (sits : Sits ps place) (same : recordsAt ps place ≡ recordsOf ps (c .0) (l .pages)) (many : n ≡ length (chosenOf ps (stayingFrom division))) where
     records : List Entry
     records = recordsOf ps (c .0) (l .pages)
 
     halves-here : Halves
     halves-here = halved r (c .0) records
 
-    stays : keysOf ps (stayingFrom division) ≡ halves-here .stay
-    unfolding keysOf chosen halves-here records
-    stays = ap (staying (r .originals) (r .level + 1) (c .0)) keys
+    stays : chosenOf ps (stayingFrom division) ≡ halves-here .stay
+    unfolding chosenOf chosen halves-here records
+    stays = ap (staying (r .originals) (r .level + 1) (c .0)) same
 
     together : n + length (halves-here .go) ≡ l .count
     unfolding halves-here records
@@ -76,12 +77,12 @@ module _ (r : Root) (ps : List ℕ) (c : ChainAddress) (l : Looked) (can : CanDi
     some-stay = omega (arith, together)
 
     pub division-divides : Divides ps (halved r (c .0) (recordsOf ps (c .0) (l .pages))) division
-    unfolding keysOf chosen halves-here records
+    unfolding chosenOf chosen halves-here records
     division-divides = record {
       sits = sits;
       can-halve = record { some-original = can .some-original; originals-fit = can .originals-fit; level-fits = omega (arith, can .level-fits) };
       stay = stays;
-      go = ap (going (r .originals) (r .level + 1) (c .0)) keys;
+      go = ap (going (r .originals) (r .level + 1) (c .0)) same;
       many-stay = many ∙ ap length stays;
       many-go = omega (arith, together);
     }
@@ -137,7 +138,7 @@ module _ (r : Root) (p : List ℕ) (q : ℕ) (ls ps : List ℕ) (hand : AtHand r
       unfolding halvesNeed pagesFor
       all-are = ap₂ (λ (m n : ℕ). m + n) first-is (ap (overflowNeeded (r .capacity)) go-is)
 
-      pub halves-are : both (keysOf ps (stayingFrom d)) (keysOf ps (goingFrom d)) ≡ halves
+      pub halves-are : both (chosenOf ps (stayingFrom d)) (chosenOf ps (goingFrom d)) ≡ halves
       halves-are = ap₂ both (divides .stay) (divides .go) ∙ same
 
       pub can-write-halves : (t : Taken) → pagesTaken r ps (bothNeed r d) ≡ sound t → CanWriteHalves r ps d (scratchPage r q) (partyIn p .other)

@@ -30,14 +30,14 @@ pub record Looks (r : Root) (ps : List ℕ) (c : ℕ) (l : Looked) : Type 0 wher
 pub chain-looked : (r : Root) (ps : List ℕ) (c : ℕ) (l : Looked) → r .capacity ≤ mostRecords → r .overflow ≤ 752 → CanWalk r ps c
     → Scan.Sound l ≡ scanned 0 (chainOf r ps c) → Looks r ps c l
 unfolding recordsOf readChain
-chain-looked r ps c l keys overflow can e =
+chain-looked r ps c l fit overflow can e =
     let x = looked-at (chainOf r ps c) 0 l e in
     let d = x .chain in
     record {
       chain = d;
       is-sound = x .is-sound;
-      can-start = subst (CanStart ps c) (sym (x .pages)) (chain-starts r ps c keys overflow can d (x .is-sound));
-      records = ap (recordsOf ps c) (x .pages) ∙ chain-records r ps c keys overflow can d (x .is-sound);
+      can-start = subst (CanStart ps c) (sym (x .pages)) (chain-starts r ps c fit overflow can d (x .is-sound));
+      records = ap (recordsOf ps c) (x .pages) ∙ chain-records r ps c fit overflow can d (x .is-sound);
       link = ap (λ (h : Chain). h .link) (chain-reads r ps c d (x .is-sound) .chain-is);
       count = x .count;
     }

@@ -9,20 +9,21 @@ use lib.ListN.{length, take, drop}
 use Rattle.model.specs.declared.Root.{Root}
 use Rattle.model.specs.Sizes.{pageWords, mostRecords}
 use Rattle.model.specs.Addresses.{splitBarred, countOfChains}
-use Rattle.model.specs.Entries.{Entry, staying, going}
+use Rattle.model.specs.declared.Entry.{Entry}
+use Rattle.model.specs.Entries.{staying, going}
 use Rattle.model.specs.Pages.{pageOf, withPage, linkOf, entriesOf}
 use Rattle.model.specs.Chains.{chainOf}
 use Rattle.model.specs.Filling.{overflowNeeded, primaryOf, overflowWritten}
 use Rattle.model.specs.Steps.SplitBuild.{Halves}
 use Rattle.model.proofs.Laws.Distinct.{Outside}
-use Rattle.records.specs.Words.{recordWords, rootIn, partyIn, AtHand}
+use Rattle.records.specs.Words.{rootWords, rootIn, partyIn, AtHand}
 use Rattle.chain_keys.specs.Gathering.{entriesFrom}
 use Rattle.chain_scan.specs.declared.Looked.{Looked}
 use Rattle.chain_scan.specs.declared.Scan.the-variants as Scan
 use Rattle.chain_scan.specs.Scans.{scanned}
 use Rattle.key_source.specs.declared.Choice.the-variants.{Staying, Going}
 use Rattle.key_source.specs.declared.Source.{Source}
-use Rattle.key_source.specs.Sources.{Sits, CanStart, CanHalve, keysOf}
+use Rattle.key_source.specs.Sources.{Sits, CanStart, CanHalve, chosenOf}
 use Rattle.chains.specs.Links.{linkedPages}
 use Rattle.chain_writer.specs.Writing.{CanFill}
 use Rattle.split_build.specs.declared.Division.{Division}
@@ -49,16 +50,16 @@ stayingFrom d = record { choice = Staying (d .halving); place = d .place }
 abbrev pub goingFrom : Division → Source
 goingFrom d = record { choice = Going (d .halving); place = d .place }
 
--- The halves h can be read where they stand, and d has how many keys each has.
+-- The halves h can be read where they stand, and d has how many records each has.
 pub record Divides (ps : List ℕ) (h : Halves) (d : Division) : Type 0 where
   pub sits : Sits ps (d .place)
   pub can-halve : CanHalve (d .halving)
-  pub stay : keysOf ps (stayingFrom d) ≡ h .stay
-  pub go : keysOf ps (goingFrom d) ≡ h .go
+  pub stay : chosenOf ps (stayingFrom d) ≡ h .stay
+  pub go : chosenOf ps (goingFrom d) ≡ h .go
   pub many-stay : d .staying ≡ length (h .stay)
   pub many-go : d .going ≡ length (h .go)
 
--- The chain of page c has as many pages and keys as l says, and they can be read; the hash function of the next level is one that the file uses.
+-- The chain of page c has as many pages and records as l says, and they can be read; the hash function of the next level is one that the file uses.
 pub record CanDivide (r : Root) (ps : List ℕ) (c : ℕ) (l : Looked) : Type 0 where
   pub some-original : 1 ≤ r .originals
   pub originals-fit : r .originals ≤ 256
@@ -82,8 +83,8 @@ pub record CanWriteHalves (r : Root) (ps : List ℕ) (d : Division) (scratch oth
   pub level-fits : r .level ≤ 8
   pub sits : Sits ps (d .place)
   pub can-halve : CanHalve (d .halving)
-  pub many-stay : length (keysOf ps (stayingFrom d)) ≡ d .staying
-  pub many-go : length (keysOf ps (goingFrom d)) ≡ d .going
+  pub many-stay : length (chosenOf ps (stayingFrom d)) ≡ d .staying
+  pub many-go : length (chosenOf ps (goingFrom d)) ≡ d .going
   pub scratch-fits : scratch * pageWords + pageWords ≤ length ps
   pub other-fits : other * pageWords + pageWords ≤ length ps
   pub can-fill : CanFill ps (bothNeed r d) (r .head)
@@ -99,7 +100,7 @@ bothWritten b level other scratch h first taken ps =
 
 -- A chain is left to split into, and l is what is said of the party's chain.
 pub record CanSplit (w p : List ℕ) (q : ℕ) (l : Looked) (ls ps : List ℕ) : Type 0 where
-  pub words : length w ≡ recordWords
+  pub words : length w ≡ rootWords
   pub at-hand : AtHand (rootIn w) p q ls ps
   pub not-barred : splitBarred (countOfChains (rootIn w)) (rootIn w .primaries) ≡ false
   pub looked : Scan.Sound l ≡ scanned 0 (chainOf (rootIn w) ps (partyIn p .chain))

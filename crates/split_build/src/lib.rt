@@ -1,12 +1,12 @@
-// Step 17, inside an insert (document 01, "The thirty steps"): the keys of a chain are divided over it and the new chain, read where they stand.
+// Step 17, inside an insert (document 01, "The thirty steps"): the records of a chain are divided over it and the new chain, read where they stand.
 // Main statements: division_of counts both halves; write_halves is bothWritten of them; step_17 is the model's step17, for every word that the memory may hold.
 
 ghost use mathlib.Core.Path.{_≡_};
 ghost use Prim.Native.Nat.{_+_};
 ghost use lib.ListN.{length};
 ghost use Rattle.model.specs.Steps.SplitBuild as SplitBuild;
-ghost use Rattle.records.specs.Words.{recordWords, rootIn, seen, left, AtHand};
-ghost use Rattle.key_source.specs.Sources.{keysOf};
+ghost use Rattle.records.specs.Words.{rootWords, rootIn, seen, left, AtHand};
+ghost use Rattle.key_source.specs.Sources.{chosenOf};
 ghost use Rattle.chains.specs.Links.{linkedPages};
 ghost use Rattle.split_build.specs.Dividing.{recordsOf, halved, stayingFrom, goingFrom, Divides, CanDivide, firstNeed, bothNeed, both, CanWriteHalves, bothWritten, CanSplit};
 use chain_scan::Looked;
@@ -30,7 +30,7 @@ use records::HEAD;
 use records::OLD;
 use records::OTHER;
 
-// A chain to be divided: how, from where, and how many of its keys stay and go.
+// A chain to be divided: how, from where, and how many of its records stay and go.
 struct Division {
     halving: Halving,
     place: Place,
@@ -71,7 +71,7 @@ fn write_halves(
     pages: &mut [u32],
 )
     requires { ⌜ CanWriteHalves root (now pages) d (scratch .0) (other .0) ⌝ }
-    ensures { λ _. ⌜ now (pages .exit) ≡ bothWritten (root .capacity) (root .level + 1) (other .0) (scratch .0) (both (keysOf (now (pages .entry)) (stayingFrom d)) (keysOf (now (pages .entry)) (goingFrom d))) (firstNeed root d) (linkedPages (now (pages .entry)) (bothNeed root d) (root .head)) (now (pages .entry)) ⌝ }
+    ensures { λ _. ⌜ now (pages .exit) ≡ bothWritten (root .capacity) (root .level + 1) (other .0) (scratch .0) (both (chosenOf (now (pages .entry)) (stayingFrom d)) (chosenOf (now (pages .entry)) (goingFrom d))) (firstNeed root d) (linkedPages (now (pages .entry)) (bothNeed root d) (root .head)) (now (pages .entry)) ⌝ }
 {
     let level = root.level + 1;
     let halving = d.halving;
@@ -141,7 +141,7 @@ pub fn step_17(
     locks: &mut [u32],
     pages: &mut [u32],
 ) -> StepAnswer
-    requires { ⌜ (length (now root) ≡ recordWords) × AtHand (rootIn (now root)) (now party) q (now locks) (now pages) ⌝ }
+    requires { ⌜ (length (now root) ≡ rootWords) × AtHand (rootIn (now root)) (now party) q (now locks) (now pages) ⌝ }
     ensures { λ a. ⌜ left a (rootIn (now (root .exit))) (now (party .exit)) q (now (locks .exit)) (now (pages .exit)) ≡ SplitBuild.step17 (seen (rootIn (now (root .entry))) (now (party .entry)) q (now (locks .entry)) (now (pages .entry))) ⌝ }
 {
     let r = records::root_of(&root[..]);

@@ -19,7 +19,7 @@ use Rattle.model.specs.LockRequests.{request, withoutHold, givenUp, release, ro
 use Rattle.model.specs.Ready.{Ready, viewing}
 use Rattle.model.specs.Endings.{oldPagesFirst, finished, endedWith}
 use Rattle.model.specs.Steps.SplitLocks.{splitting, step16, step19, step22}
-use Rattle.records.specs.Words.{recordWords, partyIn}
+use Rattle.records.specs.Words.{partyWords, partyIn}
 use Rattle.records.proofs.Words.{chain-written, other-written}
 use Rattle.lock_requests.specs.Words.{leftAfter}
 use Rattle.lock_requests.proofs.Releases.{held-goes-on, not-held-refused}
@@ -44,7 +44,7 @@ module _ (v : View) {b : Bool} (e : b ≡ splitBarred (countOfChains (v .root)) 
   open-requests h ei ep eo = rw (← e, h, ← ei, ← ep) eo
 
 -- The words that a grant at 16 writes; n is the number of chains as the code found it.
-pub grant-writes : (r : Root) (w : List ℕ) {n : ℕ} {p : Party} → length w ≡ recordWords → n ≡ countOfChains r → p ≡ atStep 17 (partyIn (set (set w 4 (r .next)) 5 n))
+pub grant-writes : (r : Root) (w : List ℕ) {n : ℕ} {p : Party} → length w ≡ partyWords → n ≡ countOfChains r → p ≡ atStep 17 (partyIn (set (set w 4 (r .next)) 5 n))
     → p ≡ splitting r (partyIn w)
 unfolding splitting
 grant-writes r w {n} long en ep =

@@ -7,7 +7,7 @@ ghost use Prim.Native.Nat.{ℕ};
 ghost use lib.ListN.{length};
 ghost use Rattle.model.specs.declared.Root.{Root};
 ghost use Rattle.model.specs.Steps.SplitLocks as SplitLocks;
-ghost use Rattle.records.specs.Words.{recordWords, seen, left, AtHand};
+ghost use Rattle.records.specs.Words.{partyWords, seen, left, AtHand};
 ghost use Rattle.lock_requests.specs.Words.{CanLock};
 ghost use Rattle.endings.specs.Scratch.{HasScratch};
 ghost use Rattle.split_locks.specs.Leaving.{splitMade};
@@ -68,7 +68,7 @@ pub fn step_19(party: &mut [u32], q: u32, locks: &mut [u32]) -> StepAnswer
 
 // "22 ... owed becomes 3; then 13 and 14 on the old chain if it has old pages, else done": once root is given up.
 fn root_left(root: Root, party: &mut [u32], q: u32, pages: &mut [u32]) -> StepAnswer
-    requires { ⌜ (length (now party) ≡ recordWords) × HasScratch root q (now pages) ⌝ }
+    requires { ⌜ (length (now party) ≡ partyWords) × HasScratch root q (now pages) ⌝ }
     ensures { λ a. ⌜ ((ls : List ℕ) → left a root (now (party .exit)) q ls (now (pages .exit)) ≡ splitMade (seen root (now (party .entry)) q ls (now (pages .entry)))) ⌝ }
 {
     let old = party[OLD];

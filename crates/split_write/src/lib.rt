@@ -4,7 +4,7 @@
 ghost use mathlib.Core.Path.{_≡_};
 ghost use lib.ListN.{length};
 ghost use Rattle.model.specs.Steps.SplitWrite as SplitWrite;
-ghost use Rattle.records.specs.Words.{recordWords, rootIn, seen, left, AtHand};
+ghost use Rattle.records.specs.Words.{rootWords, rootIn, seen, left, AtHand};
 use model::Root;
 use model::StepAnswer;
 use records::LEVEL;
@@ -32,7 +32,7 @@ pub fn step_20(
     locks: &mut [u32],
     pages: &mut [u32],
 ) -> StepAnswer
-    requires { ⌜ (length (now root) ≡ recordWords) × AtHand (rootIn (now root)) (now party) q (now locks) (now pages) ⌝ }
+    requires { ⌜ (length (now root) ≡ rootWords) × AtHand (rootIn (now root)) (now party) q (now locks) (now pages) ⌝ }
     ensures { λ a. ⌜ left a (rootIn (now (root .exit))) (now (party .exit)) q (now (locks .exit)) (now (pages .exit)) ≡ SplitWrite.step20 (seen (rootIn (now (root .entry))) (now (party .entry)) q (now (locks .entry)) (now (pages .entry))) ⌝ }
 {
     let r = records::root_of(&root[..]);
@@ -49,7 +49,7 @@ pub fn step_21(
     locks: &mut [u32],
     pages: &mut [u32],
 ) -> StepAnswer
-    requires { ⌜ (length (now root) ≡ recordWords) × AtHand (rootIn (now root)) (now party) q (now locks) (now pages) ⌝ }
+    requires { ⌜ (length (now root) ≡ rootWords) × AtHand (rootIn (now root)) (now party) q (now locks) (now pages) ⌝ }
     ensures { λ a. ⌜ left a (rootIn (now (root .exit))) (now (party .exit)) q (now (locks .exit)) (now (pages .exit)) ≡ SplitWrite.step21 (seen (rootIn (now (root .entry))) (now (party .entry)) q (now (locks .entry)) (now (pages .entry))) ⌝ }
 {
     let r = records::root_of(&root[..]);

@@ -24,10 +24,10 @@ use Rattle.model.specs.declared.BeginAnswer.{BeginAnswer}
 use Rattle.model.specs.declared.BeginAnswer.the-variants as BeginAnswer
 use Rattle.model.specs.Sizes.{pageWords}
 use Rattle.model.specs.Records.{idle, begun, withOld, withOwed}
-use Rattle.model.specs.Answers.{operationNumber, performs}
+use Rattle.model.specs.Answers.{operationNumber, performs, settingGiven, foundOrAbsent}
 use Rattle.model.specs.LockWords.{Claim}
 use Rattle.model.specs.Addresses.{splitBarred, countOfChains}
-use Rattle.model.specs.Entries.{hasKey}
+use Rattle.model.specs.Entries.{hasKey, settingIn}
 use Rattle.model.specs.Pages.{pageOf, withPage, levelOf, linkOf, linkToFirst, entriesOf, pageSound, primaryPage, scratchPage, linkedPage, namesOverflow}
 use Rattle.model.specs.Chains.{Checked, damaged, sound, Chain, chainOf, listFrom}
 use Rattle.model.specs.Filling.{pagesFor}
@@ -215,7 +215,7 @@ unfolding step09
 effects-09 v =
     let s = scratchOf v in
     guarded-does v 9 (pageSound (v .root) s)
-    (either-does v 9 (hasKey (v .party .key) (entriesOf s)) (answered-does v OperationAnswer.Found)
+    (either-does v 9 (hasKey (v .party .key) (entriesOf s)) (answered-does v (foundOrAbsent (settingIn (v .party .key) (entriesOf s))))
     (cond-ind (Effect v 9) (eqb (linkOf s) 0) _ _ (λ _. answered-does v OperationAnswer.Absent) (λ e. looked-does v e)))
 
 rebuild-does : (v : View) (c : Chain) (h : Change) → Effect v 10 (rebuildWith v c h)
@@ -522,7 +522,7 @@ module _ (m : Memory) (q : ℕ) (o : Operation) (k : ℕ) where
   begun-alters : firstCause (beginRows m q) ≡ 0 → beginCall m q o k ≡ called BeginAnswer.Begun (withBegun m q o k) → Begins m q o k
   unfolding withBegun
   begun-alters z e =
-      let p = begun (operationNumber o) k in
+      let p = begun (operationNumber o) k (settingGiven o) in
       record {
         own = ap (λ (c : Called BeginAnswer). partyAt (c .memory .parties) q) e ∙ row-same (m .parties) q p (begin-fits m q z);
         others = λ j n. ap (λ (c : Called BeginAnswer). partyAt (c .memory .parties) j) e ∙ row-other (m .parties) q j p n;

@@ -16,7 +16,7 @@ use Rattle.model.specs.declared.StepAnswer.the-variants as StepAnswer
 use Rattle.model.specs.Records.{withOld, withOwed}
 use Rattle.model.specs.LockWords.{Claim}
 use Rattle.model.specs.Addresses.{splitBarred, countOfChains}
-use Rattle.model.specs.Entries.{hasKey}
+use Rattle.model.specs.Entries.{hasKey, settingIn}
 use Rattle.model.specs.Pages.{pageOf, levelOf, linkOf, entriesOf, pageSound, primaryPage, linkedPage, namesOverflow}
 use Rattle.model.specs.Chains.{Checked, damaged, sound, Chain, chainOf, listFrom}
 use Rattle.model.specs.Filling.{pagesFor}
@@ -39,6 +39,7 @@ use Rattle.model.specs.Steps.MergeLocks.{mergeStops, step23, step24, step25, st
 use Rattle.model.specs.Steps.MergeWrite.{mergedAway, partnerCleared, step27, step28, step29}
 use Rattle.model.specs.Steps.Dispatch.{noStep, stepTable, stepOf, Want, wantsNone, wantsRoot, wantsChain, wantsChainExclusive, wantsNext, wantsTarget, wantsOther, wantTable, wants}
 use Rattle.model.proofs.Laws.Lists.{Told, holds, fails, tell, _▸_}
+use Rattle.model.specs.Answers.{foundOrAbsent}
 
 -- ---- The answers that go with a request
 
@@ -208,7 +209,7 @@ unfolding step09
 asks-09 v =
     let s = scratchOf v in
     let on = either-fair v (eqb (linkOf s) 0) (answered-fair v OperationAnswer.Absent) (looked-fair v) in
-    guarded-fair v (pageSound (v .root) s) (either-fair v (hasKey (v .party .key) (entriesOf s)) (answered-fair v OperationAnswer.Found) on)
+    guarded-fair v (pageSound (v .root) s) (either-fair v (hasKey (v .party .key) (entriesOf s)) (answered-fair v (foundOrAbsent (settingIn (v .party .key) (entriesOf s)))) on)
 
 asks-10 : Asks step10 wantsNone
 unfolding step10

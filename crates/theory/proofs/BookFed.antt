@@ -1,4 +1,4 @@
--- What the set book is fed is what the calls returned (statements in specs/Effects.antt).
+-- What the book is fed is what the calls returned (statements in specs/Effects.antt).
 -- Main statements: book-fed (the event of a call, and the memory that the next call meets), book-fed-at (of every call of a list), book-compares, book-enters.
 use mathlib.Core.Path.{_≡_, refl, ap, _∙_}
 use mathlib.Core.List.{List, [], _∷_, _++_}

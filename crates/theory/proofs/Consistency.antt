@@ -1,5 +1,5 @@
 -- What Ellis 1987 argues for in section 4, of every reachable memory. The statements are specs/Consistency.antt.
--- Main statements: always-consistent (P2 with S1 to S4, S3′ and S4′), reached-many (its chains are the live ones), search-ends, home-locked and left-to-walk (P3), same-set (P4).
+-- Main statements: always-consistent (P2 with S1 to S4, S3′ and S4′), reached-many (its chains are the live ones), reached-pairs (where each record stands), search-ends, home-locked and left-to-walk (P3), same-map (P4).
 use mathlib.Core.Path.{_≡_, refl, sym, ap, _∙_}
 use mathlib.Core.Bool.{Bool, true, false, cond, _||_, false≢true}
 use mathlib.Core.List.{List, _∷_, []}
@@ -14,7 +14,7 @@ use Rattle.model.specs.Sizes.{within}
 use Rattle.model.specs.Records.{idle}
 use Rattle.model.specs.LockWords.{holds, chainWord}
 use Rattle.model.specs.Addresses.{span, hash, addressOf, chainCount}
-use Rattle.model.specs.Entries.{hasKey}
+use Rattle.model.specs.Entries.{settingIn}
 use Rattle.model.specs.Pages.{pageOf, linkToFirst, primaryPage, scratchPage}
 use Rattle.model.specs.Chains.{Chain, listFrom}
 use Rattle.model.specs.Outcome.{Outcome, withParty}
@@ -22,13 +22,13 @@ use Rattle.model.specs.ScratchPages.{withScratch}
 use Rattle.model.specs.Memory.{Memory, partyAt, viewOf, afterStep}
 use Rattle.model.specs.Calls.{Called, stepped, stepCall}
 use Rattle.model.specs.Runs.{Call}
-use Rattle.model.specs.Book.{Book}
+use Rattle.model.specs.Book.{Book, isIn}
 use Rattle.model.specs.Effects.{recordAfter}
 use Rattle.model.specs.LockRequests.{modeOf, chainLock}
 use Rattle.model.specs.Steps.Chase.{chaseOf, arrived, chasing}
 use Rattle.model.specs.Steps.Dispatch.{stepOf, stepTable}
 use Rattle.theory.specs.Demands.{Sizes, Reached, bookReached}
-use Rattle.model.specs.Consistency.{restructures, chainsWith, Consistent, HomeLocked, SearchEnds, LeftToWalk, SameSet}
+use Rattle.model.specs.Consistency.{restructures, chainsWith, Consistent, PairsPlaced, HomeLocked, SearchEnds, LeftToWalk, SameMap}
 use Rattle.model.proofs.Laws.Lists.{Told, fails, tell, Ord, lt, ge, ord, cond-ind, not-both, le-leb, eqb-true, all-from}
 use Rattle.model.proofs.Laws.Lists as lists
 use Rattle.model.proofs.Laws.Addresses.{span-next, address-lt}
@@ -47,6 +47,8 @@ use Rattle.model.proofs.Effects.Releases.{lock-held}
 use Rattle.model.proofs.Effects.ScratchPage.{protected-bounds}
 use Rattle.model.proofs.Effects.BuiltChain.{chain-found}
 use Rattle.model.proofs.Steps.Chase.Copy.{step06-moves, stayed-home}
+use Rattle.model.proofs.Laws.Entries.{has-setting}
+use Rattle.model.proofs.Theorems.Pairs.{pair-places}
 use Rattle.theory.proofs.Alters.{Tested, turned-away, let-through, tested}
 use Rattle.theory.proofs.Reached.{reached-inv}
 
@@ -172,12 +174,21 @@ module _ (m : Memory) (b : Book) (i : Inv m b) where
   unfolding consistent
   live-many = spread .many
 
-  -- The set of P4.
-  pub set-same : SameSet m b consistent
+  -- Where each record stands.
+  pub pairs-placed : PairsPlaced m consistent
   unfolding chainCount consistent
-  set-same = record {
-    in-set = λ k f. i .book-ok .same k ∙ ap (λ (c : ℕ). hasKey k (i .ghost .records c)) (key-home i (f .number) (is-live (f .number) (f .inside)) k (f .has)) ∙ f .has;
-    in-file = λ k h. record {
+  pairs-placed = record {
+    placed = λ c j h l. pair-places (m .root .capacity) (i .limits .some-key) (m .pages) c _ (i .ghost .records c) (i .ghost .held (inChain c)) (i .pages-ok .chain c (is-live c h)) j l;
+  }
+
+  -- The records of P4.
+  pub map-same : SameMap m b consistent
+  unfolding chainCount consistent
+  map-same = record {
+    in-map = λ k x f. i .book-ok .same k
+        ∙ ap (λ (c : ℕ). settingIn k (i .ghost .records c))
+        (key-home i (f .number) (is-live (f .number) (f .inside)) k (sym (has-setting k (i .ghost .records (f .number))) ∙ ap isIn (f .has))) ∙ f .has;
+    in-file = λ k x h. record {
       number = addressOf (m .root .originals) (live .level) (live .next) k;
       inside = omega (arith, spread .many, size-is (m .root .originals) live, address-lt (m .root .originals) (live .level) (live .next) k (i .limits .some-original));
       has = sym (i .book-ok .same k) ∙ h;
@@ -300,6 +311,11 @@ pub reached-many : (s : Sizes) (cs : List Call) → size (Reached s cs .root .or
 unfolding always-consistent
 reached-many s cs = live-many (Reached s cs) (bookReached s cs) (reached-inv s cs)
 
+-- Each record stands in its place, whatever b is.
+pub reached-pairs : (s : Sizes) (cs : List Call) → PairsPlaced (Reached s cs) (always-consistent s cs)
+unfolding always-consistent
+reached-pairs s cs = pairs-placed (Reached s cs) (bookReached s cs) (reached-inv s cs)
+
 -- P3 (section 4.3): when the search stops, and later, at 10 and at 9.
 pub search-ends : (s : Sizes) (cs : List Call) (q : ℕ) → partyAt (Reached s cs .parties) q .step ≡ 6 → within 9 10 (recordAfter (Reached s cs) q .step) ≡ true → SearchEnds (Reached s cs) q
 search-ends s cs q = search-ended (Reached s cs) (bookReached s cs) (reached-inv s cs) q
@@ -310,7 +326,7 @@ home-locked s cs q = at-ten (Reached s cs) (bookReached s cs) (reached-inv s cs)
 pub left-to-walk : (s : Sizes) (cs : List Call) (q : ℕ) → partyAt (Reached s cs .parties) q .step ≡ 9 → LeftToWalk (Reached s cs) (bookReached s cs) q
 left-to-walk s cs q = at-nine (Reached s cs) (bookReached s cs) (reached-inv s cs) q
 
--- P4 (section 4.4): the set; its answers are `answers-right` of proofs/Demands.antt.
-pub same-set : (s : Sizes) (cs : List Call) → SameSet (Reached s cs) (bookReached s cs) (always-consistent s cs)
+-- P4 (section 4.4): the records; the answers are `answers-right` of proofs/Demands.antt.
+pub same-map : (s : Sizes) (cs : List Call) → SameMap (Reached s cs) (bookReached s cs) (always-consistent s cs)
 unfolding always-consistent
-same-set s cs = set-same (Reached s cs) (bookReached s cs) (reached-inv s cs)
+same-map s cs = map-same (Reached s cs) (bookReached s cs) (reached-inv s cs)

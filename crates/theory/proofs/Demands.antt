@@ -23,7 +23,7 @@ use Rattle.theory.proofs.Singly.Run.{run-singly, list-singly}
 
 -- ---- Demand 3
 
--- Every answer of every list of calls is the one that the set book gives.
+-- Every answer of every list of calls is the one that the book gives.
 pub answers-right : (s : Sizes) (cs : List Call) → bookAgrees emptyBook (events (start s) cs) ≡ true
 answers-right s cs = run-answers steps-kept (start s) emptyBook (formatted-inv s) cs
 
@@ -60,7 +60,7 @@ schedule-right s cs = record {
 pub granted-right : (s : Sizes) (cs : List Call) → GrantsRight s cs
 granted-right s cs = grants-right steps-kept s cs
 
--- After every list of calls that leaves nobody under way, an operation run alone never waits, ends, answers as the yardstick and as a plain set do and leaves the file and the set that they leave.
+-- After every list of calls that leaves nobody under way, an operation run alone never waits, ends, answers as the yardstick and as a plain map do and leaves the file and the map that they leave.
 pub singly-right : (s : Sizes) (cs : List Call) → AtRest (bookReached s cs) → (x : Wanted) → x .party < s .parties → RunSingly s cs x
 singly-right s cs rest x fits = run-singly s cs rest x fits
 

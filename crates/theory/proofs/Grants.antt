@@ -18,7 +18,7 @@ use Rattle.model.specs.declared.StepAnswer.the-variants as StepAnswer
 use Rattle.model.specs.declared.BeginAnswer.{BeginAnswer}
 use Rattle.model.specs.Sizes.{withinLimits, lockWords}
 use Rattle.model.specs.Records.{begun}
-use Rattle.model.specs.Answers.{operationNumber, refusalNumber, isMoved}
+use Rattle.model.specs.Answers.{operationNumber, refusalNumber, isMoved, settingGiven}
 use Rattle.model.specs.LockWords.{Claim}
 use Rattle.model.specs.Outcome.{View, Outcome, damage}
 use Rattle.model.specs.LockRequests.{isGranted}
@@ -160,7 +160,7 @@ module _ (kept : StepsKept) (z : Root) (m : Memory) (b : Book) (i : Inv m b) (l 
       go (nothing-begun h e u _ _) =
           subst (BeginGrants q) (sym (begin-order m q o k .none fits (lengths-fit m b i) h (ap (λ (p : Party). p .operation) e))) (
             rw (lt-leb (z .parties) q (omega (arith, l .parties=)), unentered-under b q u) refl,
-            ledger-set (m .root) (m .root) (m .parties) q (begun (operationNumber o) k) hs hs (omega (arith, i .parties-many)) ok
+            ledger-set (m .root) (m .root) (m .parties) q (begun (operationNumber o) k (settingGiven o)) hs hs (omega (arith, i .parties-many)) ok
                 (λ d. ok .agrees q d ∙ ap (λ (p : Party). claimCount (claims (m .root) p) d) e) (λ j d n. refl),
           )
       go (under-way h e c x _) =

@@ -18,7 +18,9 @@ pub mod BookFed
 pub mod Consistency
 pub mod Places
 pub mod StepReads
+pub mod PlainMaps
 pub mod Singly
 pub mod Linearization
+pub mod Settings
 pub mod Demands
 pub mod Meanings

@@ -15,15 +15,15 @@ use Rattle.model.specs.Records.{idle}
 use Rattle.model.specs.Memory.{Memory, partyAt}
 use Rattle.model.specs.Runs.{Call, events}
 use Rattle.model.specs.Book.{Book, Entered, emptyBook}
-use Rattle.theory.specs.PlainSet.{PlainSet, emptySet}
+use Rattle.theory.specs.PlainMap.{PlainMap, emptyMap}
 use Rattle.theory.specs.Demands.{Sizes, start, Reached, bookReached}
-use Rattle.theory.specs.Linearization.{IsOneOf, Operated, operationsOf, isBehind, isDecided, isAnswered, hasTakenEffect, Linearized, answersInOrder, setAfter, Placed, Linearization}
+use Rattle.theory.specs.Linearization.{IsOneOf, Operated, operationsOf, isBehind, isDecided, isAnswered, hasTakenEffect, Linearized, answersInOrder, mapAfter, Placed, Linearization}
 use Rattle.model.proofs.Laws.Lists.{Ord, lt, ge, ord}
 use Rattle.model.proofs.Invariant.Statement.{PartyOk, resting, working, Inv, sceneOf}
 use Rattle.theory.proofs.Reached.{formatted-inv, reached-inv}
-use Rattle.theory.proofs.Consistency.{always-consistent, same-set}
+use Rattle.theory.proofs.Consistency.{always-consistent, same-map}
 use Rattle.theory.proofs.Linearization.Ordering.{away, isFixed, away-not-looking, Origin, from-rest, from-party, PlacedFrom, Begun, Suffix}
-use Rattle.theory.proofs.Linearization.Notes.{setOf}
+use Rattle.theory.proofs.Linearization.Notes.{mapOf}
 use Rattle.theory.proofs.Linearization.StepTurns.{statusBy, statusOf}
 use Rattle.theory.proofs.Linearization.Calls.{run-suffix}
 use Rattle.theory.proofs.Linearization.Standing.{stands-before}
@@ -73,11 +73,11 @@ module _ (s : Sizes) (cs : List Call) where
   none-begun : Begun 1 (λ p. 0) (statusOf (start s) emptyBook)
   none-begun = record { earlier = λ p. omega arith; apart = λ p q d x y. absurd (x (all-away p)) }
 
-  abbrev whole : Suffix 1 (λ p. 0) (statusOf (start s) emptyBook) (setOf emptyBook) (events (start s) cs) (statusOf (Reached s cs) (bookReached s cs)) (setOf (bookReached s cs))
+  abbrev whole : Suffix 1 (λ p. 0) (statusOf (start s) emptyBook) (mapOf emptyBook) (events (start s) cs) (statusOf (Reached s cs) (bookReached s cs)) (mapOf (bookReached s cs))
   whole = run-suffix (start s) emptyBook (formatted-inv s) cs 1 (λ p. 0) none-begun
 
-  starts-empty : setOf emptyBook ≡ emptySet
-  unfolding emptyBook emptySet
+  starts-empty : mapOf emptyBook ≡ emptyMap
+  unfolding emptyBook emptyMap
   starts-empty = refl
 
   of-run : (o : Operated) → Origin 1 (λ p. 0) (statusOf (start s) emptyBook) (events (start s) cs) o → IsOneOf o (operationsOf (events (start s) cs))
@@ -98,8 +98,8 @@ module _ (s : Sizes) (cs : List Call) where
   unfolding hasTakenEffect
   taken o = ap (λ (t : Bool). isAnswered (o .answered) || t) (fixed-decided (Reached s cs) (bookReached s cs) (reached-inv s cs) (o .party))
 
-  set-left : (k : ℕ) → setAfter emptySet (whole .order) k ≡ setOf (bookReached s cs) k
-  set-left k = ap (λ (z : PlainSet). setAfter z (whole .order) k) (sym starts-empty) ∙ ap (λ (z : PlainSet). z k) (whole .left)
+  map-left : (k : ℕ) → mapAfter emptyMap (whole .order) k ≡ mapOf (bookReached s cs) k
+  map-left k = ap (λ (z : PlainMap). mapAfter z (whole .order) k) (sym starts-empty) ∙ ap (λ (z : PlainMap). z k) (whole .left)
 
   -- Every list of calls has a linearization.
   pub linearizable : Linearization s cs
@@ -111,8 +111,8 @@ module _ (s : Sizes) (cs : List Call) where
     real-time = λ x y a m n h l.
         stands-before 1 (whole .order) (whole .ascends) x y m n
         (let before = whole .placed x m .before-answer a h in let after = whole .placed y n .after-begin in omega arith);
-    answers = ap (λ (z : PlainSet). answersInOrder z (whole .order)) (sym starts-empty) ∙ whole .answers;
+    answers = ap (λ (z : PlainMap). answersInOrder z (whole .order)) (sym starts-empty) ∙ whole .answers;
     file = always-consistent s cs;
-    in-file = λ k h. same-set s cs .in-file k (sym (set-left k) ∙ h);
-    in-set = λ k h. set-left k ∙ same-set s cs .in-set k h;
+    in-file = λ k x h. same-map s cs .in-file k x (sym (map-left k) ∙ h);
+    in-map = λ k x h. map-left k ∙ same-map s cs .in-map k x h;
   }

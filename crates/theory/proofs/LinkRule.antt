@@ -17,7 +17,7 @@ use Rattle.model.specs.declared.StepAnswer.the-variants as StepAnswer
 use Rattle.model.specs.declared.BeginAnswer.{BeginAnswer}
 use Rattle.model.specs.declared.Mode.the-variants.{Exclusive}
 use Rattle.model.specs.Records.{idle, begun}
-use Rattle.model.specs.Answers.{operationNumber, isMoved, performs}
+use Rattle.model.specs.Answers.{operationNumber, isMoved, performs, settingGiven}
 use Rattle.model.specs.LockWords.{chainWord}
 use Rattle.model.specs.Pages.{pageOf, linkOf, linkToFirst, primaryPage, scratchPage, linkedPage}
 use Rattle.model.specs.Chains.{sound, listFrom, pagesListed}
@@ -523,15 +523,15 @@ module _ (k : Clock) (m : Memory) (ok : ClockOk k m) (q : ℕ) where
     unfolding withBegun isAmong
     begun-spared = record {
       parties= = refl;
-      record= = λ j n. row-other (m .parties) q j (begun (operationNumber op) key) n;
+      record= = λ j n. row-other (m .parties) q j (begun (operationNumber op) key (settingGiven op)) n;
       scratch= = λ j n. refl;
       scratch-spared = λ j h n e w. refl;
       old-spared = λ j h n e w. refl;
     }
 
-    begun-record : length (m .parties) ≡ m .root .parties → q < m .root .parties → partyAt (withBegun m q op key .parties) q ≡ begun (operationNumber op) key
+    begun-record : length (m .parties) ≡ m .root .parties → q < m .root .parties → partyAt (withBegun m q op key .parties) q ≡ begun (operationNumber op) key (settingGiven op)
     unfolding withBegun
-    begun-record e h = row-same (m .parties) q (begun (operationNumber op) key) (omega arith)
+    begun-record e h = row-same (m .parties) q (begun (operationNumber op) key (settingGiven op)) (omega arith)
 
     begun-clock : length (m .parties) ≡ m .root .parties → ClockOk (ticked k q noTrace) (withBegun m q op key)
     unfolding oldOpen isAmong

@@ -20,7 +20,8 @@ use Rattle.model.specs.Answers.{answerOf, isMoved}
 use Rattle.model.specs.Records.{atStep, withLev, withOld, withOwed}
 use Rattle.model.specs.LockWords.{Claim, claim, chainWord}
 use Rattle.model.specs.Addresses.{splitBarred, countOfChains}
-use Rattle.model.specs.Entries.{Entry, hasKey}
+use Rattle.model.specs.declared.Entry.{Entry}
+use Rattle.model.specs.Entries.{hasKey}
 use Rattle.model.specs.Pages.{entriesOf, pageOf, levelOf, linkOf, pageSound, primaryPage, linkedPage, namesOverflow}
 use Rattle.model.specs.Chains.{Checked, damaged, sound, Chain, chainOf, listFrom}
 use Rattle.model.specs.Filling.{pagesFor}

@@ -1,11 +1,11 @@
 -- Definitions that only forbid, or that stand as a premise, said once more: a wider one would make a statement weaker and every proof of it would still stand.
--- Main statements: answers-allowed (what a plain set may answer, as a table), other-replies-refused, lengths-agree; clock-starts-at-zero, read-before-given (the link rule); accepted-replies, unanswered-comes-after-all.
-use mathlib.Core.Path.{_≡_, refl}
-use mathlib.Core.Bool.{Bool, true, false}
+-- Main statements: answers-allowed (what a plain map may answer, as a table), other-replies-refused, lengths-agree; clock-starts-at-zero, read-before-given (the link rule); accepted-replies, unanswered-comes-after-all.
+use mathlib.Core.Path.{_≡_, refl, ap}
+use mathlib.Core.Bool.{Bool, true, false, or-false}
 use mathlib.Core.List.{List, [], _∷_, map}
 use mathlib.Core.Option.{Option, none, some}
 use Prim.Native.Nat.{ℕ}
-use lib.Dec.{ltb}
+use lib.Dec.{eqb, ltb}
 use Rattle.model.specs.declared.Operation.{Operation}
 use Rattle.model.specs.declared.Operation.the-variants as Operation
 use Rattle.model.specs.declared.OperationAnswer.{OperationAnswer}
@@ -13,45 +13,46 @@ use Rattle.model.specs.declared.OperationAnswer.the-variants as OperationAnswer
 use Rattle.model.specs.declared.Restructuring.{Restructuring}
 use Rattle.model.specs.declared.StepAnswer.{StepAnswer}
 use Rattle.model.specs.declared.StepAnswer.the-variants as StepAnswer
-use Rattle.model.specs.Answers.{answerNumber}
-use Rattle.theory.specs.PlainSet.{PlainSet, plainAnswer, mayLackPages, isNoPage, answersAsSet}
+use Rattle.model.specs.Answers.{answerNumber, foundOrAbsent, settingFound, sameAnswer}
+use Rattle.model.specs.Book.{Value}
+use Rattle.theory.specs.PlainMap.{PlainMap, plainAnswer, mayLackPages, isNoPage, answersAsMap}
 use Rattle.theory.specs.Links.{Clock, clockStart, follow, allFresh}
-use Rattle.theory.specs.Singly.{Wanted, answersAsSets}
+use Rattle.theory.specs.Singly.{Wanted, answersAsMaps}
 use Rattle.theory.specs.Linearization.{isBefore}
 use Rattle.theory.specs.Reads.{isAccepted}
 
--- The six answers, in the order of their numbers.
-abbrev pub sixAnswers : List OperationAnswer
-sixAnswers = OperationAnswer.Inserted ∷ OperationAnswer.Present ∷ OperationAnswer.Deleted ∷ OperationAnswer.Absent ∷ OperationAnswer.NoPage ∷ OperationAnswer.Found ∷ []
+-- The six answers, in the order of their numbers, found with the setting y.
+abbrev pub answersWith : Value → List OperationAnswer
+answersWith y = OperationAnswer.Inserted ∷ OperationAnswer.Present ∷ OperationAnswer.Deleted ∷ OperationAnswer.Absent ∷ OperationAnswer.NoPage ∷ OperationAnswer.Found y ∷ []
 
--- Which of them a plain set may give to an operation, by whether the key is in.
-abbrev pub allowed : Operation → Bool → List Bool
-allowed Operation.Find true = false ∷ false ∷ false ∷ false ∷ false ∷ true ∷ []
-allowed Operation.Find false = false ∷ false ∷ false ∷ true ∷ false ∷ false ∷ []
-allowed Operation.Insert true = false ∷ true ∷ false ∷ false ∷ false ∷ false ∷ []
-allowed Operation.Insert false = true ∷ false ∷ false ∷ false ∷ true ∷ false ∷ []
-allowed Operation.Delete true = false ∷ false ∷ true ∷ false ∷ true ∷ false ∷ []
-allowed Operation.Delete false = false ∷ false ∷ false ∷ true ∷ false ∷ false ∷ []
+-- Which of them a plain map may give to an operation, by the setting that it has for the key: found with that setting alone.
+abbrev pub allowed : Operation → Option Value → Value → List Bool
+allowed Operation.Find (some x) y = false ∷ false ∷ false ∷ false ∷ false ∷ eqb y x ∷ []
+allowed Operation.Find none y = false ∷ false ∷ false ∷ true ∷ false ∷ false ∷ []
+allowed (Operation.Insert z) (some x) y = false ∷ true ∷ false ∷ false ∷ false ∷ false ∷ []
+allowed (Operation.Insert z) none y = true ∷ false ∷ false ∷ false ∷ true ∷ false ∷ []
+allowed Operation.Delete (some x) y = false ∷ false ∷ true ∷ false ∷ true ∷ false ∷ []
+allowed Operation.Delete none y = false ∷ false ∷ false ∷ true ∷ false ∷ false ∷ []
 
-pub answers-allowed : (s : PlainSet) (o : Operation) (k : ℕ) (there : Bool) → s k ≡ there → map (answersAsSet s o k) sixAnswers ≡ allowed o there
-unfolding answersAsSet plainAnswer mayLackPages isNoPage answerNumber
-answers-allowed s Operation.Find k true e = rw e refl
-answers-allowed s Operation.Find k false e = rw e refl
-answers-allowed s Operation.Insert k true e = rw e refl
-answers-allowed s Operation.Insert k false e = rw e refl
-answers-allowed s Operation.Delete k true e = rw e refl
-answers-allowed s Operation.Delete k false e = rw e refl
+pub answers-allowed : (s : PlainMap) (o : Operation) (k : ℕ) (there : Option Value) (y : Value) → s k ≡ there → map (answersAsMap s o k) (answersWith y) ≡ allowed o there y
+unfolding answersAsMap plainAnswer mayLackPages isNoPage sameAnswer foundOrAbsent answerNumber settingFound
+answers-allowed s Operation.Find k (some x) y e = rw e (ap (λ b. false ∷ false ∷ false ∷ false ∷ false ∷ b ∷ []) (or-false (eqb y x)))
+answers-allowed s Operation.Find k none y e = rw e refl
+answers-allowed s (Operation.Insert z) k (some x) y e = rw e refl
+answers-allowed s (Operation.Insert z) k none y e = rw e refl
+answers-allowed s Operation.Delete k (some x) y e = rw e refl
+answers-allowed s Operation.Delete k none y e = rw e refl
 
--- An operation run singly ends done: any other last reply is no answer of a plain set.
+-- An operation run singly ends done: any other last reply is no answer of a plain map.
 pub other-replies-refused :
-    (s : PlainSet) (x : Wanted) (xs : List Wanted) (rest : List StepAnswer) (n : ℕ)
-    → map (λ a. answersAsSets s (x ∷ xs) (a ∷ rest)) (StepAnswer.Waiting ∷ StepAnswer.Moved ∷ StepAnswer.Refused n ∷ []) ≡ false ∷ false ∷ false ∷ []
-unfolding answersAsSets
+    (s : PlainMap) (x : Wanted) (xs : List Wanted) (rest : List StepAnswer) (n : ℕ)
+    → map (λ a. answersAsMaps s (x ∷ xs) (a ∷ rest)) (StepAnswer.Waiting ∷ StepAnswer.Moved ∷ StepAnswer.Refused n ∷ []) ≡ false ∷ false ∷ false ∷ []
+unfolding answersAsMaps
 other-replies-refused s x xs rest n = refl
 
 -- There are as many answers as operations.
-pub lengths-agree : (s : PlainSet) (x : Wanted) (xs : List Wanted) (a : StepAnswer) (rest : List StepAnswer) → (answersAsSets s (x ∷ xs) [] ≡ false) × (answersAsSets s [] (a ∷ rest) ≡ false)
-unfolding answersAsSets
+pub lengths-agree : (s : PlainMap) (x : Wanted) (xs : List Wanted) (a : StepAnswer) (rest : List StepAnswer) → (answersAsMaps s (x ∷ xs) [] ≡ false) × (answersAsMaps s [] (a ∷ rest) ≡ false)
+unfolding answersAsMaps
 lengths-agree s x xs a rest = (refl, refl)
 
 -- At first no link is read and no page given back.

@@ -15,13 +15,13 @@ use Rattle.model.specs.declared.StepAnswer.the-variants as StepAnswer
 use Rattle.model.specs.declared.BeginAnswer.{BeginAnswer}
 use Rattle.model.specs.Sizes.{withinLimits}
 use Rattle.model.specs.Records.{idle, begun}
-use Rattle.model.specs.Answers.{operationNumber, answerNumber, answerOf, performs}
+use Rattle.model.specs.Answers.{operationNumber, answerNumber, answerOf, performs, settingGiven}
 use Rattle.model.specs.Outcome.{Outcome}
 use Rattle.model.specs.Memory.{Memory, partyAt, viewOf}
 use Rattle.model.specs.Calls.{Called, called, stepped, stepCall, withBegun, beginCall}
 use Rattle.model.specs.Runs.{Call, beginFor, stepFor, callerOf, replyTo, afterCall, eventOf, events}
 use Rattle.model.specs.Book.{Book, Entered, changedAt, emptyBook}
-use Rattle.theory.specs.PlainSet.{isNoPage}
+use Rattle.theory.specs.PlainMap.{isNoPage}
 use Rattle.model.specs.Progress.{bookAfterCall}
 use Rattle.theory.specs.NoPage.{noneWrote, wroteBegin, wroteStep, wroteAfter, endsNoPage, noPageRight, noPageKept}
 use Rattle.model.specs.Steps.Write.{isChange}
@@ -86,9 +86,9 @@ module _ (m : Memory) (b : Book) (i : Inv m b) (w : ℕ → Bool) (ok : WroteOk 
       fits : withinLimits (m .root) ≡ true
       fits = within-limits (m .root) (i .limits)
 
-      others : (j : ℕ) → Cmp j q → cond (eqb j q) false (w j) ≡ true → Past (partyAt (set (m .parties) q (begun (operationNumber o) k)) j)
+      others : (j : ℕ) → Cmp j q → cond (eqb j q) false (w j) ≡ true → Past (partyAt (set (m .parties) q (begun (operationNumber o) k (settingGiven o))) j)
       others j (same e) h = absurd (not-both true refl (sym (rw (eqb-same j q e) at h)))
-      others j (diff d) h = rw (row-other (m .parties) q j (begun (operationNumber o) k) d) (ok j (rw (eqb-diff j q d) at h))
+      others j (diff d) h = rw (row-other (m .parties) q j (begun (operationNumber o) k (settingGiven o)) d) (ok j (rw (eqb-diff j q d) at h))
 
       go : Met m b i q → BeginClean q (beginCall m q o k)
       go (no-party h _ _ _) = subst (BeginClean q) (sym (begin-order m q o k .party fits (lengths-fit m b i) h)) ok
@@ -135,7 +135,7 @@ module _ (m : Memory) (b : Book) (i : Inv m b) (w : ℕ → Bool) (ok : WroteOk 
     unfolding isChange answerNumber
     at-eleven s =
         let facts = subst (λ (n : ℕ). factsAt n (sceneOf m (i .ghost) b) q p e) s x in
-        let made = change-made (p .key) (i .ghost .records (p .chain)) (p .answer) (facts .after) (e .operation) (p .operation) (k .same-operation)
+        let made = change-made (p .key) (p .setting) (i .ghost .records (p .chain)) (p .answer) (facts .after) (e .operation) (p .operation) (k .same-operation) (k .same-setting)
         (ap (hasStep (p .operation)) (sym s) ∙ k .step-fits) (facts .change) in
         ap isChange (made .made) ∙ either (eqb (operationNumber (e .operation)) 2)
       where

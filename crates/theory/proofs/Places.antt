@@ -13,7 +13,7 @@ use lib.Seq.{take-all}
 use lib.Dec.{eqb}
 use Rattle.model.specs.declared.Party.{Party}
 use Rattle.model.specs.Sizes.{within}
-use Rattle.model.specs.Entries.{Entry}
+use Rattle.model.specs.declared.Entry.{Entry}
 use Rattle.model.specs.Pages.{linkOf, linkToFirst}
 use Rattle.model.specs.Chains.{chainOf, listFrom, pagesIn, pagesListed}
 use Rattle.model.specs.Filling.{primaryOf}

@@ -11,7 +11,7 @@ use lib.ListN.{length}
 use lib.Dec.{eqb, ltb, leb}
 use Rattle.model.specs.declared.Root.{Root}
 use Rattle.model.specs.Sizes.{pageWords}
-use Rattle.model.specs.Entries.{Entry}
+use Rattle.model.specs.declared.Entry.{Entry}
 use Rattle.model.specs.Pages.{pageOf, withPage, levelOf, countOf, linkOf, namesOverflow, linkSound, mostLevel, pageSound, primaryPage, scratchPage, linkedPage}
 use Rattle.model.specs.Chains.{Checked, damaged, sound, soundIf, andThen, overflowFrom, listFrom}
 use Rattle.model.specs.Filling.{overflowWritten}

@@ -1,7 +1,7 @@
 -- An operation run from begin to done alone: the yardstick's files, the file at rest, one party alone, and the paragraphs of the thirty steps in turn.
 pub mod Files
 pub mod AtRest
-pub mod Sets
+pub mod Maps
 pub mod Whole
 pub mod Given
 pub mod Alone

@@ -18,10 +18,11 @@ use Rattle.model.specs.declared.StepAnswer.{StepAnswer}
 use Rattle.model.specs.declared.StepAnswer.the-variants as StepAnswer
 use Rattle.model.specs.Sizes.{pageWords}
 use Rattle.model.specs.Records.{idle, atStep, withLev, withOld, withOwed, withLevel, withNext, withFreeList}
-use Rattle.model.specs.Answers.{answerNumber, answerOf, restructuringOf, isMoved, performs}
+use Rattle.model.specs.Answers.{answerNumber, answerOf, restructuringOf, isMoved, performs, foundOrAbsent}
 use Rattle.model.specs.LockWords.{Claim}
 use Rattle.model.specs.Addresses.{splitBarred, countOfChains}
-use Rattle.model.specs.Entries.{Entry, hasKey}
+use Rattle.model.specs.declared.Entry.{Entry}
+use Rattle.model.specs.Entries.{hasKey, settingIn}
 use Rattle.model.specs.Pages.{pageOf, withPage, levelOf, linkOf, entriesOf, zeroPage, withLocalLevel, pageSound, linkSound, namesOverflow, primaryPage, scratchPage, linkedPage}
 use Rattle.model.specs.Chains.{Checked, damaged, sound, Chain, chainOf, listFrom, pagesIn, pagesListed}
 use Rattle.model.specs.Filling.{pagesFor, primaryOf, overflowWritten}
@@ -297,7 +298,7 @@ traced-09 : TracedAt 9 step09
 unfolding step09
 traced-09 v ready e =
     guarded-traced 9 v (pageSound (v .root) (scratchOf v)) _
-    (λ s. cond-ind (Traced 9 v) (hasKey (v .party .key) (entriesOf (scratchOf v))) _ _ (λ _. traced-answered v ready OperationAnswer.Found)
+    (λ s. cond-ind (Traced 9 v) (hasKey (v .party .key) (entriesOf (scratchOf v))) _ _ (λ _. traced-answered v ready (foundOrAbsent (settingIn (v .party .key) (entriesOf (scratchOf v)))))
     (λ _. cond-ind (Traced 9 v) (eqb (linkOf (scratchOf v)) 0) _ _ (λ _. traced-answered v ready OperationAnswer.Absent) (λ n. traced-on v ready e s n)))
 
 -- ---- 10 to 14
@@ -307,9 +308,9 @@ abbrev NoChange : Change → Type 0
 NoChange (kept a) = isChange a ≡ false
 NoChange (changed a es) = Unit {0}
 
-no-change : (operation k : ℕ) (es : List Entry) → NoChange (changeOf operation k es)
+no-change : (operation k x : ℕ) (es : List Entry) → NoChange (changeOf operation k x es)
 unfolding changeOf isChange answerNumber
-no-change operation k es =
+no-change operation k x es =
     cond-ind NoChange (eqb operation 2) _ _ (λ _. cond-ind NoChange (hasKey k es) _ _ (λ _. refl) (λ _. tt)) (λ _. cond-ind NoChange (hasKey k es) _ _ (λ _. tt) (λ _. refl))
 
 nothing-traced : (v : View) (a : ℕ) → isChange a ≡ false → Traced 10 v (changesNothing v a)
@@ -342,7 +343,7 @@ traced-10 : TracedAt 10 step10
 unfolding step10
 traced-10 v ready e =
     each-traced 10 v (chainOf (v .root) (v .pages) (v .party .chain)) _
-    (λ c. rebuild-traced v ready c (changeOf (v .party .operation) (v .party .key) (c .entries)) (no-change (v .party .operation) (v .party .key) (c .entries)))
+    (λ c. rebuild-traced v ready c (changeOf (v .party .operation) (v .party .key) (v .party .setting) (c .entries)) (no-change (v .party .operation) (v .party .key) (v .party .setting) (c .entries)))
 
 traced-11 : TracedAt 11 step11
 unfolding step11 traceOf oldOpen isAmong
@@ -587,10 +588,10 @@ pub moves-by-link : (v : View) → isMoved (step09 v .answer) ≡ true → linkO
 unfolding step09 isMoved
 moves-by-link v h z = not-both (isMoved (step09 v .answer)) h (rw z ends)
   where
-    ends : isMoved (guarded v (pageSound (v .root) (scratchOf v)) (cond (hasKey (v .party .key) (entriesOf (scratchOf v))) (answered v OperationAnswer.Found) (answered v OperationAnswer.Absent)) .answer) ≡ false
+    ends : isMoved (guarded v (pageSound (v .root) (scratchOf v)) (cond (hasKey (v .party .key) (entriesOf (scratchOf v))) (answered v (foundOrAbsent (settingIn (v .party .key) (entriesOf (scratchOf v))))) (answered v OperationAnswer.Absent)) .answer) ≡ false
     ends =
         guarded-ind (λ (o : Outcome). isMoved (o .answer) ≡ false) v (pageSound (v .root) (scratchOf v)) _ refl
-        (cond-ind (λ (o : Outcome). isMoved (o .answer) ≡ false) (hasKey (v .party .key) (entriesOf (scratchOf v))) _ _ (λ _. answered-ends v OperationAnswer.Found)
+        (cond-ind (λ (o : Outcome). isMoved (o .answer) ≡ false) (hasKey (v .party .key) (entriesOf (scratchOf v))) _ _ (λ _. answered-ends v (foundOrAbsent (settingIn (v .party .key) (entriesOf (scratchOf v)))))
         (λ _. answered-ends v OperationAnswer.Absent))
 
 -- ---- Every step number

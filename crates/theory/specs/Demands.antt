@@ -1,5 +1,5 @@
 -- Demands 2 and 3 as statements about every list of calls from formatted memory.
--- Main definitions: Reached and bookReached (a memory that only the index has changed, and the set book beside it); ScheduleRight (demand 3), SizesStay; GrantsRight, RunSingly and ListSingly
+-- Main definitions: Reached and bookReached (a memory that only the index has changed, and the book beside it); ScheduleRight (demand 3), SizesStay; GrantsRight, RunSingly and ListSingly
 -- (demand 2). The theorems that they hold are in proofs/.
 use mathlib.Core.Path.{_≡_}
 use mathlib.Core.Bool.{true, false}
@@ -10,14 +10,14 @@ use Rattle.model.specs.Sizes.{withinLimits}
 use Rattle.model.specs.Records.{rootOfSizes}
 use Rattle.model.specs.Memory.{Memory, formatted}
 use Rattle.model.specs.Runs.{Call, events, finalMemory}
-use Rattle.model.specs.Book.{Book, emptyBook, isIn, bookAgrees, bookAtEnd}
+use Rattle.model.specs.Book.{Book, emptyBook, bookAgrees, bookAtEnd}
 use Rattle.theory.specs.Links.{clockStart, linksFresh}
 use Rattle.model.specs.Progress.{underWay, progresses}
 use Rattle.theory.specs.NoPage.{noneWrote, noPageKept}
 use Rattle.model.specs.Holds.{grantsRight}
-use Rattle.theory.specs.PlainSet.{emptySet, answersAsSet, setLeftBy}
-use Rattle.theory.specs.Sequential.{File, Finished, performedOn, setIn, startFile, fileOf, ChainsRead}
-use Rattle.theory.specs.Singly.{Wanted, callsAlone, repliesOf, repliesAlone, doneBy, callsSingly, repliesSingly, AllFinished, performedAll, answersAsSets}
+use Rattle.theory.specs.PlainMap.{emptyMap, answersAsMap, mapLeftBy}
+use Rattle.theory.specs.Sequential.{File, Finished, performedOn, mapIn, startFile, fileOf, ChainsRead}
+use Rattle.theory.specs.Singly.{Wanted, callsAlone, repliesOf, repliesAlone, doneBy, callsSingly, repliesSingly, AllFinished, performedAll, answersAsMaps}
 
 -- Sizes N b P V Q within their limits.
 pub record Sizes : Type 0 where
@@ -40,7 +40,7 @@ start s = formatted (sizesOf s)
 abbrev pub Reached : Sizes → List Call → Memory
 Reached s cs = finalMemory (start s) cs
 
--- The set book beside it.
+-- The book beside it.
 abbrev pub bookReached : Sizes → List Call → Book
 bookReached s cs = bookAtEnd emptyBook (events (start s) cs)
 
@@ -52,7 +52,7 @@ pub record SizesStay (s : Sizes) (cs : List Call) : Type 0 where
   pub overflow : Reached s cs .root .overflow ≡ s .overflow
   pub parties : Reached s cs .root .parties ≡ s .parties
 
--- Demand 3 for one list: every answer is the set book's, no stale link was followed, somebody can move, the sizes are those given, and an operation answered no page has written nothing.
+-- Demand 3 for one list: every answer is the book's, no stale link was followed, somebody can move, the sizes are those given, and an operation answered no page has written nothing.
 pub record ScheduleRight (s : Sizes) (cs : List Call) : Type 0 where
   pub answers : bookAgrees emptyBook (events (start s) cs) ≡ true
   pub links : linksFresh clockStart (start s) cs ≡ true
@@ -88,13 +88,13 @@ pub record RunSingly (s : Sizes) (cs : List Call) (x : Wanted) : Type 0 where
   -- Each chain reads as sound, before and after.
   pub reads : ChainsRead (sizesOf s) (Reached s cs)
   pub reads-after : ChainsRead (sizesOf s) (Reached s (cs ++ callsAlone x moves))
-  -- Before and after, the set that the file holds is the book's.
-  pub set : (k : ℕ) → setIn (sizesOf s) (fileReached s cs) k ≡ isIn (bookReached s cs .contents k)
-  pub set-after : (k : ℕ) → setIn (sizesOf s) (fileReached s (cs ++ callsAlone x moves)) k ≡ isIn (bookReached s (cs ++ callsAlone x moves) .contents k)
-  -- It answers as a plain set does, and leaves the set that a plain set then is.
-  pub as-set : answersAsSet (setIn (sizesOf s) (fileReached s cs)) (x .operation) (x .key) (yardstick s cs x .answer) ≡ true
-  pub leaves-set : (k : ℕ) → setIn (sizesOf s) (fileReached s (cs ++ callsAlone x moves)) k
-      ≡ setLeftBy (setIn (sizesOf s) (fileReached s cs)) (x .operation) (x .key) (yardstick s cs x .answer) k
+  -- Before and after, the map that the file holds is the book's.
+  pub map : (k : ℕ) → mapIn (sizesOf s) (fileReached s cs) k ≡ bookReached s cs .contents k
+  pub map-after : (k : ℕ) → mapIn (sizesOf s) (fileReached s (cs ++ callsAlone x moves)) k ≡ bookReached s (cs ++ callsAlone x moves) .contents k
+  -- It answers as a plain map does, and leaves the map that a plain map then is.
+  pub as-map : answersAsMap (mapIn (sizesOf s) (fileReached s cs)) (x .operation) (x .key) (yardstick s cs x .answer) ≡ true
+  pub leaves-map : (k : ℕ) → mapIn (sizesOf s) (fileReached s (cs ++ callsAlone x moves)) k
+      ≡ mapLeftBy (mapIn (sizesOf s) (fileReached s cs)) (x .operation) (x .key) (yardstick s cs x .answer) k
 
 -- What the yardstick makes of a list of operations, from the file that format leaves.
 abbrev pub yardstickAll : Sizes → List Wanted → AllFinished
@@ -110,5 +110,5 @@ pub record ListSingly (s : Sizes) (xs : List Wanted) : Type 0 where
   pub replies : repliesOf (events (start s) (callsSingly xs moves)) ≡ repliesSingly (yardstickAll s xs .answers) moves
   pub leaves : fileReached s (callsSingly xs moves) ≡ yardstickAll s xs .file
   pub rests : AtRest (bookReached s (callsSingly xs moves))
-  -- All answers are those of a plain set, at first empty.
-  pub as-set : answersAsSets emptySet xs (yardstickAll s xs .answers) ≡ true
+  -- All answers are those of a plain map, at first empty.
+  pub as-map : answersAsMaps emptyMap xs (yardstickAll s xs .answers) ≡ true

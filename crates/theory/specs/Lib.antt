@@ -1,9 +1,10 @@
 -- What the demands say of whole lists of calls, in the order in which they build on one another; Demands and Linearization are the statements to read.
 pub mod Links
-pub mod PlainSet
+pub mod PlainMap
 pub mod NoPage
 pub mod Sequential
 pub mod Singly
 pub mod Reads
 pub mod Demands
 pub mod Linearization
+pub mod Settings

@@ -1,9 +1,9 @@
 -- A linearization (Herlihy and Wing 1990) of a run: an order of its operations, each at one call between its begin and
--- its answer, in which a plain set gives every answer.
+-- its answer, in which a plain map gives every answer.
 -- It speaks of the calls and what they returned, and of the memory at the end; of no book. Calls are numbered from 1.
 -- Main definitions: Operated and operationsOf (the operations of a run); decisiveStep, isDecided and hasTakenEffect (when
 -- one takes effect, and whether it has); Linearized and Placed (an operation in its place), StandsBefore;
--- answersInOrder and setAfter (the plain set, operation by operation); Linearization.
+-- answersInOrder and mapAfter (the plain map, operation by operation); Linearization.
 -- The theorem that every list of calls has one is in proofs/Linearization.antt.
 use mathlib.Core.Path.{_≡_}
 use mathlib.Core.Bool.{Bool, true, false, cond, _&&_, _||_}
@@ -21,7 +21,8 @@ use Rattle.model.specs.Answers.{answerNumber, performs}
 use Rattle.model.specs.Steps.Write.{isChange}
 use Rattle.model.specs.Memory.{Memory, partyAt}
 use Rattle.model.specs.Runs.{Call, beginFor, stepFor, Reply, toBegin, toStep, Event, events}
-use Rattle.theory.specs.PlainSet.{PlainSet, emptySet, answersAsSet, setLeftBy}
+use Rattle.theory.specs.PlainMap.{PlainMap, emptyMap, answersAsMap, mapLeftBy}
+use Rattle.model.specs.Book.{Value}
 use Rattle.model.specs.Consistency.{Consistent, InFile}
 use Rattle.theory.specs.Demands.{Sizes, start, Reached}
 
@@ -100,7 +101,7 @@ eventAt es j = eventFrom 1 es j
 -- "Decisive steps: 11 for a change made; 10 for an insert or delete that changes nothing; the last 6 for a find."
 unfoldable pub decisiveStep : Operation → OperationAnswer → ℕ
 decisiveStep Operation.Find a = 6
-decisiveStep Operation.Insert a = cond (isChange (answerNumber a)) 11 10
+decisiveStep (Operation.Insert x) a = cond (isChange (answerNumber a)) 11 10
 decisiveStep Operation.Delete a = cond (isChange (answerNumber a)) 11 10
 
 -- Whether party q performs a 6, a 10 or an 11 at an event.
@@ -152,17 +153,17 @@ unfoldable pub timesIn : ℕ → List Linearized → ℕ
 timesIn n [] = 0
 timesIn n (x ∷ xs) = cond (eqb (x .operated .begun) n) 1 0 + timesIn n xs
 
--- Whether a plain set, one operation after the other, gives every answer of an order.
-unfoldable pub answersInOrder : PlainSet → List Linearized → Bool
+-- Whether a plain map, one operation after the other, gives every answer of an order.
+unfoldable pub answersInOrder : PlainMap → List Linearized → Bool
 answersInOrder s [] = true
 answersInOrder s (x ∷ xs) =
     let o = x .operated in
-    answersAsSet s (o .operation) (o .key) (x .answer) && answersInOrder (setLeftBy s (o .operation) (o .key) (x .answer)) xs
+    answersAsMap s (o .operation) (o .key) (x .answer) && answersInOrder (mapLeftBy s (o .operation) (o .key) (x .answer)) xs
 
--- The set that it leaves.
-unfoldable pub setAfter : PlainSet → List Linearized → PlainSet
-setAfter s [] = s
-setAfter s (x ∷ xs) = let o = x .operated in setAfter (setLeftBy s (o .operation) (o .key) (x .answer)) xs
+-- The map that it leaves.
+unfoldable pub mapAfter : PlainMap → List Linearized → PlainMap
+mapAfter s [] = s
+mapAfter s (x ∷ xs) = let o = x .operated in mapAfter (mapLeftBy s (o .operation) (o .key) (x .answer)) xs
 
 -- Whether call j comes before an answer; before none, every call does.
 unfoldable pub isBefore : ℕ → Option Answered → Bool
@@ -197,10 +198,10 @@ pub record Linearization (s : Sizes) (cs : List Call) : Type 0 where
   pub each : (o : Operated) → IsOneOf o (operationsOf (events (start s) cs)) → timesIn (o .begun) order ≡ cond (hasTakenEffect (Reached s cs) o) 1 0
   -- Real time: an operation answered before another begins stands before it.
   pub real-time : (x y : Linearized) (a : Answered) → IsOneOf x order → IsOneOf y order → x .operated .answered ≡ some a → a .call < y .operated .begun → StandsBefore x y order
-  -- From the empty set on, a plain set gives every answer. "No page" stands only for an insert of a missing key or a
-  -- delete of a present one, and leaves the set.
-  pub answers : answersInOrder emptySet order ≡ true
-  -- The set at the end is what the chains of the file hold.
+  -- From the empty map on, a plain map gives every answer. "No page" stands only for an insert of a missing key or a
+  -- delete of a present one, and leaves the map.
+  pub answers : answersInOrder emptyMap order ≡ true
+  -- The map at the end is what the chains of the file hold.
   pub file : Consistent (Reached s cs)
-  pub in-file : (k : ℕ) → setAfter emptySet order k ≡ true → InFile (Reached s cs) file k
-  pub in-set : (k : ℕ) → InFile (Reached s cs) file k → setAfter emptySet order k ≡ true
+  pub in-file : (k : ℕ) (x : Value) → mapAfter emptyMap order k ≡ some x → InFile (Reached s cs) file k x
+  pub in-map : (k : ℕ) (x : Value) → InFile (Reached s cs) file k x → mapAfter emptyMap order k ≡ some x

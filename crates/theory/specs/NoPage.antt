@@ -11,7 +11,7 @@ use Rattle.model.specs.declared.BeginAnswer.the-variants as BeginAnswer
 use Rattle.model.specs.Runs.{Call, beginFor, stepFor, Reply, toBegin, toStep, Event}
 use Rattle.model.specs.Book.{changedAt}
 use Rattle.model.specs.Answers.{performs}
-use Rattle.theory.specs.PlainSet.{isNoPage}
+use Rattle.theory.specs.PlainMap.{isNoPage}
 
 -- Nobody has performed step 11 at first. By party, whether it has since its last begin.
 unfoldable pub noneWrote : ℕ → Bool

@@ -1,7 +1,7 @@
 -- The sequential yardstick (demand 2): linear hashing with uncontrolled splits over lists of records, one operation at a time.
 -- A file is level, next and the records of each chain. Pages are only counted: a chain takes the overflow pages that its records need, the others are free, so that
 -- the stated shortages of pages and of chains are part of the yardstick.
--- Main definitions: File, freeIn; Finished, findIn, insertIn, deleteIn; splitFile, mergeFile; performedOn (one operation); setIn (the set that a file holds), startFile (the file that format
+-- Main definitions: File, freeIn; Finished, findIn, insertIn, deleteIn; splitFile, mergeFile; performedOn (one operation); mapIn (the map that a file holds), startFile (the file that format
 -- leaves), fileOf (the file that a memory holds), ChainsRead.
 use mathlib.Core.Path.{_≡_}
 use mathlib.Core.Bool.{Bool, cond, _||_}
@@ -17,13 +17,15 @@ use Rattle.model.specs.declared.OperationAnswer.the-variants as OperationAnswer
 use Rattle.model.specs.declared.Restructuring.{Restructuring}
 use Rattle.model.specs.declared.Restructuring.the-variants as Restructuring
 use Rattle.model.specs.Addresses.{addressOf, chainCount, splitNext, splitLevel, mergeTarget, mergePartner, mergeLevel, splitBarred, mergeBarred}
-use Rattle.model.specs.Entries.{Entry, entryOf, hasKey, insertedInto, removedFrom, joined, staying, going}
+use Rattle.model.specs.Answers.{foundOrAbsent}
+use Rattle.model.specs.declared.Entry.{Entry}
+use Rattle.model.specs.Entries.{entryOf, hasKey, settingIn, insertedInto, removedFrom, joined, staying, going}
 use Rattle.model.specs.Chains.{Checked, damaged, sound, Chain, chainOf}
 use Rattle.model.specs.Filling.{pagesFor}
 use Rattle.model.specs.Steps.Rebuild.{splitOwed, mergeOwed}
 use Rattle.model.specs.Memory.{Memory}
 use Rattle.model.specs.GivenSizes.{sizedRoot}
-use Rattle.theory.specs.PlainSet.{PlainSet}
+use Rattle.theory.specs.PlainMap.{PlainMap}
 
 -- Level, next and the records of each chain. The sizes are those of a root record.
 pub record File : Type 0 where
@@ -100,7 +102,7 @@ mergeFile r f a =
 -- ---- The operations
 
 unfoldable pub findIn : Root → File → ℕ → Finished
-findIn r f k = finishes (cond (hasKey k (recordsAt f (homeIn r f k))) OperationAnswer.Found OperationAnswer.Absent) Restructuring.None f
+findIn r f k = finishes (foundOrAbsent (settingIn k (recordsAt f (homeIn r f k)))) Restructuring.None f
 
 -- A record more in chain c, where pages are enough; a split where the chain takes more overflow pages than before.
 unfoldable pub added : Root → File → ℕ → List Entry → List Entry → Finished
@@ -109,11 +111,12 @@ added r f c es new =
     let rest = cond (splitOwed (pagesFor (r .capacity) es) (pagesFor (r .capacity) new)) (splitFile r g OperationAnswer.Inserted) (finishes OperationAnswer.Inserted Restructuring.None g) in
     cond (shortOf r f (pagesFor (r .capacity) new)) (finishes OperationAnswer.NoPage Restructuring.None f) rest
 
-unfoldable pub insertIn : Root → File → ℕ → Finished
-insertIn r f k =
+-- An insert of key k with setting x; a key that is present keeps its setting.
+unfoldable pub insertIn : Root → File → ℕ → ℕ → Finished
+insertIn r f k x =
     let c = homeIn r f k in
     let es = recordsAt f c in
-    cond (hasKey k es) (finishes OperationAnswer.Present Restructuring.None f) (added r f c es (insertedInto (entryOf k) es))
+    cond (hasKey k es) (finishes OperationAnswer.Present Restructuring.None f) (added r f c es (insertedInto (entryOf k x) es))
 
 -- A record less in chain c, where pages are enough; a merge where the chain is emptied.
 unfoldable pub removed : Root → File → ℕ → List Entry → Finished
@@ -130,14 +133,14 @@ deleteIn r f k =
 
 unfoldable pub performedOn : Root → File → Operation → ℕ → Finished
 performedOn r f Operation.Find k = findIn r f k
-performedOn r f Operation.Insert k = insertIn r f k
+performedOn r f (Operation.Insert x) k = insertIn r f k x
 performedOn r f Operation.Delete k = deleteIn r f k
 
--- ---- The set that a file holds, and the file that format leaves
+-- ---- The map that a file holds, and the file that format leaves
 
--- Whether each key is in its home chain.
-unfoldable pub setIn : Root → File → PlainSet
-setIn r f k = hasKey k (recordsAt f (homeIn r f k))
+-- The setting of each key in its home chain.
+unfoldable pub mapIn : Root → File → PlainMap
+mapIn r f k = settingIn k (recordsAt f (homeIn r f k))
 
 -- Level 0, next 0 and N empty chains.
 unfoldable pub startFile : Root → File

@@ -1,5 +1,5 @@
--- Operations run singly (demand 2): the calls and replies of one operation run alone, and of a list of operations, one after the other; the yardstick and the plain set over such a list.
--- Main definitions: Wanted; callsAlone, repliesAlone (one operation); callsSingly, repliesSingly (a list); performedAll (the yardstick, one fold), answersAsSets (the plain set).
+-- Operations run singly (demand 2): the calls and replies of one operation run alone, and of a list of operations, one after the other; the yardstick and the plain map over such a list.
+-- Main definitions: Wanted; callsAlone, repliesAlone (one operation); callsSingly, repliesSingly (a list); performedAll (the yardstick, one fold), answersAsMaps (the plain map).
 use mathlib.Core.Bool.{Bool, true, false, _&&_}
 use mathlib.Core.List.{List, [], _∷_, _++_}
 use Prim.Native.Nat.{ℕ, zero, suc}
@@ -11,7 +11,7 @@ use Rattle.model.specs.declared.StepAnswer.{StepAnswer}
 use Rattle.model.specs.declared.StepAnswer.the-variants as StepAnswer
 use Rattle.model.specs.declared.BeginAnswer.the-variants as BeginAnswer
 use Rattle.model.specs.Runs.{Call, beginFor, stepFor, Reply, toBegin, toStep, Event}
-use Rattle.theory.specs.PlainSet.{PlainSet, answersAsSet, setLeftBy}
+use Rattle.theory.specs.PlainMap.{PlainMap, answersAsMap, mapLeftBy}
 use Rattle.theory.specs.Sequential.{File, Finished, performedOn}
 
 -- An operation that a party is to run.
@@ -79,13 +79,13 @@ performedAll z f (x ∷ xs) =
     let rest = performedAll z (y .file) xs in
     record { answers = doneBy y ∷ rest .answers; file = rest .file }
 
--- Whether these are answers that a plain set gives to a list of operations, one after the other, and no others.
-unfoldable pub answersAsSets : PlainSet → List Wanted → List StepAnswer → Bool
-answersAsSets s [] [] = true
-answersAsSets s [] (a ∷ rest) = false
-answersAsSets s (x ∷ xs) [] = false
-answersAsSets s (x ∷ xs) (StepAnswer.Waiting ∷ rest) = false
-answersAsSets s (x ∷ xs) (StepAnswer.Moved ∷ rest) = false
-answersAsSets s (x ∷ xs) (StepAnswer.Done a r ∷ rest) =
-    answersAsSet s (x .operation) (x .key) a && answersAsSets (setLeftBy s (x .operation) (x .key) a) xs rest
-answersAsSets s (x ∷ xs) (StepAnswer.Refused n ∷ rest) = false
+-- Whether these are answers that a plain map gives to a list of operations, one after the other, and no others.
+unfoldable pub answersAsMaps : PlainMap → List Wanted → List StepAnswer → Bool
+answersAsMaps s [] [] = true
+answersAsMaps s [] (a ∷ rest) = false
+answersAsMaps s (x ∷ xs) [] = false
+answersAsMaps s (x ∷ xs) (StepAnswer.Waiting ∷ rest) = false
+answersAsMaps s (x ∷ xs) (StepAnswer.Moved ∷ rest) = false
+answersAsMaps s (x ∷ xs) (StepAnswer.Done a r ∷ rest) =
+    answersAsMap s (x .operation) (x .key) a && answersAsMaps (mapLeftBy s (x .operation) (x .key) a) xs rest
+answersAsMaps s (x ∷ xs) (StepAnswer.Refused n ∷ rest) = false

@@ -49,6 +49,7 @@ fn nothing_held() -> Held {
         old: 0,
         owed: 0,
         answer: 0,
+        setting: 0,
     };
     let root = Root {
         originals: 0,

@@ -7,7 +7,7 @@ ghost use Prim.Native.Nat.{ℕ};
 ghost use lib.ListN.{length};
 ghost use Rattle.model.specs.Endings as Endings;
 ghost use Rattle.model.specs.Steps.Write as Write;
-ghost use Rattle.records.specs.Words.{recordWords, seen, left, AtHand};
+ghost use Rattle.records.specs.Words.{partyWords, seen, left, AtHand};
 ghost use Rattle.endings.specs.Scratch.{HasScratch};
 ghost use Rattle.write.specs.Leaving.{afterLeaving};
 use model::ChainAddress;
@@ -26,7 +26,7 @@ use records::OWED;
 
 // "an owed split goes to 15 and an owed merge to 23; else the operation is done".
 pub fn onward(root: Root, party: &mut [u32], q: u32, pages: &mut [u32]) -> StepAnswer
-    requires { ⌜ (length (now party) ≡ recordWords) × HasScratch root q (now pages) ⌝ }
+    requires { ⌜ (length (now party) ≡ partyWords) × HasScratch root q (now pages) ⌝ }
     ensures { λ a. ⌜ ((ls : List ℕ) → left a root (now (party .exit)) q ls (now (pages .exit)) ≡ Endings.onward (seen root (now (party .entry)) q ls (now (pages .entry)))) ⌝ }
 {
     if party[OWED] == OWES_SPLIT {
@@ -63,7 +63,7 @@ fn is_change(answer: u32) -> bool
 
 // Where 12 leads once the chain is given up: "done unless inserted or deleted"; to 13 "if there are old overflow pages".
 fn chain_left(root: Root, party: &mut [u32], q: u32, pages: &mut [u32]) -> StepAnswer
-    requires { ⌜ (length (now party) ≡ recordWords) × HasScratch root q (now pages) ⌝ }
+    requires { ⌜ (length (now party) ≡ partyWords) × HasScratch root q (now pages) ⌝ }
     ensures { λ a. ⌜ ((ls : List ℕ) → left a root (now (party .exit)) q ls (now (pages .exit)) ≡ afterLeaving (seen root (now (party .entry)) q ls (now (pages .entry)))) ⌝ }
 {
     if !is_change(party[ANSWER]) {

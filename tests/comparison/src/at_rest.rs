@@ -1,17 +1,17 @@
 //! What the lent words say of a file at rest, and whether they are as document 01 ("The lent memory") has them: nobody holds a lock, every record and scratch page is
-//! zero, each chain is packed and ascends with its keys at home, and every overflow page is in one chain or in the free list.
+//! zero, each chain is packed and ascends by its keys, which are at home, and every overflow page is in one chain or in the free list.
 
 use crate::image::Image;
 use crate::part::Outcome;
-use bead_port::memory::{Page, Root, FIRST_KEY, KEY_COUNT, LINK, LOCAL_LEVEL};
-use sequential::AddressSpace;
+use bead_port::memory::{Page, Root, FIRST_RECORD, LINK, LOCAL_LEVEL, RECORD_COUNT, RECORD_WORDS};
+use sequential::{AddressSpace, Record};
 use std::ops::{Range, RangeInclusive};
 
-/// Level, next, the free pages and every chain's keys.
+/// Level, next, the free pages and every chain's records.
 pub struct File {
     pub space: AddressSpace,
     pub free: u32,
-    pub chains: Vec<Vec<u32>>,
+    pub chains: Vec<Vec<Record>>,
 }
 
 /// The file, or the first thing that is not as it must be.
@@ -21,7 +21,7 @@ pub fn read(image: &Image, sizes: [u32; 5]) -> Outcome<File> {
     test_zero("a lock word", &image.locks)?;
     test_zero("a record", &image.parties)?;
     let mut owned = vec![false; root.overflow_pages as usize];
-    let chains = (0..space.chains()).map(|chain| chain_keys(image, &space, chain, &mut owned));
+    let chains = (0..space.chains()).map(|chain| chain_records(image, &space, chain, &mut owned));
     let chains = chains.collect::<Outcome<Vec<_>>>()?;
     for page in (space.chains()..root.most_chains).chain(scratch_pages(&root)) {
         test_zero(&format!("page {page}"), image.page(page))?;
@@ -75,47 +75,61 @@ fn scratch_pages(root: &Root) -> Range<u32> {
     first..first + root.parties
 }
 
-/// The keys of a chain, every page of it tested and its overflow pages owned.
-fn chain_keys(
+/// The records of a chain, every page of it tested and its overflow pages owned.
+fn chain_records(
     image: &Image,
     space: &AddressSpace,
     chain: u32,
     owned: &mut [bool],
-) -> Outcome<Vec<u32>> {
+) -> Outcome<Vec<Record>> {
     let root = image.root_record();
-    let mut keys = Vec::new();
-    let (mut number, mut level, mut counts) = (chain, space.local_level(chain), 0..=root.page_keys);
+    let mut records = Vec::new();
+    let (mut number, mut level, mut counts) =
+        (chain, space.local_level(chain), 0..=root.page_records);
     loop {
         let page = image.page(number);
         test_page(page, level, &counts)
             .map_err(|error| format!("page {number} of chain {chain}: {error}"))?;
-        keys.extend_from_slice(&page[FIRST_KEY..][..page[KEY_COUNT] as usize]);
+        records.extend(records_on(page));
         if page[LINK] == 0 {
             break;
         }
         own(&root, page[LINK], owned)?;
-        (number, level, counts) = (page[LINK] - 1, 0, 1..=root.page_keys);
+        (number, level, counts) = (page[LINK] - 1, 0, 1..=root.page_records);
     }
-    if keys.windows(2).any(|pair| pair[0] >= pair[1]) {
-        return Err(format!("chain {chain} does not ascend: {keys:?}"));
+    if records.windows(2).any(|pair| pair[0].key >= pair[1].key) {
+        return Err(format!("chain {chain} does not ascend: {records:?}"));
     }
-    match keys.iter().find(|key| space.address(**key) != chain) {
-        Some(key) => Err(format!("key {key} is in chain {chain}, not at home")),
-        None => Ok(keys),
+    let strayed = |record: &&Record| space.address(record.key) != chain;
+    match records.iter().find(strayed) {
+        Some(record) => Err(format!("{record:?} is in chain {chain}, not at home")),
+        None => Ok(records),
     }
 }
 
-/// A page has its level, as many keys as it may have, all of them where another page follows, and zeros behind its keys.
+/// The records of a page that was tested, key first.
+fn records_on(page: &Page) -> impl Iterator<Item = Record> + '_ {
+    let pairs = page[FIRST_RECORD..].chunks_exact(RECORD_WORDS);
+    pairs.take(page[RECORD_COUNT] as usize).map(|pair| Record {
+        key: pair[0],
+        setting: pair[1],
+    })
+}
+
+/// A page has its level, as many records as it may have, all of them where another page follows, and zeros behind its records.
 fn test_page(page: &Page, level: u32, counts: &RangeInclusive<u32>) -> Outcome<()> {
-    let count = page[KEY_COUNT];
+    let count = page[RECORD_COUNT];
     let packed = count == *counts.end() || page[LINK] == 0;
     if page[LOCAL_LEVEL] != level || !counts.contains(&count) || !packed {
         return Err(format!(
-            "local level {}, {count} keys, link {}",
+            "local level {}, {count} records, link {}",
             page[LOCAL_LEVEL], page[LINK]
         ));
     }
-    test_zero("its end", &page[FIRST_KEY + count as usize..])
+    test_zero(
+        "its end",
+        &page[FIRST_RECORD + RECORD_WORDS * count as usize..],
+    )
 }
 
 /// Marks the overflow page that a link names as owned; it must not be owned yet.

@@ -10,18 +10,19 @@ use bead_port::reply::Refusal;
 #[derive(Clone, Copy, Debug, PartialEq, Eq)]
 pub enum Call {
     Format([u32; 5]),
-    Begin(u32, u32, u32),
+    /// Party, operation, key and setting.
+    Begin(u32, u32, u32, u32),
     Step(u32),
 }
 
 /// The steps that request a lock, and so can wait.
 pub const REQUESTING: [usize; 9] = [1, 4, 7, 13, 15, 16, 23, 24, 25];
 
-/// The four words of a step's reply; a format or begin has its number in the first and zeros.
-pub type Reply = [u32; 4];
+/// The five words of a step's reply; a format or begin has its number in the first and zeros.
+pub type Reply = [u32; 5];
 
 pub fn code_reply(code: u32) -> Reply {
-    [code, 0, 0, 0]
+    [code, 0, 0, 0, 0]
 }
 
 pub fn step_reply(reply: BeadReply) -> Reply {
@@ -30,6 +31,7 @@ pub fn step_reply(reply: BeadReply) -> Reply {
         reply.outcome,
         reply.answer,
         reply.restructuring,
+        reply.setting,
     ]
 }
 
@@ -74,10 +76,10 @@ impl Port {
             Call::Format(sizes) => code_reply(code_of(calls::format::<Cause>(
                 root, parties, locks, pages, words, sizes,
             ))),
-            Call::Begin(_, operation, _) if !(1..=3).contains(&operation) => code_reply(255),
-            Call::Begin(party, operation, key) => code_reply(code_of(calls::begin::<Cause>(
-                root, parties, locks, words, party, operation, key,
-            ))),
+            Call::Begin(_, operation, ..) if !(1..=3).contains(&operation) => code_reply(255),
+            Call::Begin(party, operation, key, setting) => code_reply(code_of(
+                calls::begin::<Cause>(root, parties, locks, words, party, operation, key, setting),
+            )),
             Call::Step(party) => {
                 let result = calls::step::<Cause>(root, parties, locks, pages, words, party);
                 if let Err(Refusal::Damaged(cause)) = result {

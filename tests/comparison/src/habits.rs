@@ -1,7 +1,23 @@
-//! Which operations and keys the parties of a session choose: the file grows and shrinks by turns.
+//! Which operations, keys and settings the parties of a session choose: the file grows and shrinks by turns.
 
+use crate::callee::Call;
 use crate::random::Random;
 use bead_port::memory::{DELETE, FIND, INSERT};
+
+/// What a party begins.
+#[derive(Clone, Copy, Debug)]
+pub struct Choice {
+    pub operation: u32,
+    pub key: u32,
+    pub setting: u32,
+}
+
+impl Choice {
+    /// The begin of a party.
+    pub fn begin(self, party: u32) -> Call {
+        Call::Begin(party, self.operation, self.key, self.setting)
+    }
+}
 
 pub struct Habits {
     /// Keys are first + stride × a number below the range.
@@ -39,8 +55,8 @@ impl Habits {
             .wrapping_add(random.below(self.range).wrapping_mul(self.stride))
     }
 
-    /// An operation and its key.
-    pub fn choose(&mut self, random: &mut Random) -> (u32, u32) {
+    /// An operation, its key and a setting, which a find or a delete must not heed.
+    pub fn choose(&mut self, random: &mut Random) -> Choice {
         if random.one_in(self.turn) {
             self.growing = !self.growing;
         }
@@ -54,6 +70,10 @@ impl Habits {
             2..=8 => more,
             _ => less,
         };
-        (operation, self.key(random))
+        Choice {
+            operation,
+            key: self.key(random),
+            setting: random.word(),
+        }
     }
 }

@@ -1,6 +1,6 @@
 //! The lent memory as words, with guard words before and after each part so that a write outside it shows.
 
-use bead_port::memory::{Party, Root, LINK, RECORD_WORDS};
+use bead_port::memory::{Party, Root, LINK, PARTY_WORDS, ROOT_WORDS};
 use std::ops::{Deref, DerefMut};
 
 const GUARD_WORDS: usize = 16;
@@ -71,8 +71,8 @@ impl Image {
     pub fn zero(parties: usize, locks: usize, page_words: usize) -> Image {
         let zeros = |length| Part::new(&vec![0; length]);
         Image {
-            root: zeros(RECORD_WORDS),
-            parties: zeros(RECORD_WORDS * parties),
+            root: zeros(ROOT_WORDS),
+            parties: zeros(PARTY_WORDS * parties),
             locks: zeros(locks),
             pages: zeros(page_words),
         }
@@ -98,7 +98,7 @@ impl Image {
     }
 
     pub fn party_count(&self) -> usize {
-        self.parties.len() / RECORD_WORDS
+        self.parties.len() / PARTY_WORDS
     }
 
     pub fn root_record(&self) -> Root {
@@ -110,12 +110,12 @@ impl Image {
     }
 
     pub fn party(&self, number: u32) -> Party {
-        let words = &self.parties[RECORD_WORDS * number as usize..][..RECORD_WORDS];
+        let words = &self.parties[PARTY_WORDS * number as usize..][..PARTY_WORDS];
         Party::from_words(words.try_into().expect("the words of a record"))
     }
 
     pub fn set_party(&mut self, number: u32, party: Party) {
-        self.parties[RECORD_WORDS * number as usize..][..RECORD_WORDS]
+        self.parties[PARTY_WORDS * number as usize..][..PARTY_WORDS]
             .copy_from_slice(&party.words());
     }
 

@@ -31,6 +31,7 @@ type Begin = unsafe extern "C" fn(
     u32,
     u32,
     u32,
+    u32,
 ) -> u32;
 type Step = unsafe extern "C" fn(
     *mut Root,
@@ -72,6 +73,7 @@ mod linked {
             party: u32,
             operation: u32,
             key: u32,
+            setting: u32,
         ) -> u32;
         pub fn bead_step(
             root: *mut Root,
@@ -127,8 +129,8 @@ impl Callee for Library {
                 Call::Format([n, b, p, v, q]) => code_reply((self.format)(
                     root, parties, np, locks, nl, pages, ng, n, b, p, v, q,
                 )),
-                Call::Begin(party, operation, key) => code_reply((self.begin)(
-                    root, parties, np, locks, nl, pages, ng, party, operation, key,
+                Call::Begin(party, operation, key, setting) => code_reply((self.begin)(
+                    root, parties, np, locks, nl, pages, ng, party, operation, key, setting,
                 )),
                 Call::Step(party) => {
                     step_reply((self.step)(root, parties, np, locks, nl, pages, ng, party))

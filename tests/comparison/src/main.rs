@@ -1,4 +1,4 @@
-//! Compares the compiled library that is linked with it: with stored transcripts, with the sequential model where operations run singly, with the set book where
+//! Compares the compiled library that is linked with it: with stored transcripts, with the sequential model where operations run singly, with the book where
 //! parties run in any order, and with the plain port word by word. A line for each; exit status 1 at the first difference, or where something was never met.
 #![deny(unsafe_code)]
 

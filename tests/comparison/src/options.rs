@@ -4,7 +4,7 @@ use crate::wrong::{Wrong, Wronged};
 use std::path::PathBuf;
 
 const USAGE: &str = "comparison [--transcripts DIR] [--part singly|schedules|words] [--seed N] [--calls N] [--session N] [--table yes]
-    [--spoil root|parties|locks|pages|reply|answer|wait]";
+    [--spoil root|parties|locks|pages|reply|answer|setting|wait]";
 
 pub struct Options {
     pub transcripts: Option<PathBuf>,

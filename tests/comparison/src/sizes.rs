@@ -12,7 +12,7 @@ pub fn allowed(random: &mut Random) -> [u32; 5] {
             random.between(1, 4),
         ),
         10..=13 => (
-            random.between(1, 12),
+            random.between(1, 6),
             random.between(2, 40),
             random.between(0, 60),
             random.between(1, 16),
@@ -24,7 +24,7 @@ pub fn allowed(random: &mut Random) -> [u32; 5] {
             16,
         ),
         _ => (
-            random.between(1, 12),
+            random.between(1, 6),
             random.between(1, 256),
             random.between(0, 752),
             random.between(1, 16),
@@ -42,14 +42,14 @@ pub fn allowed(random: &mut Random) -> [u32; 5] {
 const LARGEST: [[u32; 4]; 10] = [
     [1, 1, 256, 752],
     [1, 2, 256, 752],
-    [1, 12, 256, 752],
+    [1, 6, 256, 752],
     [3, 2, 256, 752],
     [5, 3, 256, 400],
-    [100, 7, 200, 752],
+    [100, 5, 200, 752],
     [128, 4, 256, 752],
     [255, 1, 256, 752],
     [256, 1, 256, 0],
-    [256, 12, 256, 752],
+    [256, 6, 256, 752],
 ];
 
 /// The largest sizes by turns, with all parties.

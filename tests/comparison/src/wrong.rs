@@ -4,6 +4,7 @@ use crate::callee::{Call, Callee, Reply};
 use crate::image::{Image, PART_NAMES};
 use crate::library::Library;
 use crate::random::Random;
+use bead_port::reply::FOUND;
 
 /// What is wrong now and then.
 #[derive(Clone, Copy)]
@@ -14,6 +15,8 @@ pub enum Wrong {
     Reply,
     /// The answer of an operation done.
     Answer,
+    /// The setting of a key found.
+    Setting,
     /// From some call on every operation under way waits.
     Wait,
 }
@@ -23,6 +26,7 @@ impl Wrong {
         match name {
             "reply" => Some(Wrong::Reply),
             "answer" => Some(Wrong::Answer),
+            "setting" => Some(Wrong::Setting),
             "wait" => Some(Wrong::Wait),
             _ => PART_NAMES
                 .iter()
@@ -69,7 +73,7 @@ impl Callee for Wronged {
         let now = self.random.one_in(ONE_IN);
         self.waiting |= now && matches!(self.wrong, Wrong::Wait);
         if self.waiting && Wronged::is_step(image, call) {
-            return [0; 4];
+            return [0; 5];
         }
         let mut reply = self.library.call(image, call);
         match self.wrong {
@@ -84,6 +88,9 @@ impl Callee for Wronged {
             Wrong::Reply if now => self.flip(&mut reply),
             Wrong::Answer if reply[1] == 2 && self.random.one_in(100) => {
                 reply[2] = 1 + reply[2] % 6
+            }
+            Wrong::Setting if reply[2] == FOUND && self.random.one_in(100) => {
+                reply[4] ^= 1 << self.random.below(32)
             }
             _ => {}
         }

@@ -14,6 +14,7 @@ pub struct BeadReply {
     pub outcome: u32,
     pub answer: u32,
     pub restructuring: u32,
+    pub setting: u32,
 }
 
 impl BeadReply {
@@ -32,8 +33,9 @@ impl BeadReply {
             Ok(Outcome::Done(answer, made)) => BeadReply {
                 refusal: 0,
                 outcome: 2,
-                answer,
+                answer: answer.number,
                 restructuring: made as u32,
+                setting: answer.setting,
             },
         }
     }
@@ -54,7 +56,7 @@ pub fn pages_of(words: &mut [u32]) -> &mut [Page] {
 }
 
 /// # Safety
-/// Each pointer is valid for its length: nine words at `root`, nine for each of `np` records, `nl` lock words, `ng` page words; none overlap.
+/// Each pointer is valid for its length: nine words at `root`, ten for each of `np` records, `nl` lock words, `ng` page words; none overlap.
 #[cfg_attr(feature = "c-names", no_mangle)]
 pub unsafe extern "C" fn bead_format(
     root: *mut Root,
@@ -83,7 +85,7 @@ pub unsafe extern "C" fn bead_format(
     ))
 }
 
-/// 255 for an operation outside 1 to 3.
+/// 255 for an operation outside 1 to 3. The setting is an insert's.
 /// # Safety
 /// As for `bead_format`.
 #[cfg_attr(feature = "c-names", no_mangle)]
@@ -98,6 +100,7 @@ pub unsafe extern "C" fn bead_begin(
     party: u32,
     operation: u32,
     key: u32,
+    setting: u32,
 ) -> u32 {
     if !(1..=3).contains(&operation) {
         return 255;
@@ -105,7 +108,7 @@ pub unsafe extern "C" fn bead_begin(
     let parties = std::slice::from_raw_parts_mut(parties, np);
     let locks = std::slice::from_raw_parts(locks, nl);
     code_of(calls::begin::<Unnamed>(
-        &*root, parties, locks, ng, party, operation, key,
+        &*root, parties, locks, ng, party, operation, key, setting,
     ))
 }
 

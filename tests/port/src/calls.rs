@@ -2,7 +2,7 @@
 //! Pages are lent as whole pages beside the count of lent words, so that a length that is no multiple of sixteen is refused too.
 
 use crate::damage::{Cause, Damage};
-use crate::memory::{Page, Party, Root, EMPTY_PAGE, LINK};
+use crate::memory::{Page, Party, Root, EMPTY_PAGE, INSERT, LINK};
 use crate::reply::{Outcome, Refusal};
 use crate::steps;
 use std::marker::PhantomData;
@@ -26,10 +26,10 @@ pub fn format<D>(
     page_words: usize,
     sizes: [u32; 5],
 ) -> Result<(), Refusal<D>> {
-    let [first_chains, page_keys, most_chains, overflow_pages, party_count] = sizes;
+    let [first_chains, page_records, most_chains, overflow_pages, party_count] = sizes;
     let mut new = Root {
         first_chains,
-        page_keys,
+        page_records,
         most_chains,
         overflow_pages,
         parties: party_count,
@@ -65,7 +65,7 @@ fn list_overflow_pages(pages: &mut [Page], most_chains: u32, overflow_pages: u32
     }
 }
 
-/// "A begin sets operation, key and step 1 and zeroes the rest." The operation is 1 to 3.
+/// "A begin sets operation, key and step 1 and zeroes the rest"; an insert's setting is kept too. The operation is 1 to 3.
 #[inline]
 pub fn begin<D>(
     root: &Root,
@@ -75,6 +75,7 @@ pub fn begin<D>(
     number: u32,
     operation: u32,
     key: u32,
+    setting: u32,
 ) -> Result<(), Refusal<D>> {
     let party = tested_party(root, parties, locks.len(), page_words, number)?;
     if party.operation != 0 {
@@ -84,6 +85,7 @@ pub fn begin<D>(
         operation,
         key,
         step: 1,
+        setting: if operation == INSERT { setting } else { 0 },
         ..Party::default()
     };
     Ok(())

@@ -2,40 +2,50 @@
 
 use crate::calls::Lent;
 use crate::damage::{Cause, Damage};
-use crate::memory::{Page, EMPTY_PAGE, FIRST_KEY, KEY_COUNT, LINK, LOCAL_LEVEL};
+use crate::memory::{
+    Page, Record, EMPTY_PAGE, FIRST_RECORD, LINK, LOCAL_LEVEL, RECORD_COUNT, RECORD_WORDS,
+};
 
-/// Room for the keys of a usual chain; longer ones grow it.
-const USUAL_KEYS: usize = 192;
+/// Room for the records of a usual chain; longer ones grow it.
+const USUAL_RECORDS: usize = 96;
 
 /// A bit for each overflow page.
 const PAGE_SET_WORDS: usize = 24;
 
-/// A chain looked through whole: its keys and the number of its overflow pages.
-pub(crate) struct ChainKeys {
-    pub keys: Vec<u32>,
+/// A chain looked through whole: its records and the number of its overflow pages.
+pub(crate) struct ChainRecords {
+    pub records: Vec<Record>,
     pub overflow: u32,
 }
 
-/// The keys of a page whose count was tested.
+/// The records of a page whose count was tested.
 #[inline(always)]
-pub(crate) fn page_keys(page: &Page) -> &[u32] {
-    &page[FIRST_KEY..][..page[KEY_COUNT] as usize]
+pub(crate) fn records_on(page: &Page) -> impl Iterator<Item = Record> + '_ {
+    page[FIRST_RECORD..][..RECORD_WORDS * page[RECORD_COUNT] as usize]
+        .chunks_exact(RECORD_WORDS)
+        .map(|words| Record {
+            key: words[0],
+            setting: words[1],
+        })
 }
 
 /// "m keys need ceil(m/b) − 1 overflow pages, none for m = 0."
 #[inline]
-pub(crate) fn overflow_needed(keys: usize, page_keys: u32) -> u32 {
-    (keys as u32).saturating_sub(1) / page_keys
+pub(crate) fn overflow_needed(records: usize, page_records: u32) -> u32 {
+    (records as u32).saturating_sub(1) / page_records
 }
 
-/// A page of some keys, at most b; unused words are zero.
+/// A page of some records, at most b; unused words are zero.
 #[inline]
-fn page_of(keys: &[u32], local_level: u32, link: u32) -> Page {
+fn page_of(records: &[Record], local_level: u32, link: u32) -> Page {
     let mut page = EMPTY_PAGE;
     page[LOCAL_LEVEL] = local_level;
-    page[KEY_COUNT] = keys.len() as u32;
+    page[RECORD_COUNT] = records.len() as u32;
     page[LINK] = link;
-    page[FIRST_KEY..][..keys.len()].copy_from_slice(keys);
+    let places = page[FIRST_RECORD..].chunks_exact_mut(RECORD_WORDS);
+    for (place, record) in places.zip(records) {
+        place.copy_from_slice(&[record.key, record.setting]);
+    }
     page
 }
 
@@ -43,7 +53,10 @@ impl<D: Damage> Lent<'_, D> {
     /// "On a page the step follows, count above b, local level above 9 [...] or a link to no overflow page."
     #[inline(always)]
     pub fn test_page(&self, page: &Page) -> Result<(), D> {
-        self.refuse_if(page[KEY_COUNT] > self.root.page_keys, Cause::CountAbovePage)?;
+        self.refuse_if(
+            page[RECORD_COUNT] > self.root.page_records,
+            Cause::CountAbovePage,
+        )?;
         self.refuse_if(page[LOCAL_LEVEL] > 9, Cause::LocalLevelAbove9)?;
         self.refuse_if(
             page[LINK] != 0 && !self.root.links_overflow(page[LINK]),
@@ -57,30 +70,29 @@ impl<D: Damage> Lent<'_, D> {
         &self.pages[link as usize - 1]
     }
 
-    /// Adds a page's keys to a chain's: "keys that do not strictly ascend in a chain looked through whole" are damage.
+    /// Adds a page's records to a chain's: "keys that do not strictly ascend in a chain looked through whole" are damage.
     #[inline]
-    fn append_ascending(&self, keys: &mut Vec<u32>, page: &Page) -> Result<(), D> {
-        let new = page_keys(page);
-        let mut least = keys.last().map_or(0, |&key| u64::from(key) + 1);
-        for &key in new {
-            self.refuse_if(u64::from(key) < least, Cause::KeysNotAscending)?;
-            least = u64::from(key) + 1;
+    fn append_ascending(&self, records: &mut Vec<Record>, page: &Page) -> Result<(), D> {
+        let mut least = records.last().map_or(0, |last| u64::from(last.key) + 1);
+        for record in records_on(page) {
+            self.refuse_if(u64::from(record.key) < least, Cause::KeysNotAscending)?;
+            least = u64::from(record.key) + 1;
+            records.push(record);
         }
-        keys.extend_from_slice(new);
         Ok(())
     }
 
     /// Looks through a whole chain in the file.
     #[inline]
-    pub fn chain_keys(&self, chain: u32) -> Result<ChainKeys, D> {
-        let mut keys = Vec::with_capacity(USUAL_KEYS);
+    pub fn chain_records(&self, chain: u32) -> Result<ChainRecords, D> {
+        let mut records = Vec::with_capacity(USUAL_RECORDS);
         let mut page = &self.pages[chain as usize];
         let mut overflow = 0;
         loop {
             self.test_page(page)?;
-            self.append_ascending(&mut keys, page)?;
+            self.append_ascending(&mut records, page)?;
             if page[LINK] == 0 {
-                return Ok(ChainKeys { keys, overflow });
+                return Ok(ChainRecords { records, overflow });
             }
             self.refuse_if(overflow == self.root.overflow_pages, Cause::ChainTooLong)?;
             overflow += 1;
@@ -122,9 +134,9 @@ impl<D: Damage> Lent<'_, D> {
 
     /// Takes a chain's overflow pages from the tested free list, in chain order, and fills them; answers the primary page.
     #[inline]
-    pub fn take_and_fill(&mut self, keys: &[u32], local_level: u32) -> Page {
-        let room = self.root.page_keys as usize;
-        let (first, rest) = keys.split_at(keys.len().min(room));
+    pub fn take_and_fill(&mut self, records: &[Record], local_level: u32) -> Page {
+        let room = self.root.page_records as usize;
+        let (first, rest) = records.split_at(records.len().min(room));
         let primary = page_of(
             first,
             local_level,

@@ -4,20 +4,30 @@
 pub type Page = [u32; 16];
 pub const PAGE_WORDS: usize = 16;
 pub const LOCAL_LEVEL: usize = 0;
-pub const KEY_COUNT: usize = 1;
+pub const RECORD_COUNT: usize = 1;
 pub const LINK: usize = 2;
-pub const FIRST_KEY: usize = 3;
+pub const FIRST_RECORD: usize = 3;
 pub const EMPTY_PAGE: Page = [0; PAGE_WORDS];
 
 /// The number of words in the root record and in a party's record.
-pub const RECORD_WORDS: usize = 9;
+pub const ROOT_WORDS: usize = 9;
+pub const PARTY_WORDS: usize = 10;
+
+/// "Each record becomes a key and a 32-bit setting": two words, key first.
+#[derive(Clone, Copy, Debug, PartialEq, Eq)]
+pub struct Record {
+    pub key: u32,
+    pub setting: u32,
+}
+
+pub const RECORD_WORDS: usize = 2;
 
 /// The root record: N, b, P, V, Q, level, next, the first free page plus one, the count of free pages.
 #[repr(C)]
 #[derive(Clone, Copy, Debug, Default, PartialEq, Eq)]
 pub struct Root {
     pub first_chains: u32,
-    pub page_keys: u32,
+    pub page_records: u32,
     pub most_chains: u32,
     pub overflow_pages: u32,
     pub parties: u32,
@@ -40,6 +50,7 @@ pub struct Party {
     pub old_link: u32,
     pub owed: u32,
     pub answer: u32,
+    pub setting: u32,
 }
 
 pub const FIND: u32 = 1;
@@ -53,14 +64,14 @@ pub const OWED_MERGE: u32 = 2;
 pub const SPLIT_MADE: u32 = 3;
 
 impl Root {
-    /// "N original chains, 1 to P. P chains at most, 1 to 256. V overflow pages, 0 to 752. Q parties, 1 to 16. b keys a page, 1 to 12."
+    /// "N original chains, 1 to P. P chains at most, 1 to 256. V overflow pages, 0 to 752. Q parties, 1 to 16." "b is 1 to 6".
     #[inline]
     pub fn sizes_allowed(&self) -> bool {
         from_one_to(self.most_chains, 256)
             && from_one_to(self.first_chains, self.most_chains)
             && self.overflow_pages <= 752
             && from_one_to(self.parties, 16)
-            && from_one_to(self.page_keys, 12)
+            && from_one_to(self.page_records, 6)
     }
 
     /// "Q records, P+1 lock words" and "16 × (P+V+Q) page words".
@@ -102,10 +113,10 @@ impl Root {
         (self.most_chains + self.overflow_pages + party) as usize
     }
 
-    pub fn words(&self) -> [u32; RECORD_WORDS] {
+    pub fn words(&self) -> [u32; ROOT_WORDS] {
         let sizes = [
             self.first_chains,
-            self.page_keys,
+            self.page_records,
             self.most_chains,
             self.overflow_pages,
             self.parties,
@@ -124,12 +135,12 @@ impl Root {
         ]
     }
 
-    pub fn from_words(words: [u32; RECORD_WORDS]) -> Root {
-        let [first_chains, page_keys, most_chains, overflow_pages, parties, level, next, first_free, free_count] =
+    pub fn from_words(words: [u32; ROOT_WORDS]) -> Root {
+        let [first_chains, page_records, most_chains, overflow_pages, parties, level, next, first_free, free_count] =
             words;
         Root {
             first_chains,
-            page_keys,
+            page_records,
             most_chains,
             overflow_pages,
             parties,
@@ -142,7 +153,7 @@ impl Root {
 }
 
 impl Party {
-    pub fn words(&self) -> [u32; RECORD_WORDS] {
+    pub fn words(&self) -> [u32; PARTY_WORDS] {
         let place = [self.lev, self.chain, self.other, self.old_link];
         let [lev, chain, other, old_link] = place;
         [
@@ -155,11 +166,12 @@ impl Party {
             old_link,
             self.owed,
             self.answer,
+            self.setting,
         ]
     }
 
-    pub fn from_words(words: [u32; RECORD_WORDS]) -> Party {
-        let [operation, key, step, lev, chain, other, old_link, owed, answer] = words;
+    pub fn from_words(words: [u32; PARTY_WORDS]) -> Party {
+        let [operation, key, step, lev, chain, other, old_link, owed, answer, setting] = words;
         Party {
             operation,
             key,
@@ -170,6 +182,7 @@ impl Party {
             old_link,
             owed,
             answer,
+            setting,
         }
     }
 }

@@ -32,7 +32,7 @@ impl<D> From<D> for Refusal<D> {
     }
 }
 
-/// Answers as numbers: those of a party's record, and found.
+/// Answers as numbers: those of a party's record, and found, which carries a setting.
 pub const INSERTED: u32 = 1;
 pub const PRESENT: u32 = 2;
 pub const DELETED: u32 = 3;
@@ -50,10 +50,34 @@ pub enum Restructuring {
     MergeSkipped = 4,
 }
 
+/// An answer: its number, and the setting of the key where it is found, else 0.
+#[derive(Clone, Copy, Debug, PartialEq, Eq)]
+pub struct Answer {
+    pub number: u32,
+    pub setting: u32,
+}
+
+impl Answer {
+    /// An answer without a setting.
+    #[inline]
+    pub fn plain(number: u32) -> Answer {
+        Answer { number, setting: 0 }
+    }
+
+    /// "Found answers the setting."
+    #[inline]
+    pub fn found(setting: u32) -> Answer {
+        Answer {
+            number: FOUND,
+            setting,
+        }
+    }
+}
+
 /// "One call performs one step and answers waiting (no word changes), moved, or done with the answer."
 #[derive(Clone, Copy, Debug, PartialEq, Eq)]
 pub enum Outcome {
     Waiting,
     Moved,
-    Done(u32, Restructuring),
+    Done(Answer, Restructuring),
 }

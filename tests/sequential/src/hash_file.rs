@@ -1,14 +1,14 @@
-//! The linear hash file: bucket chains as lists of keys, and each operation as a whole.
+//! The linear hash file: bucket chains as lists of records, and each operation as a whole.
 //! A chain that changes is built anew in free pages before its old pages are free again.
 
-use crate::{AddressSpace, Answer, Operation, Outcome, Restructuring, Sizes};
+use crate::{AddressSpace, Answer, Operation, Outcome, Record, Restructuring, Sizes};
 
 #[derive(Clone, Debug, PartialEq, Eq)]
 pub struct HashFile {
     sizes: Sizes,
     space: AddressSpace,
-    /// The keys of each chain, ascending.
-    chains: Vec<Vec<u32>>,
+    /// The records of each chain, their keys ascending.
+    chains: Vec<Vec<Record>>,
 }
 
 impl HashFile {
@@ -32,45 +32,48 @@ impl HashFile {
         self.space
     }
 
-    pub fn chains(&self) -> &[Vec<u32>] {
+    pub fn chains(&self) -> &[Vec<Record>] {
         &self.chains
     }
 
     /// The overflow pages in no chain.
     pub fn free_pages(&self) -> usize {
-        let used: usize = self.chains.iter().map(|keys| self.pages_for(keys)).sum();
+        let pages = self.chains.iter().map(|records| self.pages_for(records));
+        let used: usize = pages.sum();
         self.sizes.overflow_pages as usize - used
     }
 
     pub fn perform(&mut self, operation: Operation) -> Outcome {
         match operation {
             Operation::Find(key) => self.find(key),
-            Operation::Insert(key) => self.insert(key),
+            Operation::Insert(key, setting) => self.insert(Record { key, setting }),
             Operation::Delete(key) => self.delete(key),
         }
     }
 
     pub fn find(&self, key: u32) -> Outcome {
-        match self.chains[self.home(key)].binary_search(&key) {
-            Ok(_) => Answer::Found.into(),
+        let records = &self.chains[self.home(key)];
+        match place_of(records, key) {
+            Ok(place) => Answer::Found(records[place].setting).into(),
             Err(_) => Answer::Absent.into(),
         }
     }
 
-    /// Inserts a key; splits where its chain has more overflow pages than before.
-    pub fn insert(&mut self, key: u32) -> Outcome {
-        let home = self.home(key);
-        let mut keys = self.chains[home].clone();
-        match keys.binary_search(&key) {
+    /// Inserts a record whose key is missing; splits where its chain has more overflow pages than
+    /// before. A present key keeps its setting.
+    pub fn insert(&mut self, record: Record) -> Outcome {
+        let home = self.home(record.key);
+        let mut records = self.chains[home].clone();
+        match place_of(&records, record.key) {
             Ok(_) => return Answer::Present.into(),
-            Err(place) => keys.insert(place, key),
+            Err(place) => records.insert(place, record),
         }
         let old_pages = self.pages_for(&self.chains[home]);
-        let new_pages = self.pages_for(&keys);
+        let new_pages = self.pages_for(&records);
         if new_pages > self.free_pages() {
             return Answer::NoPage.into();
         }
-        self.chains[home] = keys;
+        self.chains[home] = records;
         let restructuring = if new_pages > old_pages {
             self.split()
         } else {
@@ -82,19 +85,19 @@ impl HashFile {
         }
     }
 
-    /// Deletes a key; merges where its chain is left empty.
+    /// Deletes a key with its setting; merges where its chain is left empty.
     pub fn delete(&mut self, key: u32) -> Outcome {
         let home = self.home(key);
-        let mut keys = self.chains[home].clone();
-        match keys.binary_search(&key) {
-            Ok(place) => keys.remove(place),
+        let mut records = self.chains[home].clone();
+        match place_of(&records, key) {
+            Ok(place) => records.remove(place),
             Err(_) => return Answer::Absent.into(),
         };
-        if self.pages_for(&keys) > self.free_pages() {
+        if self.pages_for(&records) > self.free_pages() {
             return Answer::NoPage.into();
         }
-        let emptied = keys.is_empty();
-        self.chains[home] = keys;
+        let emptied = records.is_empty();
+        self.chains[home] = records;
         let restructuring = if emptied {
             self.merge()
         } else {
@@ -113,9 +116,9 @@ impl HashFile {
         if self.space.chains() == self.sizes.most_chains {
             return Restructuring::SplitSkipped;
         }
-        let keys = self.chains[next as usize].iter();
-        let (staying, going): (Vec<u32>, Vec<u32>) =
-            keys.partition(|key| self.space.hash(level + 1, **key) == next);
+        let records = self.chains[next as usize].iter();
+        let (staying, going): (Vec<Record>, Vec<Record>) =
+            records.partition(|record| self.space.hash(level + 1, record.key) == next);
         if self.pages_for(&staying) + self.pages_for(&going) > self.free_pages() {
             return Restructuring::SplitSkipped;
         }
@@ -135,7 +138,7 @@ impl HashFile {
         let partner = self.chains.len() - 1;
         let pair = [&self.chains[target as usize][..], &self.chains[partner]];
         let mut joined = pair.concat();
-        joined.sort_unstable();
+        joined.sort_unstable_by_key(|record| record.key);
         if self.pages_for(&joined) > self.free_pages() {
             return Restructuring::MergeSkipped;
         }
@@ -149,7 +152,12 @@ impl HashFile {
         self.space.address(key) as usize
     }
 
-    fn pages_for(&self, keys: &[u32]) -> usize {
-        self.sizes.overflow_pages_for(keys.len())
+    fn pages_for(&self, records: &[Record]) -> usize {
+        self.sizes.overflow_pages_for(records.len())
     }
+}
+
+/// Where the record of a key stands, or where it would go.
+fn place_of(records: &[Record], key: u32) -> Result<usize, usize> {
+    records.binary_search_by_key(&key, |record| record.key)
 }

@@ -2,17 +2,19 @@
 
 use std::fmt;
 
-/// An operation with its key.
+/// An operation with its key, and an insert's setting.
 #[derive(Clone, Copy, Debug, PartialEq, Eq)]
 pub enum Operation {
     Find(u32),
-    Insert(u32),
+    /// Key and setting.
+    Insert(u32, u32),
     Delete(u32),
 }
 
 #[derive(Clone, Copy, Debug, PartialEq, Eq)]
 pub enum Answer {
-    Found,
+    /// With the setting of the key.
+    Found(u32),
     Absent,
     Inserted,
     Present,
@@ -49,7 +51,7 @@ impl From<Answer> for Outcome {
 impl fmt::Display for Answer {
     fn fmt(&self, f: &mut fmt::Formatter) -> fmt::Result {
         f.write_str(match self {
-            Answer::Found => "found",
+            Answer::Found(setting) => return write!(f, "(found {setting})"),
             Answer::Absent => "absent",
             Answer::Inserted => "inserted",
             Answer::Present => "present",

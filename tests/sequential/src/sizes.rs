@@ -3,7 +3,7 @@
 const MOST_CHAINS: u32 = 256;
 const MOST_OVERFLOW_PAGES: u32 = 752;
 const MOST_PARTIES: u32 = 16;
-const MOST_KEYS_A_PAGE: u32 = 12;
+const MOST_RECORDS_A_PAGE: u32 = 6;
 
 /// The five numbers given to a format, in its order.
 #[derive(Clone, Copy, Debug, PartialEq, Eq)]
@@ -11,7 +11,7 @@ pub struct Sizes {
     /// N, the chains of an empty file.
     pub originals: u32,
     /// b.
-    pub keys_a_page: u32,
+    pub records_a_page: u32,
     /// P.
     pub most_chains: u32,
     /// V.
@@ -24,15 +24,15 @@ impl Sizes {
     pub fn within_limits(&self) -> bool {
         (1..=MOST_CHAINS).contains(&self.most_chains)
             && (1..=self.most_chains).contains(&self.originals)
-            && (1..=MOST_KEYS_A_PAGE).contains(&self.keys_a_page)
+            && (1..=MOST_RECORDS_A_PAGE).contains(&self.records_a_page)
             && self.overflow_pages <= MOST_OVERFLOW_PAGES
             && (1..=MOST_PARTIES).contains(&self.parties)
     }
 
-    /// The overflow pages of a chain of `keys` keys: ceil(keys / b) - 1, none for no keys.
-    pub fn overflow_pages_for(&self, keys: usize) -> usize {
-        let keys_a_page = self.keys_a_page as usize;
-        let pages = (keys + keys_a_page - 1) / keys_a_page;
+    /// The overflow pages of a chain of so many records: ceil(records / b) - 1, none for no records.
+    pub fn overflow_pages_for(&self, records: usize) -> usize {
+        let records_a_page = self.records_a_page as usize;
+        let pages = (records + records_a_page - 1) / records_a_page;
         pages.saturating_sub(1)
     }
 }

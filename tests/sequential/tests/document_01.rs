@@ -1,6 +1,6 @@
 //! The cases that document 01 checks by hand (P1 to P8), and the limits of the sizes.
 
-use sequential::{AddressSpace, HashFile, Operation, Restructuring, Sizes};
+use sequential::{AddressSpace, HashFile, Operation, Record, Restructuring, Sizes};
 
 fn space(originals: u32, level: u32, next: u32) -> AddressSpace {
     AddressSpace {
@@ -10,14 +10,20 @@ fn space(originals: u32, level: u32, next: u32) -> AddressSpace {
     }
 }
 
-fn sizes([originals, keys_a_page, most_chains, overflow_pages, parties]: [u32; 5]) -> Sizes {
+fn sizes([originals, records_a_page, most_chains, overflow_pages, parties]: [u32; 5]) -> Sizes {
     Sizes {
         originals,
-        keys_a_page,
+        records_a_page,
         most_chains,
         overflow_pages,
         parties,
     }
+}
+
+/// A record of a key, its setting told from the key.
+fn record(key: u32) -> Record {
+    let setting = 100 + key;
+    Record { key, setting }
 }
 
 #[test]
@@ -50,25 +56,26 @@ fn p7_a_merge_at_next_0_lowers_level() {
 fn p6_and_p7_by_operations() {
     let mut file = HashFile::format(sizes([2, 1, 8, 20, 1])).unwrap();
     for key in [0, 2, 1, 3, 4, 5, 6, 7] {
-        file.insert(key);
+        file.insert(record(key));
     }
     assert_eq!((file.space(), file.chains().len()), (space(2, 2, 0), 8));
 
     let mut file = HashFile::format(sizes([2, 1, 4, 20, 1])).unwrap();
     for key in [0, 2, 1, 3] {
-        file.insert(key);
+        file.insert(record(key));
     }
     assert_eq!(file.space(), space(2, 1, 0));
-    assert_eq!(file.chains(), [[0], [1], [2], [3]]);
+    assert_eq!(file.chains(), [0, 1, 2, 3].map(|key| vec![record(key)]));
     assert_eq!(file.delete(2).restructuring, Restructuring::Merged);
     assert_eq!(file.space(), space(2, 0, 1));
-    assert_eq!(file.chains(), [vec![0], vec![1, 3], vec![]]);
+    let joined = [vec![record(0)], vec![record(1), record(3)], vec![]];
+    assert_eq!(file.chains(), joined);
 }
 
 #[test]
 fn p8_overflow_pages() {
     let two_a_page = sizes([1, 2, 1, 0, 1]);
-    let pages = [0, 2, 3, 5].map(|keys| two_a_page.overflow_pages_for(keys));
+    let pages = [0, 2, 3, 5].map(|records| two_a_page.overflow_pages_for(records));
     assert_eq!(pages, [0, 0, 1, 2]);
 }
 
@@ -77,7 +84,7 @@ fn sizes_at_their_limits_are_accepted() {
     for least_or_most in [
         [1, 1, 1, 0, 1],
         [1, 1, 256, 752, 16],
-        [256, 12, 256, 752, 16],
+        [256, 6, 256, 752, 16],
         [256, 1, 256, 0, 1],
     ] {
         let file = HashFile::format(sizes(least_or_most)).expect("within the limits");
@@ -94,7 +101,7 @@ fn sizes_beyond_their_limits_are_refused() {
         [0, 1, 2, 0, 1],
         [3, 1, 2, 0, 1],
         [1, 0, 2, 0, 1],
-        [1, 13, 2, 0, 1],
+        [1, 7, 2, 0, 1],
         [1, 1, 0, 0, 1],
         [1, 1, 257, 0, 1],
         [257, 1, 257, 0, 1],

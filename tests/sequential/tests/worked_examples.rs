@@ -1,17 +1,27 @@
 //! Short runs worked out by hand: splits, merges and shortages, with the chains that each leaves.
 
-use sequential::{HashFile, Operation, Sizes};
+use sequential::{HashFile, Operation, Record, Sizes};
 
 /// A file of N, b, P and V.
-fn formatted([originals, keys_a_page, most_chains, overflow_pages]: [u32; 4]) -> HashFile {
+fn formatted([originals, records_a_page, most_chains, overflow_pages]: [u32; 4]) -> HashFile {
     let sizes = Sizes {
         originals,
-        keys_a_page,
+        records_a_page,
         most_chains,
         overflow_pages,
         parties: 1,
     };
     HashFile::format(sizes).expect("sizes within their limits")
+}
+
+/// The setting that a key has in these runs.
+fn setting(key: u32) -> u32 {
+    !key
+}
+
+/// An insert of a key with its setting.
+fn insert(key: u32) -> Operation {
+    Operation::Insert(key, setting(key))
 }
 
 /// Performs each operation and compares what it reports.
@@ -25,15 +35,25 @@ fn run(file: &mut HashFile, script: &[(Operation, &str)]) {
 /// Inserts keys that all go in and bring about no restructuring.
 fn fill(file: &mut HashFile, keys: &[u32]) {
     for key in keys {
-        run(file, &[(Operation::Insert(*key), "inserted none")]);
+        run(file, &[(insert(*key), "inserted none")]);
     }
 }
 
-/// Compares level, next, the free pages and the chains.
+/// The records of keys with their settings.
+fn records(keys: &[u32]) -> Vec<Record> {
+    let record = |&key| Record {
+        key,
+        setting: setting(key),
+    };
+    keys.iter().map(record).collect()
+}
+
+/// Compares level, next, the free pages and the chains, given by their keys.
 fn expect(file: &HashFile, root: (u32, u32), free_pages: usize, chains: &[&[u32]]) {
     assert_eq!((file.space().level, file.space().next), root);
     assert_eq!(file.free_pages(), free_pages);
-    assert_eq!(file.chains(), chains);
+    let due: Vec<Vec<Record>> = chains.iter().map(|keys| records(keys)).collect();
+    assert_eq!(file.chains(), due);
 }
 
 /// The insertion of 42 that Ellis walks through: an overflow in chain 2 splits chain 0.
@@ -41,20 +61,20 @@ fn expect(file: &HashFile, root: (u32, u32), free_pages: usize, chains: &[&[u32]
 fn an_overflow_splits_the_chain_that_is_next() {
     let mut file = formatted([2, 2, 8, 8]);
     fill(&mut file, &[4, 0]);
-    run(&mut file, &[(Operation::Insert(20), "inserted split")]);
+    run(&mut file, &[(insert(20), "inserted split")]);
     fill(&mut file, &[8, 1, 3]);
-    run(&mut file, &[(Operation::Insert(5), "inserted split")]);
+    run(&mut file, &[(insert(5), "inserted split")]);
     fill(&mut file, &[2, 6]);
     expect(&file, (1, 0), 7, &[&[0, 4, 8, 20], &[1, 5], &[2, 6], &[3]]);
-    run(&mut file, &[(Operation::Insert(42), "inserted split")]);
+    run(&mut file, &[(insert(42), "inserted split")]);
     let chains: [&[u32]; 5] = [&[0, 8], &[1, 5], &[2, 6, 42], &[3], &[4, 20]];
     expect(&file, (1, 1), 7, &chains);
     run(
         &mut file,
         &[
-            (Operation::Find(20), "found none"),
+            (Operation::Find(20), "(found 4294967275) none"),
             (Operation::Find(12), "absent none"),
-            (Operation::Insert(42), "present none"),
+            (insert(42), "present none"),
             (Operation::Delete(10), "absent none"),
         ],
     );
@@ -68,9 +88,9 @@ fn a_split_is_skipped_at_the_most_chains() {
     run(
         &mut file,
         &[
-            (Operation::Insert(5), "inserted split-skipped"),
-            (Operation::Insert(9), "inserted split-skipped"),
-            (Operation::Insert(4294967295), "no-page none"),
+            (insert(5), "inserted split-skipped"),
+            (insert(9), "inserted split-skipped"),
+            (insert(4294967295), "no-page none"),
         ],
     );
     expect(&file, (0, 0), 1, &[&[5, 7, 9]]);
@@ -79,12 +99,7 @@ fn a_split_is_skipped_at_the_most_chains() {
 /// Both halves need pages while the chain still holds its own.
 #[test]
 fn a_split_is_skipped_for_want_of_pages() {
-    let script = |last| {
-        [
-            (Operation::Insert(0), "inserted none"),
-            (Operation::Insert(2), last),
-        ]
-    };
+    let script = |last| [(insert(0), "inserted none"), (insert(2), last)];
     let mut file = formatted([1, 1, 4, 1]);
     run(&mut file, &script("inserted split-skipped"));
     expect(&file, (0, 0), 0, &[&[0, 2]]);
@@ -100,9 +115,9 @@ fn an_insert_gives_its_old_pages_back_before_the_split() {
     run(
         &mut file,
         &[
-            (Operation::Insert(0), "inserted none"),
-            (Operation::Insert(2), "inserted split"),
-            (Operation::Insert(4), "inserted split"),
+            (insert(0), "inserted none"),
+            (insert(2), "inserted split"),
+            (insert(4), "inserted split"),
         ],
     );
     expect(&file, (1, 1), 2, &[&[0, 4], &[], &[2]]);
@@ -116,15 +131,15 @@ fn a_change_is_refused_for_want_of_pages() {
     run(
         &mut file,
         &[
-            (Operation::Insert(2), "inserted split-skipped"),
-            (Operation::Insert(4), "inserted split-skipped"),
-            (Operation::Insert(1), "inserted none"),
-            (Operation::Insert(3), "inserted split-skipped"),
+            (insert(2), "inserted split-skipped"),
+            (insert(4), "inserted split-skipped"),
+            (insert(1), "inserted none"),
+            (insert(3), "inserted split-skipped"),
             (Operation::Delete(4), "no-page none"),
-            (Operation::Insert(5), "no-page none"),
-            (Operation::Insert(4), "present none"),
+            (insert(5), "no-page none"),
+            (insert(4), "present none"),
             (Operation::Delete(6), "absent none"),
-            (Operation::Find(4), "found none"),
+            (Operation::Find(4), "(found 4294967291) none"),
         ],
     );
     expect(&file, (0, 0), 0, &[&[0, 2, 4], &[1, 3]]);
@@ -143,7 +158,7 @@ fn a_change_is_refused_for_want_of_pages() {
 fn an_emptied_chain_merges_the_last_chain() {
     let mut file = formatted([2, 1, 3, 2]);
     fill(&mut file, &[0]);
-    run(&mut file, &[(Operation::Insert(2), "inserted split")]);
+    run(&mut file, &[(insert(2), "inserted split")]);
     fill(&mut file, &[1]);
     run(&mut file, &[(Operation::Delete(1), "deleted merged")]);
     expect(&file, (0, 0), 1, &[&[0, 2], &[]]);
@@ -161,13 +176,13 @@ fn an_emptied_chain_merges_the_last_chain() {
 fn a_merge_is_skipped_for_want_of_pages() {
     let mut file = formatted([2, 1, 3, 2]);
     fill(&mut file, &[0]);
-    run(&mut file, &[(Operation::Insert(2), "inserted split")]);
+    run(&mut file, &[(insert(2), "inserted split")]);
     fill(&mut file, &[1]);
     run(
         &mut file,
         &[
-            (Operation::Insert(3), "inserted split-skipped"),
-            (Operation::Insert(4), "inserted split-skipped"),
+            (insert(3), "inserted split-skipped"),
+            (insert(4), "inserted split-skipped"),
             (Operation::Delete(2), "deleted merge-skipped"),
         ],
     );
@@ -187,7 +202,7 @@ fn a_merge_is_skipped_for_want_of_pages() {
 fn a_merge_moves_next_back() {
     let mut file = formatted([2, 1, 8, 4]);
     for key in [0, 2, 1, 3, 4] {
-        file.insert(key);
+        file.perform(insert(key));
     }
     expect(&file, (1, 1), 4, &[&[0], &[1], &[2], &[3], &[4]]);
     run(&mut file, &[(Operation::Delete(3), "deleted merged")]);
@@ -198,17 +213,39 @@ fn a_merge_moves_next_back() {
 
 #[test]
 fn the_largest_key_is_a_key() {
-    let mut file = formatted([3, 12, 256, 752]);
+    let mut file = formatted([3, 6, 256, 752]);
     let key = 4294967295;
     run(
         &mut file,
         &[
             (Operation::Find(key), "absent none"),
-            (Operation::Insert(key), "inserted none"),
-            (Operation::Insert(key), "present none"),
-            (Operation::Find(key), "found none"),
+            (insert(key), "inserted none"),
+            (insert(key), "present none"),
+            (Operation::Find(key), "(found 0) none"),
             (Operation::Delete(key), "deleted merge-skipped"),
             (Operation::Delete(key), "absent none"),
+        ],
+    );
+}
+
+/// "an insert of a present key keeps the old one"; a delete takes the setting with the key.
+#[test]
+fn a_present_key_keeps_its_setting() {
+    let mut file = formatted([1, 1, 2, 4]);
+    run(
+        &mut file,
+        &[
+            (Operation::Insert(7, 5), "inserted none"),
+            (Operation::Insert(7, 6), "present none"),
+            (Operation::Find(7), "(found 5) none"),
+            (Operation::Insert(9, 4294967295), "inserted split"),
+            (Operation::Insert(9, 5), "present none"),
+            (Operation::Find(9), "(found 4294967295) none"),
+            (Operation::Find(7), "(found 5) none"),
+            (Operation::Delete(7), "deleted none"),
+            (Operation::Find(7), "absent none"),
+            (Operation::Insert(7, 6), "inserted split-skipped"),
+            (Operation::Find(7), "(found 6) none"),
         ],
     );
 }

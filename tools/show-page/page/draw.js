@@ -90,10 +90,16 @@ function drawnRow(place, oldNumbers, numbers) {
   return row;
 }
 
+// The setting at an item's end stands back behind its key; an item without one is drawn as it is.
+function drawnParts(item) {
+  const [, key, setting] = /^(.*\d)(=\d+)$/.exec(item) || [];
+  return setting ? [key, make("span", "setting", setting)] : [item];
+}
+
 // A cell; it is marked where it is new or has other items, and so are its items that are new.
 function drawnCell(cell, old) {
   const items = cell.items.map((item) => {
-    const drawn = make("span", old && old.items.includes(item) ? "item" : "item new", item);
+    const drawn = make("span", old && old.items.includes(item) ? "item" : "item new", ...drawnParts(item));
     drawn.style.setProperty("--party", /\d*$/.exec(item)[0]);
     drawn.classList.toggle("empty", item === "empty" || item === "idle");
     return drawn;

@@ -1,7 +1,7 @@
 //! What is shown, before it is text or a page: sections of rows, rows of cells. The text and the page show the same
 //! names and items, in the same order.
 
-/// A name and what stands under it, such as `page 9` and its keys. A cell without a name only keeps a column's place.
+/// A name and what stands under it, such as `page 9` and its records. A cell without a name only keeps a column's place.
 #[derive(Clone, Debug, Default, PartialEq, Eq, Hash)]
 pub struct Cell {
     pub name: String,

@@ -1,6 +1,6 @@
 //! The forms of `turns`: a line read, and the reply printed.
 
-use bead_index::{Operation, Outcome, Refusal, Sizes};
+use bead_index::{Answer, Operation, Outcome, Refusal, Sizes};
 use std::fmt;
 
 /// A form that is read.
@@ -32,12 +32,11 @@ fn inside(text: &str) -> Option<(&str, &str)> {
 
 /// Five numbers: N b P V Q.
 fn sizes(text: &str) -> Option<Sizes> {
-    let numbers: Vec<u32> = text.split(' ').map(number).collect::<Option<_>>()?;
-    match numbers[..] {
-        [originals, keys, chains, pages, parties] => Some(
+    match numbers(text)?[..] {
+        [originals, records, chains, pages, parties] => Some(
             Sizes::new()
                 .original_chains(originals)
-                .keys_a_page(keys)
+                .records_a_page(records)
                 .most_chains(chains)
                 .overflow_pages(pages)
                 .parties(parties),
@@ -46,16 +45,20 @@ fn sizes(text: &str) -> Option<Sizes> {
     }
 }
 
-/// An operation with its key.
+/// An operation with its key, and an insert with its setting.
 fn operation(text: &str) -> Option<Operation> {
-    let (name, key) = inside(text)?;
-    let make = match name {
-        "find" => Operation::find,
-        "insert" => Operation::insert,
-        "delete" => Operation::delete,
-        _ => return None,
-    };
-    number(key).map(make)
+    let (name, rest) = inside(text)?;
+    match (name, &numbers(rest)?[..]) {
+        ("find", &[key]) => Some(Operation::find(key)),
+        ("insert", &[key, setting]) => Some(Operation::insert(key, setting)),
+        ("delete", &[key]) => Some(Operation::delete(key)),
+        _ => None,
+    }
+}
+
+/// Numbers with single spaces between them.
+fn numbers(text: &str) -> Option<Vec<u32>> {
+    text.split(' ').map(number).collect()
 }
 
 /// One to ten digits, up to 4294967295; leading zeros are read.
@@ -116,7 +119,7 @@ impl fmt::Display for Reply {
     }
 }
 
-/// An outcome as `turns` prints it: two words are joined by a hyphen.
+/// An outcome as `turns` prints it: found with its setting, two words joined by a hyphen.
 fn outcome(outcome: Outcome) -> String {
     let hyphened = |words: String| words.replace(' ', "-");
     match outcome {
@@ -124,11 +127,13 @@ fn outcome(outcome: Outcome) -> String {
             answer,
             restructuring,
             ..
-        } => format!(
-            "(done {} {})",
-            hyphened(answer.to_string()),
-            hyphened(restructuring.to_string())
-        ),
+        } => {
+            let answer = match answer {
+                Answer::Found { setting } => format!("(found {setting})"),
+                other => hyphened(other.to_string()),
+            };
+            format!("(done {answer} {})", hyphened(restructuring.to_string()))
+        }
         other => other.to_string(),
     }
 }
@@ -140,7 +145,7 @@ mod tests {
     #[test]
     fn forms_are_read() {
         let sizes = Sizes::new()
-            .keys_a_page(1)
+            .records_a_page(1)
             .most_chains(2)
             .overflow_pages(0)
             .parties(1);
@@ -148,6 +153,10 @@ mod tests {
         assert_eq!(
             read(b"(begin 3 (delete 4294967295))"),
             Some(Form::Begin(3, Operation::delete(u32::MAX)))
+        );
+        assert_eq!(
+            read(b"(begin 0 (insert 7 5))"),
+            Some(Form::Begin(0, Operation::insert(7, 5)))
         );
         assert_eq!(read(b"(step 007)"), Some(Form::Step(7)));
     }
@@ -171,6 +180,11 @@ mod tests {
             "(begin 0 find 7)",
             "(begin 0 (look 7))",
             "(begin 0 (find 7)) ",
+            "(begin 0 (insert 7))",
+            "(begin 0 (insert 7 5 5))",
+            "(begin 0 (insert 7  5))",
+            "(begin 0 (find 7 5))",
+            "(begin 0 (delete 7 5))",
         ] {
             assert_eq!(read(line.as_bytes()), None, "{line}");
         }

@@ -6,6 +6,9 @@ use bead_index::{FileRef, Lent, Lock, Mode, PartyRecord, Refusal, RootRecord, Si
 /// The words of a page.
 const PAGE_WORDS: usize = 16;
 
+/// The records that a page can hold, each a key and its setting.
+const MOST_RECORDS: usize = 6;
+
 /// The four lent parts; all zero, and of no length, before a format.
 #[derive(Default)]
 pub struct Memory {
@@ -124,9 +127,11 @@ impl<'a> Page<'a> {
         self.words[0]
     }
 
-    pub fn keys(self) -> &'a [u32] {
-        let count = (self.words[1] as usize).min(PAGE_WORDS - 4);
-        &self.words[3..3 + count]
+    /// Its keys, each with its setting.
+    pub fn records(self) -> impl Iterator<Item = (u32, u32)> + 'a {
+        let count = (self.words[1] as usize).min(MOST_RECORDS);
+        let records = self.words[3..].chunks_exact(2).take(count);
+        records.map(|record| (record[0], record[1]))
     }
 
     /// The page that its link names.

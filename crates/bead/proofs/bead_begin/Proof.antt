@@ -43,10 +43,8 @@ use denote.Signature.{plain}
 use denote.Enum.Laws as EL
 use Rattle.model.specs.declared.Root.{Root}
 use Rattle.model.proofs.Root as R
-use Rattle.model.proofs.Root.Laws as R′
 use Rattle.model.specs.declared.Party.{Party}
 use Rattle.model.proofs.Party as P
-use Rattle.model.proofs.Party.Laws as P′
 use Rattle.model.specs.declared.Operation.{Operation}
 use Rattle.model.proofs.Operation as O
 use Rattle.model.proofs.Operation.Laws as O′
@@ -80,7 +78,7 @@ use Rattle.bead.proofs.bead_begin.Statement as stated
 use Rattle.bead.proofs.bead_begin.Code as code
 
 abbrev stayed : Stays (it.ended .signature .params) (it.ended .kept)
-stayed = (stay-none-ref (0 ∷ []) tt (plain (λ _. R.the-row)) yes, (gave-slice (1 ∷ []) tt (plain (λ _. P.the-row)), (stay-none-slice (2 ∷ []) tt (plain (λ _. u32)) yes, (stay-none-slice (3 ∷ []) tt (plain (λ _. u32)) yes, (stay-none (λ _. u32) yes, (stay-none (λ _. u32) yes, (stay-none (λ _. u32) yes, tt)))))))
+stayed = (stay-none-ref (0 ∷ []) tt (plain (λ _. R.the-row)) yes, (gave-slice (1 ∷ []) tt (plain (λ _. P.the-row)), (stay-none-slice (2 ∷ []) tt (plain (λ _. u32)) yes, (stay-none-slice (3 ∷ []) tt (plain (λ _. u32)) yes, (stay-none (λ _. u32) yes, (stay-none (λ _. u32) yes, (stay-none (λ _. u32) yes, (stay-none (λ _. u32) yes, tt))))))))
 
 at-O : (x : Operation) {vs : List Val} → Is O.the-row x vs → Is O.the-row x (O′.lowered x ∷ [])
 at-O x {vs} is = subst (Is O.the-row x) (O′.lowers .val-is x vs is) is
@@ -103,8 +101,8 @@ module _ {M : Type 1} (𝓤 : URA M) (H : Heap 𝓤) (A : Atoms 𝓤) (mem′ : 
   ReplyC = tripleOf 𝓤 H A reply.signature (reply.spec 𝓤 H A mem′ run)
 
 module _ {M : Type 1} (𝓤 : URA M) (H : Heap 𝓤) (A : Atoms 𝓤) (W : Given 𝓤 H A) (mem′ : Memory → SProp 𝓤) (run : Routine → Fun 𝓤)
-    (κ₀ κ₁ κ₂ κ₃ : Lft) (q₀ q₁ q₂ q₃ : Share) (b₀ o₀ b₁ o₁ b₂ o₂ b₃ o₃ : ℕ) (γ₀ γ₁ γ₂ γ₃ : GName) (h : Root) (ps : List Party) (ls : List ℕ) (gs : List ℕ) (i : ℕ) (n : ℕ) (key : ℕ)
-    (room₁ : Room P.the-row (length ps)) (room₂ : Room u32 (length ls)) (room₃ : Room u32 (length gs)) (i-fits : i < 2 ^ 32) (n-fits : n < 2 ^ 32) (key-fits : key < 2 ^ 32) where
+    (κ₀ κ₁ κ₂ κ₃ : Lft) (q₀ q₁ q₂ q₃ : Share) (b₀ o₀ b₁ o₁ b₂ o₂ b₃ o₃ : ℕ) (γ₀ γ₁ γ₂ γ₃ : GName) (h : Root) (ps : List Party) (ls : List ℕ) (gs : List ℕ) (i : ℕ) (n : ℕ) (key : ℕ) (setting : ℕ)
+    (room₁ : Room P.the-row (length ps)) (room₂ : Room u32 (length ls)) (room₃ : Room u32 (length gs)) (i-fits : i < 2 ^ 32) (n-fits : n < 2 ^ 32) (key-fits : key < 2 ^ 32) (setting-fits : setting < 2 ^ 32) where
   abbrev x₀ : RefT (Root)
   x₀ = record { ptr = (b₀, o₀); name = γ₀; now = h }
 
@@ -126,11 +124,11 @@ module _ {M : Type 1} (𝓤 : URA M) (H : Heap 𝓤) (A : Atoms 𝓤) (W : Given
   abbrev s₃ : Val
   s₃ = sliceVal (b₃, o₃) (length gs)
 
-  abbrev a : RefT (Root) × (RefT (List Party) × (RefT (List ℕ) × (RefT (List ℕ) × (ℕ × (ℕ × (ℕ × Unit {0}))))))
-  a = (x₀, (x₁, (x₂, (x₃, (i, (n, (key, tt)))))))
+  abbrev a : RefT (Root) × (RefT (List Party) × (RefT (List ℕ) × (RefT (List ℕ) × (ℕ × (ℕ × (ℕ × (ℕ × Unit {0})))))))
+  a = (x₀, (x₁, (x₂, (x₃, (i, (n, (key, (setting, tt))))))))
 
-  abbrev vals : List Val × (List Val × (List Val × (List Val × (List Val × (List Val × (List Val × Unit {0}))))))
-  vals = (vptr b₀ o₀ ∷ [], (s₁ ∷ [], (s₂ ∷ [], (s₃ ∷ [], (vint w32 i ∷ [], (vint w32 n ∷ [], (vint w32 key ∷ [], tt)))))))
+  abbrev vals : List Val × (List Val × (List Val × (List Val × (List Val × (List Val × (List Val × (List Val × Unit {0})))))))
+  vals = (vptr b₀ o₀ ∷ [], (s₁ ∷ [], (s₂ ∷ [], (s₃ ∷ [], (vint w32 i ∷ [], (vint w32 n ∷ [], (vint w32 key ∷ [], (vint w32 setting ∷ [], tt))))))))
 
   abbrev Post : Val → SProp 𝓤
   Post = walkOf 𝓤 H A it.ended stayed (it.clauses 𝓤 H A mem′ run) .post (((κ₀, (κ₁, (κ₂, (κ₃, tt)))), (q₀, (q₁, (q₂, (q₃, tt)))), tt, a, vals), tt)
@@ -147,15 +145,15 @@ module _ {M : Type 1} (𝓤 : URA M) (H : Heap 𝓤) (A : Atoms 𝓤) (W : Given
       qed W [] ∵ nothing ! $ nothing ! $ owned ! u32 (Is u32) (uint-makes 𝓤 H A W w32) n _ (refl, n-fits) $ fjoin ! $ move ! (1 ∷ 0 ∷ []) $ join ! $ frame ! $ done !
 
   -- the call of `bead::operation_of`: what it is passed, and that it may be entered
-  abbrev named-by-args : ℕ × Unit {0}
-  named-by-args = (n, tt)
+  abbrev named-by-args : ℕ × (ℕ × Unit {0})
+  named-by-args = (n, (setting, tt))
 
   abbrev to-named-by : NamedByC 𝓤 H A mem′ run .Ghost
-  to-named-by = ((tt, tt, tt, named-by-args, (vint w32 n ∷ [], tt)), tt)
+  to-named-by = ((tt, tt, tt, named-by-args, (vint w32 n ∷ [], (vint w32 setting ∷ [], tt))), tt)
 
   goes-named-by : ent 𝓤 (emp 𝓤) (NamedByC 𝓤 H A mem′ run .pre to-named-by)
   goes-named-by =
-      qed W [] ∵ nothing ! $ nothing ! $ owned ! u32 (Is u32) (uint-makes 𝓤 H A W w32) n _ (refl, n-fits) $ fjoin ! $ move ! (1 ∷ 0 ∷ []) $ join ! $ frame ! $ done !
+      qed W [] ∵ nothing ! $ nothing ! $ owned ! u32 (Is u32) (uint-makes 𝓤 H A W w32) setting _ (refl, setting-fits) $ fjoin ! $ owned ! u32 (Is u32) (uint-makes 𝓤 H A W w32) n _ (refl, n-fits) $ fjoin ! $ move ! (1 ∷ 0 ∷ []) $ join ! $ frame ! $ done !
 
   -- the call of `index::begin`: what it is passed, and that it may be entered
   abbrev begin-args : Operation → RefT (Root) × (RefT (List Party) × (RefT (List ℕ) × (RefT (List ℕ) × (ℕ × (Operation × (ℕ × Unit {0}))))))
@@ -180,28 +178,29 @@ module _ {M : Type 1} (𝓤 : URA M) (H : Heap 𝓤) (A : Atoms 𝓤) (W : Given
       qed W [] ∵ nothing ! $ nothing ! $ owned ! B.the-row (Is B.the-row) (EL.makes B.the-type B′.the-plain 𝓤 H A) answer _ ia $ fjoin ! $ move ! (1 ∷ 0 ∷ []) $ join ! $ frame ! $ done !
 
   -- what is had at exit, on every way
-  exits : (ps′ : List Party) (answer : ℕ) → length ps′ ≡ length ps → Is u32 answer (vint w32 answer ∷ []) → called answer (lent h ps′ ls gs) ≡ beginNumbered (lent h ps ls gs) i n key
+  exits : (ps′ : List Party) (answer : ℕ) → length ps′ ≡ length ps → Is u32 answer (vint w32 answer ∷ []) → called answer (lent h ps′ ls gs) ≡ beginNumbered (lent h ps ls gs) i n key setting
       → ent 𝓤 (⋆ 𝓤 H A (‵ (flft κ₀ q₀) ∷ ‵ (flft κ₁ q₁) ∷ ‵ (flft κ₂ q₂) ∷ ‵ (flft κ₃ q₃) ∷ ‵ (ShrRef (named 0) κ₀ R.the-row .own x₀ (vptr b₀ o₀ ∷ [])) ∷ ‵ (finally P.the-row γ₁ ps′) ∷ ‵ (ShrSlice (named 2) κ₂ u32 .own x₂ (s₂ ∷ [])) ∷ ‵ (ShrSlice (named 3) κ₃ u32 .own x₃ (s₃ ∷ [])) ∷ [])) (Post (vint w32 answer))
   exits ps′ answer e₁ is ends =
       qed W (‵ (flft κ₀ q₀) ∷ ‵ (flft κ₁ q₁) ∷ ‵ (flft κ₂ q₂) ∷ ‵ (flft κ₃ q₃) ∷ ‵ (ShrRef (named 0) κ₀ R.the-row .own x₀ (vptr b₀ o₀ ∷ [])) ∷ ‵ (finally P.the-row γ₁ ps′) ∷ ‵ (ShrSlice (named 2) κ₂ u32 .own x₂ (s₂ ∷ [])) ∷ ‵ (ShrSlice (named 3) κ₃ u32 .own x₃ (s₃ ∷ [])) ∷ []) ∵
-      suffices ! _ (ends-at 𝓤 H A it.ended stayed (it.clauses 𝓤 H A mem′ run) W (((κ₀, (κ₁, (κ₂, (κ₃, tt)))), (q₀, (q₁, (q₂, (q₃, tt)))), tt, a, vals), tt) (vint w32 answer) answer (tt, (ps′, (tt, (tt, (tt, (tt, (tt, tt))))))) (tt, (e₁, (tt, (tt, (tt, (tt, (tt, tt)))))))) $ says ! ends $
-      nothing ! $ move ! (4 ∷ 0 ∷ []) $ join ! $ move ! (3 ∷ 0 ∷ []) $ join ! $ move ! (2 ∷ 0 ∷ []) $ join ! $ move ! (1 ∷ 0 ∷ []) $ join ! $ frame ! $ nothing ! $ owned ! u32 (Is u32) (uint-makes 𝓤 H A W w32) key _ (refl, key-fits) $ fjoin ! $ owned ! u32 (Is u32) (uint-makes 𝓤 H A W w32) n _ (refl, n-fits) $ fjoin ! $ owned ! u32 (Is u32) (uint-makes 𝓤 H A W w32) i _ (refl, i-fits) $ fjoin ! $ move ! (4 ∷ 0 ∷ []) $ fjoin ! $ move ! (3 ∷ 0 ∷ []) $ fjoin ! $ move ! (2 ∷ 0 ∷ []) $ fjoin ! $ move ! (1 ∷ 0 ∷ []) $ fjoin ! $ owned ! u32 (Is u32) (uint-makes 𝓤 H A W w32) answer _ is $ move ! (1 ∷ 0 ∷ []) $ done !
+      suffices ! _ (ends-at 𝓤 H A it.ended stayed (it.clauses 𝓤 H A mem′ run) W (((κ₀, (κ₁, (κ₂, (κ₃, tt)))), (q₀, (q₁, (q₂, (q₃, tt)))), tt, a, vals), tt) (vint w32 answer) answer (tt, (ps′, (tt, (tt, (tt, (tt, (tt, (tt, tt)))))))) (tt, (e₁, (tt, (tt, (tt, (tt, (tt, (tt, tt))))))))) $ says ! ends $
+      nothing ! $ move ! (4 ∷ 0 ∷ []) $ join ! $ move ! (3 ∷ 0 ∷ []) $ join ! $ move ! (2 ∷ 0 ∷ []) $ join ! $ move ! (1 ∷ 0 ∷ []) $ join ! $ frame ! $ nothing ! $ owned ! u32 (Is u32) (uint-makes 𝓤 H A W w32) setting _ (refl, setting-fits) $ fjoin ! $ owned ! u32 (Is u32) (uint-makes 𝓤 H A W w32) key _ (refl, key-fits) $ fjoin ! $ owned ! u32 (Is u32) (uint-makes 𝓤 H A W w32) n _ (refl, n-fits) $ fjoin ! $ owned ! u32 (Is u32) (uint-makes 𝓤 H A W w32) i _ (refl, i-fits) $ fjoin ! $ move ! (4 ∷ 0 ∷ []) $ fjoin ! $ move ! (3 ∷ 0 ∷ []) $ fjoin ! $ move ! (2 ∷ 0 ∷ []) $ fjoin ! $ move ! (1 ∷ 0 ∷ []) $ fjoin ! $ owned ! u32 (Is u32) (uint-makes 𝓤 H A W w32) answer _ is $ move ! (1 ∷ 0 ∷ []) $ done !
 
   module _ (C : Calls 𝓤 H) (Λ : Loops 𝓤 H) (fm : FmC 𝓤 H (W .laws) C) (known-test : Triple 𝓤 (C #bead·is-operation) (TestC 𝓤 H A mem′ run)) (known-named-by : Triple 𝓤 (C #bead·operation-of) (NamedByC 𝓤 H A mem′ run)) (known-begin : Triple 𝓤 (C #index·begin) (BeginC 𝓤 H A mem′ run)) (known-reply : Triple 𝓤 (C #bead·begin-number) (ReplyC 𝓤 H A mem′ run)) where
-    walk : ent 𝓤 (onEntry 𝓤 H A it.signature (κ₀, (κ₁, (κ₂, (κ₃, tt)))) (q₀, (q₁, (q₂, (q₃, tt)))) a vals) (WpFn 𝓤 H C Λ code.function (vptr b₀ o₀ ∷ s₁ ∷ s₂ ∷ s₃ ∷ vint w32 i ∷ vint w32 n ∷ vint w32 key ∷ []) Post)
+    walk : ent 𝓤 (onEntry 𝓤 H A it.signature (κ₀, (κ₁, (κ₂, (κ₃, tt)))) (q₀, (q₁, (q₂, (q₃, tt)))) a vals) (WpFn 𝓤 H C Λ code.function (vptr b₀ o₀ ∷ s₁ ∷ s₂ ∷ s₃ ∷ vint w32 i ∷ vint w32 n ∷ vint w32 key ∷ vint w32 setting ∷ []) Post)
     walk =
-        qed W ((‵ (flft κ₀ q₀) ⊛ ‵ (flft κ₁ q₁) ⊛ ‵ (flft κ₂ q₂) ⊛ ‵ (flft κ₃ q₃) ⊛ ‵ ftrue) ∷ ‵ (owns (ShrRef (named 0) κ₀ R.the-row ∷ MutSlice (named 1) κ₁ P.the-row ∷ ShrSlice (named 2) κ₂ u32 ∷ ShrSlice (named 3) κ₃ u32 ∷ u32 ∷ u32 ∷ u32 ∷ []) a vals) ∷ []) ∵
-        enter ! C Λ code.function (vptr b₀ o₀ ∷ s₁ ∷ s₂ ∷ s₃ ∷ vint w32 i ∷ vint w32 n ∷ vint w32 key ∷ []) _ $
-        alloc1 ! (λ l₀. alloc1 ! (λ l₁. alloc1 ! (λ l₂. alloc1 ! (λ l₃. alloc1 ! (λ l₄. alloc1 ! (λ l₅. alloc1 ! (λ l₆. alloc1 ! (λ l₇. alloc1 ! (λ l₈. alloc1 ! (λ l₉. alloc1 ! (λ l₁₀. alloc1 ! (λ l₁₁. alloc1 ! (λ l₁₂. alloc0 ! $ params1 ! $
-        pass1 ! (init ! 22 refl (tt, tt)) $
-        pass1 ! (init ! 20 refl (tt, (tt, (record { fits = room₁ .0 }, tt)))) $
-        pass1 ! (init ! 18 refl (tt, (tt, (record { fits = room₂ .0 }, tt)))) $
-        pass1 ! (init ! 16 refl (tt, (tt, (record { fits = room₃ .0 }, tt)))) $
-        pass1 ! (init ! 14 refl (tt, record { fits = i-fits })) $
-        pass1 ! (init ! 12 refl (tt, record { fits = n-fits })) $
-        pass1 ! (init ! 10 refl (tt, record { fits = key-fits })) $
+        qed W ((‵ (flft κ₀ q₀) ⊛ ‵ (flft κ₁ q₁) ⊛ ‵ (flft κ₂ q₂) ⊛ ‵ (flft κ₃ q₃) ⊛ ‵ ftrue) ∷ ‵ (owns (ShrRef (named 0) κ₀ R.the-row ∷ MutSlice (named 1) κ₁ P.the-row ∷ ShrSlice (named 2) κ₂ u32 ∷ ShrSlice (named 3) κ₃ u32 ∷ u32 ∷ u32 ∷ u32 ∷ u32 ∷ []) a vals) ∷ []) ∵
+        enter ! C Λ code.function (vptr b₀ o₀ ∷ s₁ ∷ s₂ ∷ s₃ ∷ vint w32 i ∷ vint w32 n ∷ vint w32 key ∷ vint w32 setting ∷ []) _ $
+        alloc1 ! (λ l₀. alloc1 ! (λ l₁. alloc1 ! (λ l₂. alloc1 ! (λ l₃. alloc1 ! (λ l₄. alloc1 ! (λ l₅. alloc1 ! (λ l₆. alloc1 ! (λ l₇. alloc1 ! (λ l₈. alloc1 ! (λ l₉. alloc1 ! (λ l₁₀. alloc1 ! (λ l₁₁. alloc1 ! (λ l₁₂. alloc1 ! (λ l₁₃. alloc0 ! $ params1 ! $
+        pass1 ! (init ! 24 refl (tt, tt)) $
+        pass1 ! (init ! 22 refl (tt, (tt, (record { fits = room₁ .0 }, tt)))) $
+        pass1 ! (init ! 20 refl (tt, (tt, (record { fits = room₂ .0 }, tt)))) $
+        pass1 ! (init ! 18 refl (tt, (tt, (record { fits = room₃ .0 }, tt)))) $
+        pass1 ! (init ! 16 refl (tt, record { fits = i-fits })) $
+        pass1 ! (init ! 14 refl (tt, record { fits = n-fits })) $
+        pass1 ! (init ! 12 refl (tt, record { fits = key-fits })) $
+        pass1 ! (init ! 10 refl (tt, record { fits = setting-fits })) $
         pass0 ! $
-        move ! (26 ∷ []) $
+        move ! (28 ∷ []) $
         split ! $
         move ! (1 ∷ []) $
         split ! $
@@ -209,7 +208,7 @@ module _ {M : Type 1} (𝓤 : URA M) (H : Heap 𝓤) (A : Atoms 𝓤) (W : Given
         split ! $
         move ! (1 ∷ []) $
         split ! $
-        move ! (31 ∷ []) $
+        move ! (33 ∷ []) $
         fsplit ! $
         move ! (1 ∷ []) $
         fsplit ! $
@@ -219,7 +218,7 @@ module _ {M : Type 1} (𝓤 : URA M) (H : Heap 𝓤) (A : Atoms 𝓤) (W : Given
         fsplit ! $
         -- `bead::is_operation`
         use0 W (raw (TestC 𝓤 H A mem′ run .pre to-test)) goes-test $
-        calls-at ! fm (TestC 𝓤 H A mem′ run) known-test to-test (and-then ! (load ! (from ! (stop !)) (look ! 23 refl)) (no-more !)) (λ ret.
+        calls-at ! fm (TestC 𝓤 H A mem′ run) known-test to-test (and-then ! (load ! (from ! (stop !)) (look ! 25 refl)) (no-more !)) (λ ret.
         use1 W (later (some (λ (t : Bool). (‵ ftrue ⊛ ‵ (bool .own t (ret ∷ []))) ⊛ raw (ensured 𝓤 H A test.ended (test.clauses 𝓤 H A mem′ run) tt test-args tt t)))) (id⊢ 𝓤 _) $ await ! tt $ pick ! (λ t.
         split ! $
         move ! (1 ∷ []) $
@@ -232,28 +231,28 @@ module _ {M : Type 1} (𝓤 : URA M) (H : Heap 𝓤) (A : Atoms 𝓤) (W : Given
         move ! (1 ∷ []) $
         peeks ! bool (Is bool) (shows 𝓤 H A bool) t (ret ∷ []) (λ it′.
         land ! (from ! (stop !)) (init ! 19 refl (bool-lawful 𝓤 H A W .typed t _ it′ .0)) $
-        rewrite ! 19 (λ (u : Val). ‵ (fat fullShare tyBool l₉ 0 u)) (ap only (bool-tells t _ it′)) refl $
+        rewrite ! 19 (λ (u : Val). ‵ (fat fullShare tyBool l₁₀ 0 u)) (ap only (bool-tells t _ it′)) refl $
         drop ! $
         first ! $ branches ! (load ! (from ! (stop !)) (look ! 18 refl))
         (λ may.
-        assigns ! (addr ! (from ! (fld ! refl (hop ! (look-in ! 32 (sub ! 0 refl (whole !))) (stop !))))) (from ! (stop !)) (init ! 16 refl (tt, tt)) $
-        assigns ! (agg ! (and-then ! (load ! (from ! (stop !)) (look ! 16 refl)) (and-then ! (load ! (from ! (fld ! refl (stop !))) (look-in ! 32 (sub ! 1 refl (whole !)))) (no-more !)))) (from ! (stop !)) (init ! 14 refl (tt, (tt, (record { fits = room₁ .0 }, tt)))) $
+        assigns ! (addr ! (from ! (fld ! refl (hop ! (look-in ! 34 (sub ! 0 refl (whole !))) (stop !))))) (from ! (stop !)) (init ! 16 refl (tt, tt)) $
+        assigns ! (agg ! (and-then ! (load ! (from ! (stop !)) (look ! 16 refl)) (and-then ! (load ! (from ! (fld ! refl (stop !))) (look-in ! 34 (sub ! 1 refl (whole !)))) (no-more !)))) (from ! (stop !)) (init ! 14 refl (tt, (tt, (record { fits = room₁ .0 }, tt)))) $
         -- `bead::operation_of`
         use0 W (raw (NamedByC 𝓤 H A mem′ run .pre to-named-by)) goes-named-by $
-        calls-at ! fm (NamedByC 𝓤 H A mem′ run) known-named-by to-named-by (and-then ! (load ! (from ! (stop !)) (look ! 25 refl)) (no-more !)) (λ ret′.
+        calls-at ! fm (NamedByC 𝓤 H A mem′ run) known-named-by to-named-by (and-then ! (load ! (from ! (stop !)) (look ! 27 refl)) (and-then ! (load ! (from ! (stop !)) (look ! 23 refl)) (no-more !))) (λ ret′.
         use1 W (later (some (λ (o : Operation). (‵ ftrue ⊛ ‵ (O.the-row .own o (ret′ ∷ []))) ⊛ raw (ensured 𝓤 H A named-by.ended (named-by.clauses 𝓤 H A mem′ run) tt named-by-args tt o)))) (id⊢ 𝓤 _) $ await ! tt $ pick ! (λ o.
         split ! $
         move ! (1 ∷ []) $
-        use1 W (some (λ (us : Unit {0} × Unit {0}). ‵ (lasts named-by.ended tt named-by-args us) ⊛ raw (fact 𝓤 (o ≡ operationOf n)))) (id⊢ 𝓤 _) $ pick ! (λ us.
+        use1 W (some (λ (us : Unit {0} × (Unit {0} × Unit {0})). ‵ (lasts named-by.ended tt named-by-args us) ⊛ raw (fact 𝓤 (o ≡ operationOf n setting)))) (id⊢ 𝓤 _) $ pick ! (λ us.
         split ! $
         move ! (1 ∷ []) $
-        heard ! (o ≡ operationOf n) (λ is-named.
+        heard ! (o ≡ operationOf n setting) (λ is-named.
         move ! (1 ∷ []) $
         split ! $
         move ! (1 ∷ []) $
         peeks ! O.the-row (Is O.the-row) (shows 𝓤 H A O.the-row) o (ret′ ∷ []) (λ io.
         land ! (from ! (stop !)) (init ! 15 refl (EL.lawful O.the-type O′.the-laws 𝓤 H A W tt .typed o _ io .0)) $
-        rewrite ! 15 (λ (u : Val). ‵ (fat fullShare O′.mir l₁₂ 0 u)) (ap only ((O′.lowers .val-is) o _ io)) refl $
+        rewrite ! 15 (λ (u : Val). ‵ (fat fullShare O′.mir l₁₃ 0 u)) (ap only ((O′.lowers .val-is) o _ io)) refl $
         drop ! $
         -- `index::begin`
         move ! (8 ∷ []) $
@@ -279,7 +278,7 @@ module _ {M : Type 1} (𝓤 : URA M) (H : Heap 𝓤) (A : Atoms 𝓤) (W : Given
         join ! $
         move ! (1 ∷ 0 ∷ []) $
         use2 W (raw (BeginC 𝓤 H A mem′ run .pre (to-begin o))) (goes-begin o (subst (Is O.the-row o) (O′.lowers .val-is o _ io) io)) $
-        calls-at ! fm (BeginC 𝓤 H A mem′ run) known-begin (to-begin o) (and-then ! (load ! (from ! (stop !)) (look ! 32 refl)) (and-then ! (load ! (from ! (stop !)) (look ! 12 refl)) (and-then ! (load ! (from ! (stop !)) (look ! 28 refl)) (and-then ! (load ! (from ! (stop !)) (look ! 26 refl)) (and-then ! (load ! (from ! (stop !)) (look ! 24 refl)) (and-then ! (load ! (from ! (stop !)) (look ! 10 refl)) (and-then ! (load ! (from ! (stop !)) (look ! 20 refl)) (no-more !)))))))) (λ ret″.
+        calls-at ! fm (BeginC 𝓤 H A mem′ run) known-begin (to-begin o) (and-then ! (load ! (from ! (stop !)) (look ! 34 refl)) (and-then ! (load ! (from ! (stop !)) (look ! 12 refl)) (and-then ! (load ! (from ! (stop !)) (look ! 30 refl)) (and-then ! (load ! (from ! (stop !)) (look ! 28 refl)) (and-then ! (load ! (from ! (stop !)) (look ! 26 refl)) (and-then ! (load ! (from ! (stop !)) (look ! 10 refl)) (and-then ! (load ! (from ! (stop !)) (look ! 22 refl)) (no-more !)))))))) (λ ret″.
         use1 W (later (some (λ (x : BeginAnswer). ((‵ (flft κ₀ q₀) ⊛ ‵ (flft κ₁ q₁) ⊛ ‵ (flft κ₂ q₂) ⊛ ‵ (flft κ₃ q₃) ⊛ ‵ ftrue) ⊛ ‵ (B.the-row .own x (ret″ ∷ []))) ⊛ raw (ensured 𝓤 H A begin.ended (begin.clauses 𝓤 H A mem′ run) (κ₀, (κ₁, (κ₂, (κ₃, tt)))) (begin-args o) tt x)))) (id⊢ 𝓤 _) $ await ! tt $ pick ! (λ x.
         split ! $
         move ! (1 ∷ []) $
@@ -305,7 +304,7 @@ module _ {M : Type 1} (𝓤 : URA M) (H : Heap 𝓤) (A : Atoms 𝓤) (W : Given
         move ! (5 ∷ []) $
         peeks ! B.the-row (Is B.the-row) (shows 𝓤 H A B.the-row) x (ret″ ∷ []) (λ ix.
         land ! (from ! (stop !)) (init ! 26 refl (EL.lawful B.the-type B′.the-laws 𝓤 H A W tt .typed x _ ix .0)) $
-        rewrite ! 26 (λ (u : Val). ‵ (fat fullShare B′.mir l₈ 0 u)) (ap only ((B′.lowers .val-is) x _ ix)) refl $
+        rewrite ! 26 (λ (u : Val). ‵ (fat fullShare B′.mir l₉ 0 u)) (ap only ((B′.lowers .val-is) x _ ix)) refl $
         drop ! $
         -- `bead::begin_number`
         use0 W (raw (ReplyC 𝓤 H A mem′ run .pre (to-reply x))) (goes-reply x (subst (Is B.the-row x) (B′.lowers .val-is x _ ix) ix)) $
@@ -321,10 +320,10 @@ module _ {M : Type 1} (𝓤 : URA M) (H : Heap 𝓤) (A : Atoms 𝓤) (W : Given
         split ! $
         move ! (1 ∷ []) $
         peeks ! u32 (Is u32) (shows 𝓤 H A u32) y (ret‴ ∷ []) (λ iy.
-        land ! (from ! (stop !)) (init ! 44 refl (uint-lawful 𝓤 H A W w32 .typed y _ iy .0)) $
-        rewrite ! 44 (λ (u : Val). ‵ (fat fullShare (tyInt w32) l₀ 0 u)) (ap only ((uint-tells w32) y _ iy)) refl $
+        land ! (from ! (stop !)) (init ! 46 refl (uint-lawful 𝓤 H A W w32 .typed y _ iy .0)) $
+        rewrite ! 46 (λ (u : Val). ‵ (fat fullShare (tyInt w32) l₀ 0 u)) (ap only ((uint-tells w32) y _ iy)) refl $
         drop ! $
-        returns-within ! Post refl (look ! 43 refl) $
+        returns-within ! Post refl (look ! 45 refl) $
         forget ! 19 refl $
         forget ! 21 refl $
         forget ! 23 refl $
@@ -338,6 +337,9 @@ module _ {M : Type 1} (𝓤 : URA M) (H : Heap 𝓤) (A : Atoms 𝓤) (W : Given
         forget ! 39 refl $
         forget ! 41 refl $
         forget ! 43 refl $
+        forget ! 45 refl $
+        move ! (45 ∷ 46 ∷ []) $
+        free1 ! $
         move ! (43 ∷ 44 ∷ []) $
         free1 ! $
         move ! (41 ∷ 42 ∷ []) $
@@ -366,16 +368,16 @@ module _ {M : Type 1} (𝓤 : URA M) (H : Heap 𝓤) (A : Atoms 𝓤) (W : Given
         free1 ! $
         free0 ! $
         keep ! (6 ∷ 5 ∷ 4 ∷ 2 ∷ 12 ∷ 7 ∷ 11 ∷ 10 ∷ []) $
-        by ! (exits (zs .1 .0) y e₁ (subst (Is u32 y) (uint-tells w32 y _ iy) iy) (begun-by-number (lent h ps ls gs) i n key t told may o is-named x y _ is-number said)))))))))))))))))))
+        by ! (exits (zs .1 .0) y e₁ (subst (Is u32 y) (uint-tells w32 y _ iy) iy) (begun-by-number (lent h ps ls gs) i n key setting t told may o is-named x y _ is-number said)))))))))))))))))))
         (λ refused.
-        assigns ! (of-opd ! (lit ! tt)) (from ! (stop !)) (init ! 36 refl (tt, record { fits = lit< tt })) $
+        assigns ! (of-opd ! (lit ! tt)) (from ! (stop !)) (init ! 38 refl (tt, record { fits = lit< tt })) $
         -- the row is given up as it is
         move ! (5 ∷ []) $
         fsplit ! $
         drop ! $
         fsplit ! $
         use1 W (‵ (fres γ₁ (codedHoleys P.the-row .code (heres P.the-row ps)))) (W .names .obs-res γ₁ (codedHoleys P.the-row .code (heres P.the-row ps))) $ use1 W (‵ (finally P.the-row γ₁ ps)) (res-finally 𝓤 H A W (named 1) κ₁ P.the-row γ₁ ps) $
-        returns-within ! Post refl (look ! 37 refl) $
+        returns-within ! Post refl (look ! 39 refl) $
         forget ! 19 refl $
         forget ! 23 refl $
         forget ! 25 refl $
@@ -385,6 +387,9 @@ module _ {M : Type 1} (𝓤 : URA M) (H : Heap 𝓤) (A : Atoms 𝓤) (W : Given
         forget ! 33 refl $
         forget ! 35 refl $
         forget ! 37 refl $
+        forget ! 39 refl $
+        move ! (39 ∷ 40 ∷ []) $
+        free1 ! $
         move ! (37 ∷ 38 ∷ []) $
         free1 ! $
         move ! (35 ∷ 36 ∷ []) $
@@ -413,18 +418,18 @@ module _ {M : Type 1} (𝓤 : URA M) (H : Heap 𝓤) (A : Atoms 𝓤) (W : Given
         free1 ! $
         free0 ! $
         keep ! (12 ∷ 11 ∷ 10 ∷ 8 ∷ 7 ∷ 0 ∷ 6 ∷ 4 ∷ []) $
-        by ! (exits ps 255 refl (refl, lit< tt) (no-operation (lent h ps ls gs) i n key t told refused)))))))))))))))))))))
+        by ! (exits ps 255 refl (refl, lit< tt) (no-operation (lent h ps ls gs) i n key setting t told refused))))))))))))))))))))))
 
 module _ {M : Type 1} (𝓤 : URA M) (H : Heap 𝓤) (A : Atoms 𝓤) (W : Given 𝓤 H A) (mem′ : Memory → SProp 𝓤) (run : Routine → Fun 𝓤) where
   walks : (C : Calls 𝓤 H) (Λ : Loops 𝓤 H) → FmC 𝓤 H (W .laws) C → Triple 𝓤 (C #bead·is-operation) (TestC 𝓤 H A mem′ run) → Triple 𝓤 (C #bead·operation-of) (NamedByC 𝓤 H A mem′ run) → Triple 𝓤 (C #index·begin) (BeginC 𝓤 H A mem′ run) → Triple 𝓤 (C #bead·begin-number) (ReplyC 𝓤 H A mem′ run)
       → Walks 𝓤 H A it.ended stayed (WpFn 𝓤 H C Λ code.function) (it.clauses 𝓤 H A mem′ run)
   walks C Λ fm known-test known-named-by known-begin known-reply = walked 𝓤 H A it.ended stayed (it.clauses 𝓤 H A mem′ run) (WpFn 𝓤 H C Λ code.function)
-      (λ κs. (ptr-vals, (slice-vals, (slice-vals, (slice-vals, ((uint-vals w32), ((uint-vals w32), ((uint-vals w32), tt))))))))
-      (λ κs. (shr-tells (named 0) (κs .0) R.the-row, (mut-slice-tells (named 1) (κs .1 .0) P.the-row, (shr-slice-tells (named 2) (κs .1 .1 .0) u32, (shr-slice-tells (named 3) (κs .1 .1 .1 .0) u32, ((uint-tells w32), ((uint-tells w32), ((uint-tells w32), tt))))))))
-      (λ κs qs bounds a _ are. via 𝓤 _ (fst∗ 𝓤 _ (emp 𝓤)) (walk 𝓤 H A W mem′ run (κs .0) (κs .1 .0) (κs .1 .1 .0) (κs .1 .1 .1 .0) (qs .0) (qs .1 .0) (qs .1 .1 .0) (qs .1 .1 .1 .0) (a .0 .ptr .0) (a .0 .ptr .1) (a .1 .0 .ptr .0) (a .1 .0 .ptr .1) (a .1 .1 .0 .ptr .0) (a .1 .1 .0 .ptr .1) (a .1 .1 .1 .0 .ptr .0) (a .1 .1 .1 .0 .ptr .1) (a .0 .name) (a .1 .0 .name) (a .1 .1 .0 .name) (a .1 .1 .1 .0 .name) (a .0 .now) (a .1 .0 .now) (a .1 .1 .0 .now) (a .1 .1 .1 .0 .now) (a .1 .1 .1 .1 .0) (a .1 .1 .1 .1 .1 .0) (a .1 .1 .1 .1 .1 .1 .0) (are .1 .0 .0 .1) (are .1 .1 .0 .0 .1) (are .1 .1 .1 .0 .0 .1) (are .1 .1 .1 .1 .0 .1) (are .1 .1 .1 .1 .1 .0 .1) (are .1 .1 .1 .1 .1 .1 .0 .1) C Λ fm known-test known-named-by known-begin known-reply))
+      (λ κs. (ptr-vals, (slice-vals, (slice-vals, (slice-vals, ((uint-vals w32), ((uint-vals w32), ((uint-vals w32), ((uint-vals w32), tt)))))))))
+      (λ κs. (shr-tells (named 0) (κs .0) R.the-row, (mut-slice-tells (named 1) (κs .1 .0) P.the-row, (shr-slice-tells (named 2) (κs .1 .1 .0) u32, (shr-slice-tells (named 3) (κs .1 .1 .1 .0) u32, ((uint-tells w32), ((uint-tells w32), ((uint-tells w32), ((uint-tells w32), tt)))))))))
+      (λ κs qs bounds a _ are. via 𝓤 _ (fst∗ 𝓤 _ (emp 𝓤)) (walk 𝓤 H A W mem′ run (κs .0) (κs .1 .0) (κs .1 .1 .0) (κs .1 .1 .1 .0) (qs .0) (qs .1 .0) (qs .1 .1 .0) (qs .1 .1 .1 .0) (a .0 .ptr .0) (a .0 .ptr .1) (a .1 .0 .ptr .0) (a .1 .0 .ptr .1) (a .1 .1 .0 .ptr .0) (a .1 .1 .0 .ptr .1) (a .1 .1 .1 .0 .ptr .0) (a .1 .1 .1 .0 .ptr .1) (a .0 .name) (a .1 .0 .name) (a .1 .1 .0 .name) (a .1 .1 .1 .0 .name) (a .0 .now) (a .1 .0 .now) (a .1 .1 .0 .now) (a .1 .1 .1 .0 .now) (a .1 .1 .1 .1 .0) (a .1 .1 .1 .1 .1 .0) (a .1 .1 .1 .1 .1 .1 .0) (a .1 .1 .1 .1 .1 .1 .1 .0) (are .1 .0 .0 .1) (are .1 .1 .0 .0 .1) (are .1 .1 .1 .0 .0 .1) (are .1 .1 .1 .1 .0 .1) (are .1 .1 .1 .1 .1 .0 .1) (are .1 .1 .1 .1 .1 .1 .0 .1) (are .1 .1 .1 .1 .1 .1 .1 .0 .1) C Λ fm known-test known-named-by known-begin known-reply))
 
   goes : AllGo 𝓤 H A W 4 (it.signature .params) (it.ended .kept) stayed
-  goes = (goes-none-ref 𝓤 H A W 4 (0 ∷ []) tt (plain (λ _. R.the-row)) yes, (goes-gave-slice 𝓤 H A W 4 1 tt (plain (λ _. P.the-row)), (goes-none-slice 𝓤 H A W 4 (2 ∷ []) tt (plain (λ _. u32)) yes, (goes-none-slice 𝓤 H A W 4 (3 ∷ []) tt (plain (λ _. u32)) yes, (goes-none 𝓤 H A W 4 (λ _. u32) yes (λ κs x f. refl), (goes-none 𝓤 H A W 4 (λ _. u32) yes (λ κs x f. refl), (goes-none 𝓤 H A W 4 (λ _. u32) yes (λ κs x f. refl), tt)))))))
+  goes = (goes-none-ref 𝓤 H A W 4 (0 ∷ []) tt (plain (λ _. R.the-row)) yes, (goes-gave-slice 𝓤 H A W 4 1 tt (plain (λ _. P.the-row)), (goes-none-slice 𝓤 H A W 4 (2 ∷ []) tt (plain (λ _. u32)) yes, (goes-none-slice 𝓤 H A W 4 (3 ∷ []) tt (plain (λ _. u32)) yes, (goes-none 𝓤 H A W 4 (λ _. u32) yes (λ κs x f. refl), (goes-none 𝓤 H A W 4 (λ _. u32) yes (λ κs x f. refl), (goes-none 𝓤 H A W 4 (λ _. u32) yes (λ κs x f. refl), (goes-none 𝓤 H A W 4 (λ _. u32) yes (λ κs x f. refl), tt))))))))
 
 meets : {M : Type 1} (𝓤 : URA M) (H : Heap 𝓤) (A : Atoms 𝓤) → Given 𝓤 H A → (mem′ : Memory → SProp 𝓤) (run : Routine → Fun 𝓤) (𝓣 : Tables 𝓤 H)
     → Triple 𝓤 (𝓣 .C #bead·is-operation) (TestC 𝓤 H A mem′ run) → Triple 𝓤 (𝓣 .C #bead·operation-of) (NamedByC 𝓤 H A mem′ run) → Triple 𝓤 (𝓣 .C #index·begin) (BeginC 𝓤 H A mem′ run) → Triple 𝓤 (𝓣 .C #bead·begin-number) (ReplyC 𝓤 H A mem′ run) → Meets 𝓤 H A it.signature (WpFn 𝓤 H (𝓣 .C) (𝓣 .Λ) code.function) (it.spec 𝓤 H A mem′ run)

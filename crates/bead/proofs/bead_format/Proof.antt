@@ -41,10 +41,8 @@ use denote.Struct.Laws as LL
 use denote.Enum.Laws as EL
 use Rattle.model.specs.declared.Root.{Root}
 use Rattle.model.proofs.Root as R
-use Rattle.model.proofs.Root.Laws as R′
 use Rattle.model.specs.declared.Party.{Party}
 use Rattle.model.proofs.Party as P
-use Rattle.model.proofs.Party.Laws as P′
 use Rattle.model.specs.declared.FileSizes.{FileSizes}
 use Rattle.model.proofs.FileSizes as Z
 use Rattle.model.proofs.FileSizes.Laws as Z′

@@ -19,6 +19,9 @@ answer-number-requires c κs = search needs
 restructuring-number-requires : tie.Need-restructuring-number-requires
 restructuring-number-requires c κs = search needs
 
+setting-found-requires : tie.Need-setting-found-requires
+setting-found-requires c κs = search needs
+
 enum-known-answer-2 : tie.Need-enum-known-answer-2
 enum-known-answer-2 c = search needs
 
@@ -32,7 +35,8 @@ returns-2 c = rw (c .enum-told2 .given .1)
 
 returns-3 : tie.Need-returns-3
 unfolding replyOf
-returns-3 c = rw (c .before .before .before .answer .given .1, c .before .answer-number .ensures, c .restructuring-number .ensures)
+returns-3 c =
+    rw (c .before .before .before .before .answer .given .1, c .before .before .answer-number .ensures, c .before .restructuring-number .ensures, c .setting-found .ensures)
 
 returns-4 : tie.Need-returns-4
 unfolding replyOf
@@ -47,6 +51,7 @@ reply-of-spec =
     enum-known-answer
     answer-number-requires
     restructuring-number-requires
+    setting-found-requires
     enum-known-answer-2
     returns
     returns-2

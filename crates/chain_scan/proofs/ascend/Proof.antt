@@ -55,7 +55,7 @@ returns c =
 add-low : tie.Need-add-low Inv-loop μ-loop
 add-low c =
     let turn = c .before .before in
-    let small : Fits w32 (getD (turn .before .before .args .t1) (3 + turn .loop .i * 1) 0) = search needs in
+    let small : Fits w32 (getD (turn .before .before .args .t1) (3 + turn .loop .i * 2) 0) = search needs in
     omega arith
 
 add-i : tie.Need-add-i Inv-loop μ-loop

@@ -3,6 +3,7 @@ use mathlib.Core.Path.{_≡_, sym, ap, _∙_}
 use Prim.Native.Nat.{_+_, _-_, _*_, _≤_}
 use native.Mathlib.Omega.{arith}
 use lib.ListN.{length}
+use lib.Dec.{ltb}
 use Rattle.model.specs.Sizes.{pageWords, mostRecords}
 use Rattle.model.specs.Entries.{hasKey}
 use Rattle.model.specs.Pages.{pageOf, countOf, linkOf, entriesOf}
@@ -77,13 +78,16 @@ add-count c =
     let few = next-page (a .pages .now) (loaded .before .loop-test .taken) (l .inv .0) .page .few in
     omega (arith, few, ap countOf (loaded .load .ensures), c .count-of .ensures, l .inv .1, loaded .before .loop-test .taken, start .pre .1)
 
-has-key-requires : tie.Need-has-key-requires Inv-loop μ-loop
-has-key-requires c κs =
+place-of-requires : tie.Need-place-of-requires Inv-loop μ-loop
+place-of-requires c κs =
     let loaded = c .before .before .before .before .before in
     let l = loaded .before .before .loop in
     let a = loaded .before .before .before .before .args in
     let few = next-page (a .pages .now) (loaded .before .loop-test .taken) (l .inv .0) .page .few in
     omega (arith, few, ap countOf (loaded .load .ensures))
+
+cast-found : tie.Need-cast-found Inv-loop μ-loop
+cast-found c = search needs
 
 link-of-requires : tie.Need-link-of-requires Inv-loop μ-loop
 link-of-requires c κs = search needs
@@ -107,13 +111,13 @@ loop-again c =
     let few : countOf w ≤ mostRecords = omega (arith, next .page .few, ap countOf page) in
     let sixteen : length w ≡ pageWords = search needs in
     let counted : c .before .before .count-of .result ≡ countOf w = c .before .before .count-of .ensures in
-    let asked : c .before .has-key .result ≡ hasKey (a .key) (entriesOf w) = c .before .has-key .ensures in
+    let asked : hasKey (a .key) (entriesOf w) ≡ ltb (c .before .place-of .result) mostRecords = c .before .place-of .ensures .has-key in
     let link : c .link-of .result ≡ linkOf w = c .link-of .ensures in
     let rises = sym (c .before .before .before .before .before .before .ascend .ensures) ∙ c .before .before .before .before .next .given .1 in
     let passed = page-passed (a .key) (a .n) ps (l .floor) (l .count) (l .found) (l .left) (l .l) more page (c .before .before .before .before .next .given .0 .0) sixteen few rises in (
       rw (link, page) (next .rest),
       omega (arith, counted, few, more, l .inv .1),
-      rw (counted, asked, link) (l .inv .2 ∙ passed),
+      rw (counted, ← asked, link) (l .inv .2 ∙ passed),
     )
 
 returns-2 : tie.Need-returns-2 Inv-loop μ-loop
@@ -138,7 +142,8 @@ examine-spec =
     enum-known-next
     count-of-requires
     add-count
-    has-key-requires
+    place-of-requires
+    cast-found
     link-of-requires
     sub-left
     loop-less

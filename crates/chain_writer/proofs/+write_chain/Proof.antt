@@ -1,4 +1,4 @@
--- `chain_writer::write_chain` meets its contract. The measure: the keys still to be written, and one for the rest.
+-- `chain_writer::write_chain` meets its contract. The measure: the records still to be written, and one for the rest.
 use mathlib.Core.Path.{_≡_, refl, ap, _∙_}
 use mathlib.Core.Logic.{⊎-elim}
 use Prim.Native.Nat.{ℕ, suc, _+_, _<_}
@@ -20,7 +20,7 @@ use Rattle.pages.proofs.store.Reads as store-reads
 use Rattle.chain_writer.proofs.+write_chain.{statement}
 use Rattle.chain_writer.proofs.+write_chain.Tie.{close}
 
--- The keys of the rest, and one.
+-- The records of the rest, and one.
 abbrev restSize : Rest → ℕ
 restSize Nothing = 0
 restSize (Chain d) = suc (d .left)

@@ -4,7 +4,7 @@ use Rattle.model.specs.declared.Root.{Root}
 use Rattle.model.specs.Steps.Dispatch.{stepTable, stepOf}
 use Rattle.records.specs.Words.{rootIn, partyIn, seen, left}
 use Rattle.dispatch.proofs.Numbering.{named, past, exactly}
-use Rattle.dispatch.proofs.Lending.{at-hand-can-lock, at-hand-for}
+use Rattle.dispatch.proofs.Lending.{at-hand-for}
 use borrow.Author.Needs.{needs}
 use Rattle.dispatch.proofs.change_step.Statement.{statement}
 use Rattle.dispatch.proofs.change_step.Tie as tie

@@ -1,10 +1,9 @@
 -- `dispatch::locate_step` meets its contract: one number a step, the last what is left of the range.
-use mathlib.Core.Path.{_≡_, _∙_, subst}
-use Rattle.model.specs.declared.Root.{Root}
+use mathlib.Core.Path.{_∙_}
 use Rattle.model.specs.Steps.Dispatch.{stepTable, stepOf}
-use Rattle.records.specs.Words.{rootIn, partyIn, seen, left}
+use Rattle.records.specs.Words.{partyIn, seen}
 use Rattle.dispatch.proofs.Numbering.{named, past, exactly}
-use Rattle.dispatch.proofs.Lending.{at-hand-can-lock, at-hand-for}
+use Rattle.dispatch.proofs.Lending.{at-hand-can-lock}
 use borrow.Author.Needs.{needs}
 use Rattle.dispatch.proofs.locate_step.Statement.{statement}
 use Rattle.dispatch.proofs.locate_step.Tie as tie

@@ -1,6 +1,6 @@
 -- `endings::done` meets its contract.
 use mathlib.Core.Path.{refl, _∙_}
-use Rattle.model.specs.Pages.{zeroPage, filledPage}
+use Rattle.model.specs.Pages.{zeroPage, filledPage, wordsOf}
 use Rattle.records.proofs.Words.{party-is, all-zero}
 use borrow.Author.Needs.{needs}
 use Rattle.endings.proofs.done.Statement.{statement}
@@ -22,7 +22,7 @@ same-length-2 : tie.Need-same-length-2
 same-length-2 c = search needs
 
 returns : tie.Need-returns
-unfolding zeroPage filledPage
+unfolding zeroPage filledPage wordsOf
 returns c = λ p ls.
     let stored = c .before .before .before .before .before .before in
     let start = stored .before .before .before .before .before in

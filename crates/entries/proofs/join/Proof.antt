@@ -1,18 +1,26 @@
 -- `entries::join` meets its contract.
-use mathlib.Core.Path.{_≡_, sym, _∙_}
-use Prim.Native.Nat.{ℕ, _+_, _-_, _<_}
+use mathlib.Core.Path.{_≡_, refl, sym, ap, _∙_, subst}
+use Prim.Native.Nat.{ℕ, _+_, _-_, _*_, _/_, _≤_, _<_}
 use native.Mathlib.Omega.{arith}
 use mathlib.Core.Bool.{true, false}
-use lib.ListN.{length, drop, length-set}
+use mathlib.Core.List.{List}
+use lib.ListN.{length, set, drop}
+use Rattle.model.specs.declared.Entry.{Entry}
+use Rattle.model.specs.Sizes.{recordWords}
+use Rattle.model.specs.Pages.{recordsIn}
+use Rattle.model.specs.Filling.{recordAt}
+use Rattle.model.proofs.Laws.RecordWords.{length-records}
 use Rattle.entries.specs.declared.Side.the-variants.{First, Second, Both}
 use Rattle.entries.specs.Sides.{sideOf}
-use Rattle.entries.proofs.Joining.{Joining, joining-first, joining-second, joining-stops, all-joined}
+use Rattle.entries.proofs.Joining.{Joining, none-joined, joining-first, joining-second, joining-stops, all-joined}
 use borrow.Author.Needs.{needs}
 use Rattle.entries.proofs.join.Statement.{statement}
 use Rattle.entries.proofs.join.Tie as tie
 
 abbrev Inv-loop : tie.InvT-loop
-Inv-loop a b out₀ total i₀ j₀ out i j = (length out ≡ length out₀) × (total ≡ length a + length b) × Joining a b out i j
+Inv-loop a b out₀ total i₀ j₀ out i j =
+    (length out ≡ length out₀) × (total ≡ length a / recordWords + length b / recordWords) × (length a + length b ≤ length out) × (i + j ≤ total)
+    × Joining (recordsIn a) (recordsIn b) (recordsIn out) i j
 
 abbrev μ-loop : tie.MeasureT-loop
 μ-loop a b out₀ total i₀ j₀ out i j = total - (i + j)
@@ -21,7 +29,12 @@ add-total : tie.Need-add-total Inv-loop μ-loop
 add-total c = search needs
 
 loop-holds : tie.Need-loop-holds Inv-loop μ-loop
-loop-holds c = search needs
+loop-holds c =
+    let start = c .before .before .before in
+    let a = start .args in
+    let room : length (recordsIn (a .a .now)) + length (recordsIn (a .b .now)) ≤ length (recordsIn (a .out .now))
+    = omega (arith, length-records (a .a .now), length-records (a .b .now), length-records (a .out .now), start .pre .2) in
+    (refl, refl, start .pre .2, omega arith, none-joined (recordsIn (a .a .now)) (recordsIn (a .b .now)) (recordsIn (a .out .now)) (start .pre .0) (start .pre .1) room)
 
 add-loop : tie.Need-add-loop Inv-loop μ-loop
 add-loop c = search needs
@@ -32,25 +45,26 @@ next-side-requires c κs = search needs
 enum-told : tie.Need-enum-told Inv-loop μ-loop
 enum-told c = search needs
 
-mul-out : tie.Need-mul-out Inv-loop μ-loop
-mul-out c = search needs
+add-set-record : tie.Need-add-set-record Inv-loop μ-loop
+add-set-record c = search needs
 
-shared-slice-read-out : tie.Need-shared-slice-read-out Inv-loop μ-loop
-shared-slice-read-out c =
-    let l = c .before .before .before .before .before .loop in
-    let a = c .before .before .before .before .before .before .before .before .before .args in
-    let side : sideOf (drop (l .i) (a .a .now)) (drop (l .j) (a .b .now)) ≡ First = sym (c .before .before .before .next-side .ensures) ∙ c .before .enum-told .given .1 in
-    let next = joining-first (a .a .now) (a .b .now) (l .out) (l .i) (l .j) (l .inv .2) side in
-    next .0
+record-at-requires : tie.Need-record-at-requires Inv-loop μ-loop
+record-at-requires c κs =
+    let told = c .before in
+    let l = told .before .before .before .before .loop in
+    let a = told .before .before .before .before .before .before .before .before .args in
+    let side = sym (told .before .before .next-side .ensures) ∙ told .enum-told .given .1 in
+    let next = joining-first (recordsIn (a .a .now)) (recordsIn (a .b .now)) (recordsIn (l .out)) (l .i) (l .j) (l .inv .4) side in
+    omega (arith, next .0, length-records (a .a .now))
 
-add-out : tie.Need-add-out Inv-loop μ-loop
-add-out c = search needs
-
-mul-out-2 : tie.Need-mul-out-2 Inv-loop μ-loop
-mul-out-2 c = search needs
-
-slice-write-out : tie.Need-slice-write-out Inv-loop μ-loop
-slice-write-out c = search needs
+set-record-requires : tie.Need-set-record-requires Inv-loop μ-loop
+set-record-requires c κs =
+    let told = c .before .before in
+    let l = told .before .before .before .before .loop in
+    let a = told .before .before .before .before .before .before .before .before .args in
+    let side = sym (told .before .before .next-side .ensures) ∙ told .enum-told .given .1 in
+    let next = joining-first (recordsIn (a .a .now)) (recordsIn (a .b .now)) (recordsIn (l .out)) (l .i) (l .j) (l .inv .4) side in
+    omega (arith, next .0, l .inv .2, l .inv .4 .b-left, length-records (a .a .now), length-records (a .b .now))
 
 add-i : tie.Need-add-i Inv-loop μ-loop
 add-i c = search needs
@@ -60,35 +74,44 @@ loop-less c = search needs
 
 loop-again : tie.Need-loop-again Inv-loop μ-loop
 loop-again c =
-    let l = c .before .before .before .before .before .loop in
-    let a = c .before .before .before .before .before .before .before .before .before .args in
-    let side : sideOf (drop (l .i) (a .a .now)) (drop (l .j) (a .b .now)) ≡ First = sym (c .before .before .before .next-side .ensures) ∙ c .before .enum-told .given .1 in
-    let next = joining-first (a .a .now) (a .b .now) (l .out) (l .i) (l .j) (l .inv .2) side in
-    (simp length-set (l .inv .0), l .inv .1, next .1)
+    let stored = c .before .before in
+    let told = stored .before .before .before in
+    let l = told .before .before .before .before .loop in
+    let a = told .before .before .before .before .before .before .before .before .args in
+    let ra = recordsIn (a .a .now) in
+    let rb = recordsIn (a .b .now) in
+    let side = sym (told .before .before .next-side .ensures) ∙ told .enum-told .given .1 in
+    let next = joining-first ra rb (recordsIn (l .out)) (l .i) (l .j) (l .inv .4) side in
+    let long : length (stored .set-record .last .0) ≡ length (l .out) = stored .set-record .kept .0 in
+    let put : recordsIn (stored .set-record .last .0) ≡ set (recordsIn (l .out)) (l .i + l .j) (recordAt ra (l .i))
+    = stored .set-record .ensures ∙ ap (λ (e : Entry). set (recordsIn (l .out)) (l .i + l .j) e) (stored .before .record-at .ensures) in
+    (long ∙ l .inv .0, l .inv .1, omega (arith, long, l .inv .2), omega (arith, told .before .before .before .loop-test .taken), subst (λ (o : List Entry). Joining ra rb o (l .i + 1) (l .j)) (sym put) (next .1))
 
 enum-told-2 : tie.Need-enum-told-2 Inv-loop μ-loop
 enum-told-2 c = search needs
 
-mul-out-3 : tie.Need-mul-out-3 Inv-loop μ-loop
-mul-out-3 c = search needs
+add-set-record-2 : tie.Need-add-set-record-2 Inv-loop μ-loop
+add-set-record-2 c = search needs
 
-shared-slice-read-out-2 : tie.Need-shared-slice-read-out-2 Inv-loop μ-loop
-shared-slice-read-out-2 c =
-    let l = c .before .before .before .before .before .loop in
-    let a = c .before .before .before .before .before .before .before .before .before .args in
-    let side : sideOf (drop (l .i) (a .a .now)) (drop (l .j) (a .b .now)) ≡ Second = sym (c .before .before .before .next-side .ensures) ∙ c .before .enum-told2 .given .1 in
-    let more : l .i + l .j < length (a .a .now) + length (a .b .now) = omega (arith, c .before .before .before .before .loop-test .taken) in
-    let next = joining-second (a .a .now) (a .b .now) (l .out) (l .i) (l .j) (l .inv .2) more side in
-    next .0
+record-at-requires-2 : tie.Need-record-at-requires-2 Inv-loop μ-loop
+record-at-requires-2 c κs =
+    let told = c .before in
+    let l = told .before .before .before .before .loop in
+    let a = told .before .before .before .before .before .before .before .before .args in
+    let side = sym (told .before .before .next-side .ensures) ∙ told .enum-told2 .given .1 in
+    let more : l .i + l .j < length (recordsIn (a .a .now)) + length (recordsIn (a .b .now)) = omega (arith, told .before .before .before .loop-test .taken, length-records (a .a .now), length-records (a .b .now)) in
+    let next = joining-second (recordsIn (a .a .now)) (recordsIn (a .b .now)) (recordsIn (l .out)) (l .i) (l .j) (l .inv .4) more side in
+    omega (arith, next .0, length-records (a .b .now))
 
-add-out-2 : tie.Need-add-out-2 Inv-loop μ-loop
-add-out-2 c = search needs
-
-mul-out-4 : tie.Need-mul-out-4 Inv-loop μ-loop
-mul-out-4 c = search needs
-
-slice-write-out-2 : tie.Need-slice-write-out-2 Inv-loop μ-loop
-slice-write-out-2 c = search needs
+set-record-requires-2 : tie.Need-set-record-requires-2 Inv-loop μ-loop
+set-record-requires-2 c κs =
+    let told = c .before .before in
+    let l = told .before .before .before .before .loop in
+    let a = told .before .before .before .before .before .before .before .before .args in
+    let side = sym (told .before .before .next-side .ensures) ∙ told .enum-told2 .given .1 in
+    let more : l .i + l .j < length (recordsIn (a .a .now)) + length (recordsIn (a .b .now)) = omega (arith, told .before .before .before .loop-test .taken, length-records (a .a .now), length-records (a .b .now)) in
+    let next = joining-second (recordsIn (a .a .now)) (recordsIn (a .b .now)) (recordsIn (l .out)) (l .i) (l .j) (l .inv .4) more side in
+    omega (arith, next .0, l .inv .2, l .inv .4 .a-left, length-records (a .a .now), length-records (a .b .now))
 
 add-j : tie.Need-add-j Inv-loop μ-loop
 add-j c = search needs
@@ -98,12 +121,19 @@ loop-less-2 c = search needs
 
 loop-again-2 : tie.Need-loop-again-2 Inv-loop μ-loop
 loop-again-2 c =
-    let l = c .before .before .before .before .before .loop in
-    let a = c .before .before .before .before .before .before .before .before .before .args in
-    let side : sideOf (drop (l .i) (a .a .now)) (drop (l .j) (a .b .now)) ≡ Second = sym (c .before .before .before .next-side .ensures) ∙ c .before .enum-told2 .given .1 in
-    let more : l .i + l .j < length (a .a .now) + length (a .b .now) = omega (arith, c .before .before .before .before .loop-test .taken) in
-    let next = joining-second (a .a .now) (a .b .now) (l .out) (l .i) (l .j) (l .inv .2) more side in
-    (simp length-set (l .inv .0), l .inv .1, next .1)
+    let stored = c .before .before in
+    let told = stored .before .before .before in
+    let l = told .before .before .before .before .loop in
+    let a = told .before .before .before .before .before .before .before .before .args in
+    let ra = recordsIn (a .a .now) in
+    let rb = recordsIn (a .b .now) in
+    let side = sym (told .before .before .next-side .ensures) ∙ told .enum-told2 .given .1 in
+    let more : l .i + l .j < length ra + length rb = omega (arith, told .before .before .before .loop-test .taken, length-records (a .a .now), length-records (a .b .now)) in
+    let next = joining-second ra rb (recordsIn (l .out)) (l .i) (l .j) (l .inv .4) more side in
+    let long : length (stored .set-record2 .last .0) ≡ length (l .out) = stored .set-record2 .kept .0 in
+    let put : recordsIn (stored .set-record2 .last .0) ≡ set (recordsIn (l .out)) (l .i + l .j) (recordAt rb (l .j))
+    = stored .set-record2 .ensures ∙ ap (λ (e : Entry). set (recordsIn (l .out)) (l .i + l .j) e) (stored .before .record-at2 .ensures) in
+    (long ∙ l .inv .0, l .inv .1, omega (arith, long, l .inv .2), omega (arith, told .before .before .before .loop-test .taken), subst (λ (o : List Entry). Joining ra rb o (l .i) (l .j + 1)) (sym put) (next .1))
 
 enum-told-3 : tie.Need-enum-told-3 Inv-loop μ-loop
 enum-told-3 c = search needs
@@ -115,9 +145,9 @@ returns : tie.Need-returns Inv-loop μ-loop
 returns c =
     let l = c .before .before .before .before .loop in
     let a = c .before .before .before .before .before .before .before .before .args in
-    let side : sideOf (drop (l .i) (a .a .now)) (drop (l .j) (a .b .now)) ≡ Both = sym (c .before .before .next-side .ensures) ∙ c .enum-told3 .given .1 in
+    let side = sym (c .before .before .next-side .ensures) ∙ c .enum-told3 .given .1 in
     let never : false ≡ true → ⊥ = λ e. let z : _≡_ {A = ℕ} 0 1 = cc in omega arith in
-    (joining-stops (a .a .now) (a .b .now) (l .out) (l .i) (l .j) (l .inv .2) side, λ e. absurd (never e))
+    (joining-stops (recordsIn (a .a .now)) (recordsIn (a .b .now)) (recordsIn (l .out)) (l .i) (l .j) (l .inv .4) side, λ e. absurd (never e))
 
 same-length-2 : tie.Need-same-length-2 Inv-loop μ-loop
 same-length-2 c = search needs
@@ -126,7 +156,7 @@ returns-2 : tie.Need-returns-2 Inv-loop μ-loop
 returns-2 c =
     let l = c .before .loop in
     let a = c .before .before .before .before .before .args in
-    let whole = all-joined (a .a .now) (a .b .now) (l .out) (l .i) (l .j) (l .inv .2) (omega (arith, c .loop-test .left)) in
+    let whole = all-joined (recordsIn (a .a .now)) (recordsIn (a .b .now)) (recordsIn (l .out)) (l .i) (l .j) (l .inv .4) (omega (arith, c .loop-test .left, length-records (a .a .now), length-records (a .b .now))) in
     (whole .0, λ e. whole .1)
 
 pub join-spec : {M : Type 1} → statement M
@@ -140,20 +170,16 @@ join-spec =
     add-loop
     next-side-requires
     enum-told
-    mul-out
-    shared-slice-read-out
-    add-out
-    mul-out-2
-    slice-write-out
+    add-set-record
+    record-at-requires
+    set-record-requires
     add-i
     loop-less
     loop-again
     enum-told-2
-    mul-out-3
-    shared-slice-read-out-2
-    add-out-2
-    mul-out-4
-    slice-write-out-2
+    add-set-record-2
+    record-at-requires-2
+    set-record-requires-2
     add-j
     loop-less-2
     loop-again-2

@@ -1,14 +1,15 @@
 -- `few_pages::change_gathered` meets its contract: the cases of Changes, with the chain in the buffer as Gathers has it.
 use mathlib.Core.Path.{ap, _∙_}
-use Prim.Native.Nat.{_+_, _-_, _≤_}
+use Prim.Native.Nat.{_+_, _-_, _*_, _≤_}
 use native.Mathlib.Omega.{arith}
 use lib.ListN.{length}
 use borrow.Author.Tests.{not-true, not-false}
+use Rattle.model.specs.Sizes.{recordWords}
 use Rattle.model.specs.Entries.{ascending}
 use Rattle.model.specs.Chains.{chainOf}
 use Rattle.model.specs.Ready.{viewing}
 use Rattle.model.specs.Steps.Rebuild.{kept}
-use Rattle.model.proofs.Laws.Lists.{front-part}
+use Rattle.model.proofs.Laws.RecordWords.{records-front}
 use Rattle.entries.specs.Places.{placeOf}
 use Rattle.chain_keys.proofs.WholeChain.{gathered-damaged}
 use Rattle.chain_change.proofs.Changes.{chain-refused, change-kept, key-present, key-absent}
@@ -40,6 +41,18 @@ returns c = λ ls.
     let bad = gathered-damaged (chainOf (a .root) (a .pages .now) (a .party .chain)) (at-gather .gather .ensures .0) (c .enum-told .given .1) in
     chain-refused (viewing (a .root) (a .party) (a .q) ls (a .pages .now)) bad
 
+mul-end : tie.Need-mul-end
+mul-end c =
+    let at-g = c .before in
+    let at-gather = at-g .before .before .before .before in
+    let start = at-gather .before .before .before .before .before in
+    let a = start .args in
+    let g = at-g .g .given .0 .0 in
+    let words = at-gather .gather .last .1 .1 .1 .1 .0 in
+    let whole = chain-whole (start .pre) words (at-gather .gather .ensures) (at-g .g .given .1) in
+    let few = front-few (a .root) (a .pages .now) (a .party .chain) (a .n) g words whole (start .pre .0 .few) in
+    record { fits = omega (arith, few, start .pre .0 .can-change .keys-fit) }
+
 sub-below : tie.Need-sub-below
 sub-below c = search needs
 
@@ -53,9 +66,9 @@ part-below-end c =
     let start = at-gather .before .before .before .before .before in
     let a = start .args in
     let g = at-g .g .given .0 .0 in
-    let keys = at-gather .gather .last .1 .1 .1 .1 .0 in
+    let words = at-gather .gather .last .1 .1 .1 .1 .0 in
     let long = at-gather .gather .kept .1 .1 .1 .1 .0 in
-    let whole = chain-whole (start .pre) keys (at-gather .gather .ensures) (at-g .g .given .1) in
+    let whole = chain-whole (start .pre) words (at-gather .gather .ensures) (at-g .g .given .1) in
     omega (arith, whole .fits)
 
 below-requires : tie.Need-below-requires
@@ -74,9 +87,9 @@ part-has-at-end c =
     let start = at-gather .before .before .before .before .before in
     let a = start .args in
     let g = at-g .g .given .0 .0 in
-    let keys = at-gather .gather .last .1 .1 .1 .1 .0 in
+    let words = at-gather .gather .last .1 .1 .1 .1 .0 in
     let long = at-gather .gather .kept .1 .1 .1 .1 .0 in
-    let whole = chain-whole (start .pre) keys (at-gather .gather .ensures) (at-g .g .given .1) in
+    let whole = chain-whole (start .pre) words (at-gather .gather .ensures) (at-g .g .given .1) in
     omega (arith, whole .fits)
 
 has-at-requires : tie.Need-has-at-requires
@@ -87,10 +100,10 @@ has-at-requires c κs =
     let start = at-gather .before .before .before .before .before in
     let a = start .args in
     let g = at-g .g .given .0 .0 in
-    let keys = at-gather .gather .last .1 .1 .1 .1 .0 in
+    let words = at-gather .gather .last .1 .1 .1 .1 .0 in
     let long = at-gather .gather .kept .1 .1 .1 .1 .0 in
-    let whole = chain-whole (start .pre) keys (at-gather .gather .ensures) (at-g .g .given .1) in
-    (ap ascending (front-part (g .count) keys) ∙ front-ascends (a .root) (a .pages .now) (a .party .chain) (a .n) g keys whole, at-below .below .ensures)
+    let whole = chain-whole (start .pre) words (at-gather .gather .ensures) (at-g .g .given .1) in
+    (ap ascending (records-front (g .count) words) ∙ front-ascends (a .root) (a .pages .now) (a .party .chain) (a .n) g words whole, at-below .below .ensures)
 
 kept-answer-requires : tie.Need-kept-answer-requires
 kept-answer-requires c κs = search needs
@@ -111,14 +124,14 @@ returns-2 c = λ ls.
     let start = at-gather .before .before .before .before .before in
     let a = start .args in
     let g = at-g .g .given .0 .0 in
-    let keys = at-gather .gather .last .1 .1 .1 .1 .0 in
+    let words = at-gather .gather .last .1 .1 .1 .1 .0 in
     let long = at-gather .gather .kept .1 .1 .1 .1 .0 in
-    let whole = chain-whole (start .pre) keys (at-gather .gather .ensures) (at-g .g .given .1) in
+    let whole = chain-whole (start .pre) words (at-gather .gather .ensures) (at-g .g .given .1) in
     let told = at-has-at .has-at .ensures in
     let v = viewing (a .root) (a .party) (a .q) ls (a .pages .now) in
-    let present = chain-has (a .root) (a .pages .now) (a .party .chain) (a .n) g keys whole (a .party .key) told ∙ at-if2 .if2 .taken in
+    let present = chain-has (a .root) (a .pages .now) (a .party .chain) (a .n) g words whole (a .party .key) told ∙ at-if2 .if2 .taken in
     change-kept v (whole .chain) (whole .is-sound) (c .kept-answer .result)
-    (ap kept (c .kept-answer .ensures) ∙ key-present (a .party .operation) (a .party .key) (whole .chain .entries) (at-if1 .if1 .taken) present)
+    (ap kept (c .kept-answer .ensures) ∙ key-present (a .party .operation) (a .party .key) (a .party .setting) (whole .chain .entries) (at-if1 .if1 .taken) present)
 
 put-in-requires : tie.Need-put-in-requires
 put-in-requires c κs =
@@ -130,15 +143,15 @@ put-in-requires c κs =
     let start = at-gather .before .before .before .before .before in
     let a = start .args in
     let g = at-g .g .given .0 .0 in
-    let keys = at-gather .gather .last .1 .1 .1 .1 .0 in
+    let words = at-gather .gather .last .1 .1 .1 .1 .0 in
     let long = at-gather .gather .kept .1 .1 .1 .1 .0 in
-    let whole = chain-whole (start .pre) keys (at-gather .gather .ensures) (at-g .g .given .1) in
-    let few = front-few (a .root) (a .pages .now) (a .party .chain) (a .n) g keys whole (start .pre .0 .few) in
+    let whole = chain-whole (start .pre) words (at-gather .gather .ensures) (at-g .g .given .1) in
+    let few = front-few (a .root) (a .pages .now) (a .party .chain) (a .n) g words whole (start .pre .0 .few) in
     let keys-fit = start .pre .0 .can-change .keys-fit in
     let told = at-has-at .has-at .ensures in
-    let at = at-below .below .ensures ∙ ap (placeOf (a .party .key)) (front-part (g .count) keys) in
-    let absent = front-has (a .root) (a .pages .now) (a .party .chain) (a .n) g keys whole (a .party .key) told ∙ at-if2 .if2 .left in
-    (omega (arith, few, keys-fit, long, start .pre .1), front-ascends (a .root) (a .pages .now) (a .party .chain) (a .n) g keys whole, at, absent)
+    let at = at-below .below .ensures ∙ ap (placeOf (a .party .key)) (records-front (g .count) words) in
+    let absent = front-has (a .root) (a .pages .now) (a .party .chain) (a .n) g words whole (a .party .key) told ∙ at-if2 .if2 .left in
+    (omega (arith, few, keys-fit, long, start .pre .1), front-ascends (a .root) (a .pages .now) (a .party .chain) (a .n) g words whole, at, absent)
 
 add-more : tie.Need-add-more
 add-more c =
@@ -147,10 +160,10 @@ add-more c =
     let start = at-gather .before .before .before .before .before in
     let a = start .args in
     let g = at-g .g .given .0 .0 in
-    let keys = at-gather .gather .last .1 .1 .1 .1 .0 in
+    let words = at-gather .gather .last .1 .1 .1 .1 .0 in
     let long = at-gather .gather .kept .1 .1 .1 .1 .0 in
-    let whole = chain-whole (start .pre) keys (at-gather .gather .ensures) (at-g .g .given .1) in
-    let few = front-few (a .root) (a .pages .now) (a .party .chain) (a .n) g keys whole (start .pre .0 .few) in
+    let whole = chain-whole (start .pre) words (at-gather .gather .ensures) (at-g .g .given .1) in
+    let few = front-few (a .root) (a .pages .now) (a .party .chain) (a .n) g words whole (start .pre .0 .few) in
     let keys-fit = start .pre .0 .can-change .keys-fit in
     record { fits = omega (arith, few, keys-fit) }
 
@@ -168,10 +181,10 @@ part-write-few-end c =
     let start = at-gather .before .before .before .before .before in
     let a = start .args in
     let g = at-g .g .given .0 .0 in
-    let keys = at-gather .gather .last .1 .1 .1 .1 .0 in
+    let words = at-gather .gather .last .1 .1 .1 .1 .0 in
     let long = at-gather .gather .kept .1 .1 .1 .1 .0 in
-    let whole = chain-whole (start .pre) keys (at-gather .gather .ensures) (at-g .g .given .1) in
-    let few = front-few (a .root) (a .pages .now) (a .party .chain) (a .n) g keys whole (start .pre .0 .few) in
+    let whole = chain-whole (start .pre) words (at-gather .gather .ensures) (at-g .g .given .1) in
+    let few = front-few (a .root) (a .pages .now) (a .party .chain) (a .n) g words whole (start .pre .0 .few) in
     let keys-fit = start .pre .0 .can-change .keys-fit in
     omega (arith, few, keys-fit, long, start .pre .1, at-put-in .put-in .kept .0)
 
@@ -183,14 +196,14 @@ write-few-requires c κs =
     let start = at-gather .before .before .before .before .before in
     let a = start .args in
     let g = at-g .g .given .0 .0 in
-    let keys = at-gather .gather .last .1 .1 .1 .1 .0 in
+    let words = at-gather .gather .last .1 .1 .1 .1 .0 in
     let long = at-gather .gather .kept .1 .1 .1 .1 .0 in
-    let whole = chain-whole (start .pre) keys (at-gather .gather .ensures) (at-g .g .given .1) in
-    let few = front-few (a .root) (a .pages .now) (a .party .chain) (a .n) g keys whole (start .pre .0 .few) in
+    let whole = chain-whole (start .pre) words (at-gather .gather .ensures) (at-g .g .given .1) in
+    let few = front-few (a .root) (a .pages .now) (a .party .chain) (a .n) g words whole (start .pre .0 .few) in
     let keys-fit = start .pre .0 .can-change .keys-fit in
     let after = at-put-in .put-in .last .0 in
-    let room : g .count + 1 ≤ length after = omega (arith, few, keys-fit, long, start .pre .1, at-put-in .put-in .kept .0) in
-    record { can-change = start .pre .0 .can-change; few = omega (arith, few, front-length (g .count + 1) after room) }
+    let room : g .count * recordWords + recordWords ≤ length after = omega (arith, few, keys-fit, long, start .pre .1, at-put-in .put-in .kept .0) in
+    record { can-change = start .pre .0 .can-change; few = omega (arith, few, front-length (g .count * recordWords + recordWords) after room) }
 
 same-length-5 : tie.Need-same-length-5
 same-length-5 c = search needs
@@ -210,12 +223,12 @@ returns-3 c = λ ls.
     let start = at-gather .before .before .before .before .before in
     let a = start .args in
     let g = at-g .g .given .0 .0 in
-    let keys = at-gather .gather .last .1 .1 .1 .1 .0 in
+    let words = at-gather .gather .last .1 .1 .1 .1 .0 in
     let long = at-gather .gather .kept .1 .1 .1 .1 .0 in
-    let whole = chain-whole (start .pre) keys (at-gather .gather .ensures) (at-g .g .given .1) in
+    let whole = chain-whole (start .pre) words (at-gather .gather .ensures) (at-g .g .given .1) in
     let told = at-has-at .has-at .ensures in
-    let absent = chain-has (a .root) (a .pages .now) (a .party .chain) (a .n) g keys whole (a .party .key) told ∙ at-if2 .if2 .left in
-    let made = inserted-there (a .root) (a .pages .now) (a .party .chain) (a .n) g keys whole (a .party .operation) (a .party .key) (at-put-in .put-in .last .0) (at-if1 .if1 .taken) absent (at-put-in .put-in .ensures) in
+    let absent = chain-has (a .root) (a .pages .now) (a .party .chain) (a .n) g words whole (a .party .key) told ∙ at-if2 .if2 .left in
+    let made = inserted-there (a .root) (a .pages .now) (a .party .chain) (a .n) g words whole (a .party .operation) (a .party .key) (a .party .setting) (at-put-in .put-in .last .0) (at-if1 .if1 .taken) absent (at-put-in .put-in .ensures) in
     at-write-few .write-few .ensures ls (whole .chain) (whole .is-sound) (whole .level) (whole .pages) made
 
 kept-answer-requires-2 : tie.Need-kept-answer-requires-2
@@ -237,14 +250,14 @@ returns-4 c = λ ls.
     let start = at-gather .before .before .before .before .before in
     let a = start .args in
     let g = at-g .g .given .0 .0 in
-    let keys = at-gather .gather .last .1 .1 .1 .1 .0 in
+    let words = at-gather .gather .last .1 .1 .1 .1 .0 in
     let long = at-gather .gather .kept .1 .1 .1 .1 .0 in
-    let whole = chain-whole (start .pre) keys (at-gather .gather .ensures) (at-g .g .given .1) in
+    let whole = chain-whole (start .pre) words (at-gather .gather .ensures) (at-g .g .given .1) in
     let told = at-has-at .has-at .ensures in
     let v = viewing (a .root) (a .party) (a .q) ls (a .pages .now) in
-    let absent = chain-has (a .root) (a .pages .now) (a .party .chain) (a .n) g keys whole (a .party .key) told ∙ not-true _ (at-if3 .if3 .taken) in
+    let absent = chain-has (a .root) (a .pages .now) (a .party .chain) (a .n) g words whole (a .party .key) told ∙ not-true _ (at-if3 .if3 .taken) in
     change-kept v (whole .chain) (whole .is-sound) (c .kept-answer2 .result)
-    (ap kept (c .kept-answer2 .ensures) ∙ key-absent (a .party .operation) (a .party .key) (whole .chain .entries) (at-if1 .if1 .left) absent)
+    (ap kept (c .kept-answer2 .ensures) ∙ key-absent (a .party .operation) (a .party .key) (a .party .setting) (whole .chain .entries) (at-if1 .if1 .left) absent)
 
 leave-out-requires : tie.Need-leave-out-requires
 leave-out-requires c κs =
@@ -256,13 +269,13 @@ leave-out-requires c κs =
     let start = at-gather .before .before .before .before .before in
     let a = start .args in
     let g = at-g .g .given .0 .0 in
-    let keys = at-gather .gather .last .1 .1 .1 .1 .0 in
+    let words = at-gather .gather .last .1 .1 .1 .1 .0 in
     let long = at-gather .gather .kept .1 .1 .1 .1 .0 in
-    let whole = chain-whole (start .pre) keys (at-gather .gather .ensures) (at-g .g .given .1) in
+    let whole = chain-whole (start .pre) words (at-gather .gather .ensures) (at-g .g .given .1) in
     let told = at-has-at .has-at .ensures in
-    let at = at-below .below .ensures ∙ ap (placeOf (a .party .key)) (front-part (g .count) keys) in
-    let present = front-has (a .root) (a .pages .now) (a .party .chain) (a .n) g keys whole (a .party .key) told ∙ not-false _ (at-if3 .if3 .left) in
-    (omega (arith, at, place-before (a .root) (a .pages .now) (a .party .chain) (a .n) g keys whole (a .party .key) present), whole .fits)
+    let at = at-below .below .ensures ∙ ap (placeOf (a .party .key)) (records-front (g .count) words) in
+    let present = front-has (a .root) (a .pages .now) (a .party .chain) (a .n) g words whole (a .party .key) told ∙ not-false _ (at-if3 .if3 .left) in
+    (omega (arith, at, place-before (a .root) (a .pages .now) (a .party .chain) (a .n) g words whole (a .party .key) present), whole .fits)
 
 sub-fewer : tie.Need-sub-fewer
 sub-fewer c =
@@ -273,12 +286,12 @@ sub-fewer c =
     let start = at-gather .before .before .before .before .before in
     let a = start .args in
     let g = at-g .g .given .0 .0 in
-    let keys = at-gather .gather .last .1 .1 .1 .1 .0 in
+    let words = at-gather .gather .last .1 .1 .1 .1 .0 in
     let long = at-gather .gather .kept .1 .1 .1 .1 .0 in
-    let whole = chain-whole (start .pre) keys (at-gather .gather .ensures) (at-g .g .given .1) in
+    let whole = chain-whole (start .pre) words (at-gather .gather .ensures) (at-g .g .given .1) in
     let told = at-has-at .has-at .ensures in
-    let present = front-has (a .root) (a .pages .now) (a .party .chain) (a .n) g keys whole (a .party .key) told ∙ not-false _ (at-if3 .if3 .left) in
-    omega (arith, place-before (a .root) (a .pages .now) (a .party .chain) (a .n) g keys whole (a .party .key) present)
+    let present = front-has (a .root) (a .pages .now) (a .party .chain) (a .n) g words whole (a .party .key) told ∙ not-false _ (at-if3 .if3 .left) in
+    omega (arith, place-before (a .root) (a .pages .now) (a .party .chain) (a .n) g words whole (a .party .key) present)
 
 sub-write-few-2 : tie.Need-sub-write-few-2
 sub-write-few-2 c = search needs
@@ -294,9 +307,9 @@ part-write-few-end-2 c =
     let start = at-gather .before .before .before .before .before in
     let a = start .args in
     let g = at-g .g .given .0 .0 in
-    let keys = at-gather .gather .last .1 .1 .1 .1 .0 in
+    let words = at-gather .gather .last .1 .1 .1 .1 .0 in
     let long = at-gather .gather .kept .1 .1 .1 .1 .0 in
-    let whole = chain-whole (start .pre) keys (at-gather .gather .ensures) (at-g .g .given .1) in
+    let whole = chain-whole (start .pre) words (at-gather .gather .ensures) (at-g .g .given .1) in
     omega (arith, whole .fits, at-leave-out .leave-out .kept .0)
 
 write-few-requires-2 : tie.Need-write-few-requires-2
@@ -307,14 +320,14 @@ write-few-requires-2 c κs =
     let start = at-gather .before .before .before .before .before in
     let a = start .args in
     let g = at-g .g .given .0 .0 in
-    let keys = at-gather .gather .last .1 .1 .1 .1 .0 in
+    let words = at-gather .gather .last .1 .1 .1 .1 .0 in
     let long = at-gather .gather .kept .1 .1 .1 .1 .0 in
-    let whole = chain-whole (start .pre) keys (at-gather .gather .ensures) (at-g .g .given .1) in
-    let few = front-few (a .root) (a .pages .now) (a .party .chain) (a .n) g keys whole (start .pre .0 .few) in
+    let whole = chain-whole (start .pre) words (at-gather .gather .ensures) (at-g .g .given .1) in
+    let few = front-few (a .root) (a .pages .now) (a .party .chain) (a .n) g words whole (start .pre .0 .few) in
     let keys-fit = start .pre .0 .can-change .keys-fit in
     let after = at-leave-out .leave-out .last .0 in
-    let room : g .count - 1 ≤ length after = omega (arith, whole .fits, at-leave-out .leave-out .kept .0) in
-    record { can-change = start .pre .0 .can-change; few = omega (arith, few, front-length (g .count - 1) after room) }
+    let room : g .count * recordWords - recordWords ≤ length after = omega (arith, whole .fits, at-leave-out .leave-out .kept .0) in
+    record { can-change = start .pre .0 .can-change; few = omega (arith, few, front-length (g .count * recordWords - recordWords) after room) }
 
 same-length-9 : tie.Need-same-length-9
 same-length-9 c = search needs
@@ -335,15 +348,15 @@ returns-5 c = λ ls.
     let start = at-gather .before .before .before .before .before in
     let a = start .args in
     let g = at-g .g .given .0 .0 in
-    let keys = at-gather .gather .last .1 .1 .1 .1 .0 in
+    let words = at-gather .gather .last .1 .1 .1 .1 .0 in
     let long = at-gather .gather .kept .1 .1 .1 .1 .0 in
-    let whole = chain-whole (start .pre) keys (at-gather .gather .ensures) (at-g .g .given .1) in
+    let whole = chain-whole (start .pre) words (at-gather .gather .ensures) (at-g .g .given .1) in
     let told = at-has-at .has-at .ensures in
-    let at = at-below .below .ensures ∙ ap (placeOf (a .party .key)) (front-part (g .count) keys) in
+    let at = at-below .below .ensures ∙ ap (placeOf (a .party .key)) (records-front (g .count) words) in
     let found = not-false _ (at-if3 .if3 .left) in
-    let present = front-has (a .root) (a .pages .now) (a .party .chain) (a .n) g keys whole (a .party .key) told ∙ found in
-    let left = at-leave-out .leave-out .ensures (a .party .key) (front-ascends (a .root) (a .pages .now) (a .party .chain) (a .n) g keys whole) present at in
-    let made = deleted-there (a .root) (a .pages .now) (a .party .chain) (a .n) g keys whole (a .party .operation) (a .party .key) (at-leave-out .leave-out .last .0) (at-if1 .if1 .left) (chain-has (a .root) (a .pages .now) (a .party .chain) (a .n) g keys whole (a .party .key) told ∙ found) left in
+    let present = front-has (a .root) (a .pages .now) (a .party .chain) (a .n) g words whole (a .party .key) told ∙ found in
+    let left = at-leave-out .leave-out .ensures (a .party .key) (front-ascends (a .root) (a .pages .now) (a .party .chain) (a .n) g words whole) present at in
+    let made = deleted-there (a .root) (a .pages .now) (a .party .chain) (a .n) g words whole (a .party .operation) (a .party .key) (a .party .setting) (at-leave-out .leave-out .last .0) (at-if1 .if1 .left) (chain-has (a .root) (a .pages .now) (a .party .chain) (a .n) g words whole (a .party .key) told ∙ found) left in
     at-write-few2 .write-few2 .ensures ls (whole .chain) (whole .is-sound) (whole .level) (whole .pages) made
 
 pub change-gathered-spec : {M : Type 1} → statement M
@@ -356,6 +369,7 @@ change-gathered-spec =
     same-length
     same-length-2
     returns
+    mul-end
     sub-below
     part-below-start
     part-below-end

@@ -1,16 +1,18 @@
 -- `few_pages::write_few` meets its contract: the cases of Changes.
-use mathlib.Core.Path.{_≡_, refl, sym, ap, ap₂, _∙_}
-use Prim.Native.Nat.{ℕ}
+use mathlib.Core.Path.{_≡_, sym, ap, ap₂, _∙_}
+use Prim.Native.Nat.{ℕ, _/_}
 use mathlib.Core.List.{List}
 use native.Mathlib.Omega.{arith}
 use lib.ListN.{length, take}
-use Rattle.model.specs.Pages.{withPage, scratchPage}
+use Rattle.model.specs.Sizes.{recordWords}
+use Rattle.model.specs.Pages.{recordsIn, withPage, scratchPage}
 use Rattle.model.specs.Chains.{damaged, sound}
 use Rattle.model.specs.Filling.{pagesFor, primaryOf, overflowWritten}
 use Rattle.model.specs.FreeList.{Taken, pagesTaken}
 use Rattle.model.specs.Ready.{viewing}
 use Rattle.model.specs.Steps.Rebuild.{changed, changeOf, owedBy}
 use Rattle.model.proofs.Laws.Lists.{front-part}
+use Rattle.model.proofs.Laws.RecordWords.{length-records}
 use Rattle.free_list.specs.declared.Drawn.{Drawn}
 use Rattle.free_list.specs.Taking.{drawnAs}
 use Rattle.free_list.proofs.Taking.{taken-overflow}
@@ -18,7 +20,7 @@ use Rattle.chain_change.specs.Changing.{changedAnswer}
 use Rattle.chain_change.proofs.Changes.{no-page-answered, free-list-damaged, change-written}
 use Rattle.chain_change.proofs.ReadChains.{chain-link}
 use Rattle.filling.proofs.Fills.{overflow-fillable}
-use Rattle.few_pages.proofs.Bounds.{few-pages}
+use Rattle.few_pages.proofs.Bounds.{few-pages, records-need}
 use borrow.Author.Needs.{needs}
 use Rattle.few_pages.proofs.write_few.Statement.{statement}
 use Rattle.few_pages.proofs.write_few.Tie as tie
@@ -30,14 +32,13 @@ cast-if1 : tie.Need-cast-if1
 cast-if1 c = search needs
 
 returns : tie.Need-returns
-unfolding pagesFor
 returns c = λ ls ch found el en made.
     let at-pages-for = c .before .before in
     let start = at-pages-for .before .before .before in
     let a = start .args in
     let v = viewing (a .root) (a .party) (a .q) ls (a .pages .now) in
-    let many : at-pages-for .pages-for .result ≡ pagesFor (a .root .capacity) (a .keys .now) = at-pages-for .pages-for .ensures in
-    no-page-answered v ch found (changedAnswer (a .party .operation)) (a .keys .now) made (at-pages-for .pages-for .result) many (c .if1 .taken)
+    let many : at-pages-for .pages-for .result ≡ pagesFor (a .root .capacity) (recordsIn (a .words .now)) = records-need (a .root .capacity) (a .words .now) (at-pages-for .pages-for .ensures) in
+    no-page-answered v ch found (changedAnswer (a .party .operation)) (recordsIn (a .words .now)) made (at-pages-for .pages-for .result) many (c .if1 .taken)
 
 slice-aggregate-take-pages : tie.Need-slice-aggregate-take-pages
 slice-aggregate-take-pages c = search needs
@@ -47,7 +48,7 @@ take-pages-requires c κs =
     let at-pages-for = c .before .before .before .before in
     let start = at-pages-for .before .before .before in
     let can = start .pre in
-    let few = few-pages (start .args .root .capacity) (length (start .args .keys .now)) (can .can-change .some-key) (can .few) in
+    let few = few-pages (start .args .root .capacity) (length (start .args .words .now) / recordWords) (can .can-change .some-key) (omega (arith, can .few)) in
     (can .can-change .pages-fit, can .can-change .overflow-fits, omega (arith, few, at-pages-for .pages-for .ensures))
 
 enum-told : tie.Need-enum-told
@@ -71,7 +72,7 @@ part-write-chain-end c =
     let at-pages-for = at-take-pages .before .before .before .before .before in
     let start = at-pages-for .before .before .before in
     let can = start .pre in
-    let few = few-pages (start .args .root .capacity) (length (start .args .keys .now)) (can .can-change .some-key) (can .few) in
+    let few = few-pages (start .args .root .capacity) (length (start .args .words .now) / recordWords) (can .can-change .some-key) (omega (arith, can .few)) in
     omega (arith, few, at-pages-for .pages-for .ensures, at-take-pages .take-pages .kept .1 .1 .1 .0)
 
 write-chain-requires : tie.Need-write-chain-requires
@@ -111,7 +112,6 @@ same-length : tie.Need-same-length
 same-length c = search needs
 
 returns-2 : tie.Need-returns-2
-unfolding pagesFor
 returns-2 c = λ ls ch found el en made.
     let at-take-pages = c .before .before .before in
     let at-if1 = at-take-pages .before .before .before in
@@ -121,15 +121,14 @@ returns-2 c = λ ls ch found el en made.
     let count = at-pages-for .pages-for .result in
     let xs = take count (at-take-pages .take-pages .last .1 .1 .1 .0) in
     let v = viewing (a .root) (a .party) (a .q) ls (a .pages .now) in
-    let many : count ≡ pagesFor (a .root .capacity) (a .keys .now) = at-pages-for .pages-for .ensures in
+    let many : count ≡ pagesFor (a .root .capacity) (recordsIn (a .words .now)) = records-need (a .root .capacity) (a .words .now) (at-pages-for .pages-for .ensures) in
     let bad : pagesTaken (a .root) (a .pages .now) count ≡ damaged = sym (at-take-pages .take-pages .ensures) ∙ ap (λ (d : Drawn). drawnAs d xs) (c .enum-told .given .1) in
-    free-list-damaged v ch found (changedAnswer (a .party .operation)) (a .keys .now) made count many (at-if1 .if1 .left) bad
+    free-list-damaged v ch found (changedAnswer (a .party .operation)) (recordsIn (a .words .now)) made count many (at-if1 .if1 .left) bad
 
 same-length-2 : tie.Need-same-length-2
 same-length-2 c = search needs
 
 returns-3 : tie.Need-returns-3
-unfolding pagesFor
 returns-3 c = λ ls ch found el en made.
     let at-changed-answer = c .before in
     let at-write-chain = at-changed-answer .before .before .before in
@@ -147,16 +146,16 @@ returns-3 c = λ ls ch found el en made.
     = sym (at-take-pages .take-pages .ensures) ∙ ap (λ (d : Drawn). drawnAs d (take count xs)) (at-head .head .given .1) in
     let part = front-part count xs in
     let b = a .root .capacity in
-    let es = a .keys .now in
+    let es = recordsIn (a .words .now) in
     let v = viewing (a .root) (a .party) (a .q) ls (a .pages .now) in
     let answer = at-changed-answer .changed-answer .result in
-    let change : changed answer es ≡ changeOf (a .party .operation) (a .party .key) (ch .entries) = ap (λ (n : ℕ). changed n es) (at-changed-answer .changed-answer .ensures) ∙ made in
-    let many : count ≡ pagesFor b es = at-pages-for .pages-for .ensures in
+    let change : changed answer es ≡ changeOf (a .party .operation) (a .party .key) (a .party .setting) (ch .entries) = ap (λ (n : ℕ). changed n es) (at-changed-answer .changed-answer .ensures) ∙ made in
+    let many : count ≡ pagesFor b es = records-need b (a .words .now) (at-pages-for .pages-for .ensures) in
     let pages = at-write-chain .write-chain .last .1 .1 .1 .1 .1 .0 in
     let whole : List ℕ → ℕ → ℕ → List ℕ = λ ys n l. withPage (overflowWritten b (a .pages .now) ys es) n (primaryOf b l es ys) in
     let written : pages ≡ whole (take count xs) (scratchPage (a .root) (a .q)) (ch .level)
     = at-write-chain .write-chain .ensures ∙ ap₂ (λ (ys : List ℕ) (n : ℕ). whole ys n (a .level)) part (at-scratch-page .scratch-page .ensures) ∙ ap (whole (take count xs) (scratchPage (a .root) (a .q))) el in
-    let owed = c .owed-by .ensures es refl ∙ ap (λ (n : ℕ). owedBy (a .party .operation) n count es) en in
+    let owed = c .owed-by .ensures es (length-records (a .words .now)) ∙ ap (λ (n : ℕ). owedBy (a .party .operation) n count es) en in
     change-written v ch found answer es change count many (at-if1 .if1 .left) t (c .owed-by .result) pages taken (chain-link (a .root) (a .pages .now) (a .party .chain) ch found) owed written
 
 pub write-few-spec : {M : Type 1} → statement M

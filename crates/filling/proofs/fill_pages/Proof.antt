@@ -1,22 +1,25 @@
 -- `filling::fill_pages` meets its contract.
 use mathlib.Core.Path.{_≡_, refl, sym, ap, _∙_}
-use Prim.Native.Nat.{ℕ, _+_, _-_, _≤_}
+use Prim.Native.Nat.{ℕ, _+_, _-_, _*_, _≤_}
 use native.Mathlib.Omega.{arith}
 use mathlib.Core.List.{List}
 use lib.ListN.{length, getD, take, drop}
-use Rattle.model.specs.Pages.{withPage, filledPage, linkToFirst}
+use Rattle.model.specs.declared.Entry.{Entry}
+use Rattle.model.specs.Sizes.{recordWords}
+use Rattle.model.specs.Pages.{recordsIn, withPage, filledPage, linkToFirst}
 use Rattle.model.specs.Filling.{filled, overflowWritten}
+use Rattle.model.proofs.Laws.RecordWords.{records-slice}
 use Rattle.filling.proofs.Fills.{page-filled, all-filled}
 use borrow.Author.Needs.{needs}
 use Rattle.filling.proofs.fill_pages.Statement.{statement}
 use Rattle.filling.proofs.fill_pages.Tie as tie
 
 abbrev Inv-loop : tie.InvT-loop
-Inv-loop b keys taken pages₀ at₀ i₀ pages at i =
-    (at ≤ length keys) × (i ≤ length taken) × (length pages ≡ length pages₀) × (overflowWritten b pages₀ taken keys ≡ filled b pages (drop i taken) (drop at keys))
+Inv-loop b words taken pages₀ at₀ i₀ pages at i =
+    (at * recordWords ≤ length words) × (i ≤ length taken) × (length pages ≡ length pages₀) × (overflowWritten b pages₀ taken (recordsIn words) ≡ filled b pages (drop i taken) (drop at (recordsIn words)))
 
 abbrev μ-loop : tie.MeasureT-loop
-μ-loop b keys taken pages₀ at₀ i₀ pages at i = length taken - i
+μ-loop b words taken pages₀ at₀ i₀ pages at i = length taken - i
 
 run-end-requires : tie.Need-run-end-requires Inv-loop μ-loop
 run-end-requires c κs = search needs
@@ -25,8 +28,8 @@ loop-holds : tie.Need-loop-holds Inv-loop μ-loop
 unfolding overflowWritten
 loop-holds c =
     let a = c .before .before .before .before .args in
-    let run = c .run-end .ensures in
-    (run .ends, omega arith, refl, ap (filled (a .b) (a .pages .now) (a .taken .now)) (sym (run .rest)))
+    let run = c .run-end .ensures .0 in
+    (c .run-end .ensures .1, omega arith, refl, ap (filled (a .b) (a .pages .now) (a .taken .now)) (sym (run .rest)))
 
 run-end-requires-2 : tie.Need-run-end-requires-2 Inv-loop μ-loop
 run-end-requires-2 c κs = search needs
@@ -36,6 +39,12 @@ add-link-to c = search needs
 
 link-to-requires : tie.Need-link-to-requires Inv-loop μ-loop
 link-to-requires c κs = λ h. c .before .before .before .before .before .before .before .pre .1 .links (c .before .before .loop .i + 1) h
+
+mul-from : tie.Need-mul-from Inv-loop μ-loop
+mul-from c = search needs
+
+mul-to : tie.Need-mul-to Inv-loop μ-loop
+mul-to c = search needs
 
 mul-page-words : tie.Need-mul-page-words Inv-loop μ-loop
 mul-page-words c = search needs
@@ -52,11 +61,11 @@ part-page-words-end c = search needs
 page-words-requires : tie.Need-page-words-requires Inv-loop μ-loop
 page-words-requires c κs = search needs
 
-mul-t10 : tie.Need-mul-t10 Inv-loop μ-loop
-mul-t10 c = search needs
+mul-t12 : tie.Need-mul-t12 Inv-loop μ-loop
+mul-t12 c = search needs
 
-shared-slice-read-t20 : tie.Need-shared-slice-read-t20 Inv-loop μ-loop
-shared-slice-read-t20 c = search needs
+shared-slice-read-t22 : tie.Need-shared-slice-read-t22 Inv-loop μ-loop
+shared-slice-read-t22 c = search needs
 
 store-requires : tie.Need-store-requires Inv-loop μ-loop
 store-requires c κs =
@@ -76,22 +85,25 @@ loop-again c =
     let stored = c .before .before in
     let paged = stored .before .before .before in
     let linked = paged .before .before in
-    let run = linked .before .run-end2 .ensures in
+    let run = linked .before .run-end2 .ensures .0 in
+    let end = linked .before .run-end2 .result in
     let more = linked .before .before .loop-test .taken in
     let l = linked .before .before .before .loop in
     let a = linked .before .before .before .before .before .before .before .before .args in
+    let ws = a .words .now in
+    let es = recordsIn ws in
     let x = getD (a .taken .now) (l .i) 0 in
     let rest = drop (l .i + 1) (a .taken .now) in
-    let page : paged .page-words .result ≡ filledPage 0 (take (a .b) (drop (l .at) (a .keys .now))) (linkToFirst rest)
-    = paged .page-words .ensures ∙ ap (λ (es : List ℕ). filledPage 0 es (linked .link-to .result)) (run .front)
-    ∙ ap (filledPage 0 (take (a .b) (drop (l .at) (a .keys .now)))) (linked .link-to .ensures) in
-    let now : stored .store .last .0 ≡ withPage (l .pages) x (filledPage 0 (take (a .b) (drop (l .at) (a .keys .now))) (linkToFirst rest))
+    let page : paged .page-words .result ≡ filledPage 0 (take (a .b) (drop (l .at) es)) (linkToFirst rest)
+    = paged .page-words .ensures ∙ ap (λ (part : List Entry). filledPage 0 part (linked .link-to .result)) (records-slice (l .at) end ws ∙ run .front)
+    ∙ ap (filledPage 0 (take (a .b) (drop (l .at) es))) (linked .link-to .ensures) in
+    let now : stored .store .last .0 ≡ withPage (l .pages) x (filledPage 0 (take (a .b) (drop (l .at) es)) (linkToFirst rest))
     = stored .store .ensures ∙ ap (withPage (l .pages) x) page in
-    let turn = page-filled (a .b) (l .pages) (a .taken .now) (l .i) (drop (l .at) (a .keys .now)) more in (
-      run .ends,
+    let turn = page-filled (a .b) (l .pages) (a .taken .now) (l .i) (drop (l .at) es) more in (
+      linked .before .run-end2 .ensures .1,
       omega (arith, more),
       stored .store .kept .0 ∙ l .inv .2,
-      l .inv .3 ∙ turn ∙ ap (λ (ps : List ℕ). filled (a .b) ps rest (drop (a .b) (drop (l .at) (a .keys .now)))) (sym now)
+      l .inv .3 ∙ turn ∙ ap (λ (ps : List ℕ). filled (a .b) ps rest (drop (a .b) (drop (l .at) es))) (sym now)
           ∙ ap (filled (a .b) (stored .store .last .0) rest) (sym (run .rest)),
     )
 
@@ -102,7 +114,7 @@ returns : tie.Need-returns Inv-loop μ-loop
 returns c =
     let l = c .before .loop in
     let a = c .before .before .before .before .before .before .args in
-    sym (l .inv .3 ∙ all-filled (a .b) (l .pages) (a .taken .now) (l .i) (drop (l .at) (a .keys .now)) (c .loop-test .left))
+    sym (l .inv .3 ∙ all-filled (a .b) (l .pages) (a .taken .now) (l .i) (drop (l .at) (recordsIn (a .words .now))) (c .loop-test .left))
 
 pub fill-pages-spec : {M : Type 1} → statement M
 fill-pages-spec =
@@ -115,13 +127,15 @@ fill-pages-spec =
     run-end-requires-2
     add-link-to
     link-to-requires
+    mul-from
+    mul-to
     mul-page-words
     sub-page-words
     part-page-words-start
     part-page-words-end
     page-words-requires
-    mul-t10
-    shared-slice-read-t20
+    mul-t12
+    shared-slice-read-t22
     store-requires
     add-i
     loop-less

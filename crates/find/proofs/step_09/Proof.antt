@@ -1,9 +1,14 @@
 -- `find::step_09` meets its contract: Pages has its cases.
 use mathlib.Core.Path.{_≡_, sym, ap, _∙_}
 use mathlib.Core.Bool.{true, false}
+use mathlib.Core.List.{List}
+use mathlib.Core.Option.{some}
+use Prim.Native.Nat.{ℕ, _+_, _*_}
 use native.Mathlib.Omega.{arith}
-use borrow.Author.Tests.{not-true, not-false}
-use Rattle.model.specs.Entries.{hasKey}
+use lib.ListN.{getD}
+use borrow.Author.Tests.{lt-ltb, le-ltb, not-true, not-false}
+use Rattle.model.specs.Sizes.{mostRecords, recordWords}
+use Rattle.model.specs.Entries.{hasKey, settingIn}
 use Rattle.model.specs.Pages.{pageOf, linkOf, entriesOf, pageSound}
 use Rattle.records.specs.Words.{partyIn}
 use Rattle.model.proofs.Laws.Tests.{sound-named, sound-page-links, sound-page-counts}
@@ -29,8 +34,8 @@ returns : tie.Need-returns
 returns c =
     let at-page-sound = c .before in
     let at-load = at-page-sound .before in
-    let at-scratch-page = at-load .before in
-    let start = at-scratch-page .before .before .before .before .before in
+    let at-scratch-page = at-load .before .before in
+    let start = at-scratch-page .before .before .before .before in
     let a = start .args in
     let p = partyIn (a .party .now) in
     let s = at-load .load .result in
@@ -38,11 +43,11 @@ returns c =
     let bad : pageSound (a .root) s ≡ false = sym (at-page-sound .page-sound .ensures) ∙ not-true _ (c .if1 .taken) in
     unsound-refused (a .root) p (a .q) (a .locks .now) (a .pages .now) page bad
 
-slice-read-has-key : tie.Need-slice-read-has-key
-slice-read-has-key c = search needs
+slice-read-place-of : tie.Need-slice-read-place-of
+slice-read-place-of c = search needs
 
-has-key-requires : tie.Need-has-key-requires
-has-key-requires c κs =
+place-of-requires : tie.Need-place-of-requires
+place-of-requires c κs =
     let at-if1 = c .before in
     let at-page-sound = at-if1 .before in
     let at-load = at-page-sound .before in
@@ -52,6 +57,12 @@ has-key-requires c κs =
     let sound : pageSound (a .root) s ≡ true = sym (at-page-sound .page-sound .ensures) ∙ not-false _ (at-if1 .if1 .left) in
     let counted = sound-page-counts (a .root) s sound in
     omega (arith, start .pre .ready .keys-fit)
+
+cast-if2 : tie.Need-cast-if2
+cast-if2 c = search needs
+
+setting-at-requires : tie.Need-setting-at-requires
+setting-at-requires c κs = search needs
 
 answered-requires : tie.Need-answered-requires
 answered-requires c κs = search needs
@@ -68,20 +79,25 @@ same-length-4 c = search needs
 returns-2 : tie.Need-returns-2
 returns-2 c =
     let at-answered = c .before .before .before .before .before .before in
-    let at-if2 = at-answered .before .before .before .before in
-    let at-has-key = at-if2 .before in
-    let at-if1 = at-has-key .before .before in
+    let at-setting-at = at-answered .before .before .before .before in
+    let at-if2 = at-setting-at .before .before in
+    let at-place-of = at-if2 .before in
+    let at-if1 = at-place-of .before .before in
     let at-page-sound = at-if1 .before in
     let at-load = at-page-sound .before in
-    let at-scratch-page = at-load .before in
-    let start = at-scratch-page .before .before .before .before .before in
+    let at-scratch-page = at-load .before .before in
+    let start = at-scratch-page .before .before .before .before in
     let a = start .args in
     let p = partyIn (a .party .now) in
     let s = at-load .load .result in
+    let place = at-place-of .place-of .result in
     let page = at-load .load .ensures ∙ ap (pageOf (a .pages .now)) (at-scratch-page .scratch-page .ensures) in
     let sound : pageSound (a .root) s ≡ true = sym (at-page-sound .page-sound .ensures) ∙ not-false _ (at-if1 .if1 .left) in
-    let there : hasKey (p .key) (entriesOf s) ≡ true = sym (at-has-key .has-key .ensures) ∙ at-if2 .if2 .taken in
-    at-answered .answered .ensures ∙ key-found (a .root) p (a .q) (a .locks .now) (a .pages .now) page sound there
+    let there : hasKey (p .key) (entriesOf s) ≡ true = at-place-of .place-of .ensures .has-key ∙ lt-ltb place mostRecords (at-if2 .if2 .taken) in
+    let setting : settingIn (p .key) (entriesOf s) ≡ some (at-setting-at .setting-at .result) =
+    at-place-of .place-of .ensures .setting (at-if2 .if2 .taken)
+    ∙ ap some (ap (λ (w : List ℕ). getD w (3 + place * recordWords + 1) 0) (at-load .load .ensures) ∙ sym (at-setting-at .setting-at .ensures)) in
+    at-answered .answered .ensures ∙ key-found (a .root) p (a .q) (a .locks .now) (a .pages .now) page sound there setting
 
 link-of-requires : tie.Need-link-of-requires
 link-of-requires c κs = search needs
@@ -104,18 +120,19 @@ returns-3 c =
     let at-if3 = at-answered2 .before .before .before .before in
     let at-link-of = at-if3 .before in
     let at-if2 = at-link-of .before in
-    let at-has-key = at-if2 .before in
-    let at-if1 = at-has-key .before .before in
+    let at-place-of = at-if2 .before in
+    let at-if1 = at-place-of .before .before in
     let at-page-sound = at-if1 .before in
     let at-load = at-page-sound .before in
-    let at-scratch-page = at-load .before in
-    let start = at-scratch-page .before .before .before .before .before in
+    let at-scratch-page = at-load .before .before in
+    let start = at-scratch-page .before .before .before .before in
     let a = start .args in
     let p = partyIn (a .party .now) in
     let s = at-load .load .result in
+    let place = at-place-of .place-of .result in
     let page = at-load .load .ensures ∙ ap (pageOf (a .pages .now)) (at-scratch-page .scratch-page .ensures) in
     let sound : pageSound (a .root) s ≡ true = sym (at-page-sound .page-sound .ensures) ∙ not-false _ (at-if1 .if1 .left) in
-    let missing : hasKey (p .key) (entriesOf s) ≡ false = sym (at-has-key .has-key .ensures) ∙ at-if2 .if2 .left in
+    let missing : hasKey (p .key) (entriesOf s) ≡ false = at-place-of .place-of .ensures .has-key ∙ le-ltb place mostRecords (at-if2 .if2 .left) in
     let last : linkOf s ≡ 0 = sym (at-link-of .link-of .ensures) ∙ at-if3 .if3 .taken in
     at-answered2 .answered2 .ensures ∙ no-link-absent (a .root) p (a .q) (a .locks .now) (a .pages .now) page sound missing last
 
@@ -126,8 +143,8 @@ looked-on-requires c κs =
     let at-if1 = at-link-of .before .before .before .before in
     let at-page-sound = at-if1 .before in
     let at-load = at-page-sound .before in
-    let at-scratch-page = at-load .before in
-    let start = at-scratch-page .before .before .before .before .before in
+    let at-scratch-page = at-load .before .before in
+    let start = at-scratch-page .before .before .before .before in
     let a = start .args in
     let p = partyIn (a .party .now) in
     let s = at-load .load .result in
@@ -150,18 +167,19 @@ returns-4 c =
     let at-if3 = at-looked-on .before .before in
     let at-link-of = at-if3 .before in
     let at-if2 = at-link-of .before in
-    let at-has-key = at-if2 .before in
-    let at-if1 = at-has-key .before .before in
+    let at-place-of = at-if2 .before in
+    let at-if1 = at-place-of .before .before in
     let at-page-sound = at-if1 .before in
     let at-load = at-page-sound .before in
-    let at-scratch-page = at-load .before in
-    let start = at-scratch-page .before .before .before .before .before in
+    let at-scratch-page = at-load .before .before in
+    let start = at-scratch-page .before .before .before .before in
     let a = start .args in
     let p = partyIn (a .party .now) in
     let s = at-load .load .result in
+    let place = at-place-of .place-of .result in
     let page = at-load .load .ensures ∙ ap (pageOf (a .pages .now)) (at-scratch-page .scratch-page .ensures) in
     let sound : pageSound (a .root) s ≡ true = sym (at-page-sound .page-sound .ensures) ∙ not-false _ (at-if1 .if1 .left) in
-    let missing : hasKey (p .key) (entriesOf s) ≡ false = sym (at-has-key .has-key .ensures) ∙ at-if2 .if2 .left in
+    let missing : hasKey (p .key) (entriesOf s) ≡ false = at-place-of .place-of .ensures .has-key ∙ le-ltb place mostRecords (at-if2 .if2 .left) in
     let more : linkOf s ≡ 0 → ⊥ = λ e. at-if3 .if3 .left (at-link-of .link-of .ensures ∙ e) in
     at-looked-on .looked-on .ensures (a .party .now) (a .locks .now) ∙ else-looked-on (a .root) p (a .q) (a .locks .now) (a .pages .now) page sound missing more
 
@@ -174,8 +192,10 @@ step-09-spec =
     page-sound-requires
     same-length
     returns
-    slice-read-has-key
-    has-key-requires
+    slice-read-place-of
+    place-of-requires
+    cast-if2
+    setting-at-requires
     answered-requires
     same-length-2
     same-length-3

@@ -1,5 +1,5 @@
 -- `forms::match_step` meets its contract: the pieces of the line are those of the pattern.
-use mathlib.Core.Path.{_≡_, sym, ap, _∙_}
+use mathlib.Core.Path.{sym, ap, _∙_}
 use lib.ListN.{length, drop}
 use borrow.Author.Tests.{not-true, not-false}
 use Rattle.patterns.specs.Numbers.{scan}

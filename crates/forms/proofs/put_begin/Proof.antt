@@ -3,7 +3,7 @@ use mathlib.Core.Path.{sym, ap}
 use Rattle.model.specs.declared.Operation.{Operation}
 use Rattle.forms.specs.declared.Form.the-variants as Form
 use Rattle.patterns.specs.Patterns.{filled, symbolText, numbersAfter}
-use Rattle.forms.specs.Forms.{formPattern, sizeNumbers, formNumbers, formText}
+use Rattle.forms.specs.Forms.{formPattern, operationNumbers, formNumbers, formText}
 use Rattle.patterns.proofs.Theorems.{longest}
 use Rattle.forms.proofs.Puts.{room, put-as}
 use borrow.Author.Needs.{needs}
@@ -20,18 +20,18 @@ fill-requires : tie.Need-fill-requires
 unfolding longest
 fill-requires c κs = room _ _ _ _ _ tt (c .before .before .before .before .before .pre)
 
-enum-told-2 : tie.Need-enum-told-2
-enum-told-2 c = search needs
+enum-known-operation : tie.Need-enum-known-operation
+enum-known-operation c = search needs
 
 slice-aggregate-fill-2 : tie.Need-slice-aggregate-fill-2
 slice-aggregate-fill-2 c = search needs
 
 fill-requires-2 : tie.Need-fill-requires-2
 unfolding longest
-fill-requires-2 c κs = room _ _ _ _ _ tt (c .before .before .before .before .before .pre)
+fill-requires-2 c κs = room _ _ _ _ _ tt (c .before .before .before .before .before .before .pre)
 
-enum-told-3 : tie.Need-enum-told-3
-enum-told-3 c = search needs
+enum-told-2 : tie.Need-enum-told-2
+enum-told-2 c = search needs
 
 slice-aggregate-fill-3 : tie.Need-slice-aggregate-fill-3
 slice-aggregate-fill-3 c = search needs
@@ -44,7 +44,7 @@ same-length : tie.Need-same-length
 same-length c = search needs
 
 returns : tie.Need-returns
-unfolding formText formPattern formNumbers sizeNumbers filled symbolText numbersAfter
+unfolding formText formPattern formNumbers operationNumbers filled symbolText numbersAfter
 returns c =
     let a = c .before .before .before .before .before .before .before .before .args in
     put-as _ _ _ _ (sym (ap (λ (x : Operation). formText (Form.Begin (a .q) x (a .k))) (c .before .before .before .before .before .enum-told .given .1))) (c .before .before .fill .ensures)
@@ -53,19 +53,19 @@ same-length-2 : tie.Need-same-length-2
 same-length-2 c = search needs
 
 returns-2 : tie.Need-returns-2
-unfolding formText formPattern formNumbers sizeNumbers filled symbolText numbersAfter
+unfolding formText formPattern formNumbers operationNumbers filled symbolText numbersAfter
 returns-2 c =
-    let a = c .before .before .before .before .before .before .before .before .args in
-    put-as _ _ _ _ (sym (ap (λ (x : Operation). formText (Form.Begin (a .q) x (a .k))) (c .before .before .before .before .before .enum-told2 .given .1))) (c .before .before .fill2 .ensures)
+    let a = c .before .before .before .before .before .before .before .before .before .args in
+    put-as _ _ _ _ (sym (ap (λ (x : Operation). formText (Form.Begin (a .q) x (a .k))) (c .before .before .before .before .before .before .operation .given .1))) (c .before .before .fill2 .ensures)
 
 same-length-3 : tie.Need-same-length-3
 same-length-3 c = search needs
 
 returns-3 : tie.Need-returns-3
-unfolding formText formPattern formNumbers sizeNumbers filled symbolText numbersAfter
+unfolding formText formPattern formNumbers operationNumbers filled symbolText numbersAfter
 returns-3 c =
     let a = c .before .before .before .before .before .before .before .before .args in
-    put-as _ _ _ _ (sym (ap (λ (x : Operation). formText (Form.Begin (a .q) x (a .k))) (c .before .before .before .before .before .enum-told3 .given .1))) (c .before .before .fill3 .ensures)
+    put-as _ _ _ _ (sym (ap (λ (x : Operation). formText (Form.Begin (a .q) x (a .k))) (c .before .before .before .before .before .enum-told2 .given .1))) (c .before .before .fill3 .ensures)
 
 pub put-begin-spec : {M : Type 1} → statement M
 put-begin-spec =
@@ -74,10 +74,10 @@ put-begin-spec =
     enum-told
     slice-aggregate-fill
     fill-requires
-    enum-told-2
+    enum-known-operation
     slice-aggregate-fill-2
     fill-requires-2
-    enum-told-3
+    enum-told-2
     slice-aggregate-fill-3
     fill-requires-3
     same-length

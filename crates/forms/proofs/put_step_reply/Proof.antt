@@ -1,5 +1,5 @@
 -- `forms::put_step_reply` meets its contract.
-use mathlib.Core.Path.{_≡_, sym, ap, _∙_}
+use mathlib.Core.Path.{sym, ap, _∙_}
 use mathlib.Core.List.{[], _∷_, _++_}
 use native.Mathlib.Omega.{arith}
 use lib.ListN.{length}
@@ -7,7 +7,7 @@ use lib.Seq.{length-sets}
 use Rattle.model.specs.declared.StepAnswer.{StepAnswer}
 use Rattle.forms.specs.declared.Reply.the-variants as Reply
 use Rattle.patterns.specs.Patterns.{filled, symbolText, numbersAfter}
-use Rattle.forms.specs.Replies.{replyPattern, replyNumbers, formatPattern, formatNumbers, beginPattern, beginNumbers, stepPattern, stepNumbers, replyText, stepDone, answerText, restructuringText}
+use Rattle.forms.specs.Replies.{replyPattern, replyNumbers, stepPattern, stepNumbers, replyText, stepDone, answerText, restructuringText}
 use Rattle.patterns.proofs.Theorems.{longest, filled-short}
 use Rattle.forms.proofs.Puts.{room, put-as, put-then}
 use Rattle.forms.proofs.Words.{answer-short, done-text}

@@ -31,8 +31,11 @@ match-rest-requires-2 c κs = search needs
 array-read-t26 : tie.Need-array-read-t26
 array-read-t26 c = search needs
 
-array-read-t30 : tie.Need-array-read-t30
-array-read-t30 c = search needs
+array-read-t29 : tie.Need-array-read-t29
+array-read-t29 c = search needs
+
+array-read-t33 : tie.Need-array-read-t33
+array-read-t33 c = search needs
 
 returns-2 : tie.Need-returns-2
 unfolding readBegin wholly
@@ -44,11 +47,11 @@ slice-aggregate-match-rest-3 c = search needs
 match-rest-requires-3 : tie.Need-match-rest-requires-3
 match-rest-requires-3 c κs = search needs
 
-array-read-t36 : tie.Need-array-read-t36
-array-read-t36 c = search needs
+array-read-t39 : tie.Need-array-read-t39
+array-read-t39 c = search needs
 
-array-read-t40 : tie.Need-array-read-t40
-array-read-t40 c = search needs
+array-read-t43 : tie.Need-array-read-t43
+array-read-t43 c = search needs
 
 returns-3 : tie.Need-returns-3
 unfolding readBegin wholly
@@ -73,12 +76,13 @@ read-begin-spec =
     slice-aggregate-match-rest-2
     match-rest-requires-2
     array-read-t26
-    array-read-t30
+    array-read-t29
+    array-read-t33
     returns-2
     slice-aggregate-match-rest-3
     match-rest-requires-3
-    array-read-t36
-    array-read-t40
+    array-read-t39
+    array-read-t43
     returns-3
     read-format-requires
     returns-4)

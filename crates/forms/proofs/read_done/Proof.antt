@@ -1,5 +1,5 @@
 -- `forms::read_done` meets its contract: the part before the answer, the answer and the restructuring are those of readDone.
-use mathlib.Core.Path.{_≡_, refl, sym, ap, _∙_}
+use mathlib.Core.Path.{sym, ap, _∙_}
 use lib.ListN.{length, getD, drop}
 use borrow.Author.Tests.{not-true, not-false}
 use Rattle.forms.specs.Reading.{readAnswer, doneAs, doneFrom}

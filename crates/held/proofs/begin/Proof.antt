@@ -49,7 +49,6 @@ use Rattle.model.proofs.Root as R
 use Rattle.model.proofs.Root.Laws as R′
 use Rattle.model.specs.declared.Party.{Party}
 use Rattle.model.proofs.Party as P
-use Rattle.model.proofs.Party.Laws as P′
 use Rattle.model.specs.declared.Operation.{Operation}
 use Rattle.model.proofs.Operation as O
 use Rattle.model.proofs.Operation.Laws as O′

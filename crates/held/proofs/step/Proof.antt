@@ -49,7 +49,6 @@ use Rattle.model.proofs.Root as R
 use Rattle.model.proofs.Root.Laws as R′
 use Rattle.model.specs.declared.Party.{Party}
 use Rattle.model.proofs.Party as P
-use Rattle.model.proofs.Party.Laws as P′
 use Rattle.model.specs.declared.StepAnswer.{StepAnswer}
 use Rattle.model.proofs.StepAnswer as N
 use Rattle.model.proofs.StepAnswer.Laws as N′

@@ -220,7 +220,7 @@ module _ {M : Type 1} (𝓤 : URA M) (H : Heap 𝓤) (A : Atoms 𝓤) (W : Given
         -- the record of the party is copied out of the row
         assigns ! (bin ! (load ! (from ! (stop !)) (look ! 43 refl)) (lit ! tt) (record { fits = place-fits i (length ps) (ltb→lt i (length ps) may) (room₁ .1) })) (from ! (stop !)) (init ! 33 refl (tt, record { fits = place-fits i (length ps) (ltb→lt i (length ps) may) (room₁ .1) })) $
         assigns ! (bin ! (load ! (from ! (fld ! refl (stop !))) (look-in ! 57 (sub ! 0 refl (whole !)))) (load ! (from ! (stop !)) (look ! 33 refl)) tt) (from ! (stop !)) (init ! 31 refl (tt, tt)) $
-        rewrite ! 31 (λ (x : ℕ). ‵ (fat fullShare tyPtr l₁₅ 0 (vptr b₁ x))) (sym (place-is 36 o₁ i)) refl $
+        rewrite ! 31 (λ (x : ℕ). ‵ (fat fullShare tyPtr l₁₅ 0 (vptr b₁ x))) (sym (place-is 40 o₁ i)) refl $
         move ! (4 ∷ 5 ∷ 12 ∷ []) $
         opens-slice ! tt P.the-row ps b₁ o₁ $
         elem-out ! P.the-row (Is P.the-row) (shows 𝓤 H A P.the-row) (λ d. P′.lowered d ∷ []) (P′.lowers .val-is) fullShare ps i Records.idle b₁ o₁ (ltb→lt i (length ps) may) (λ ip.
@@ -248,7 +248,7 @@ module _ {M : Type 1} (𝓤 : URA M) (H : Heap 𝓤) (A : Atoms 𝓤) (W : Given
         -- the record goes back into the row
         assigns ! (bin ! (load ! (from ! (stop !)) (look ! 48 refl)) (lit ! tt) (record { fits = place-fits i (length ps) (ltb→lt i (length ps) may) (room₁ .1) })) (from ! (stop !)) (store ! 38 refl (tt, record { fits = place-fits i (length ps) (ltb→lt i (length ps) may) (room₁ .1) })) $
         assigns ! (bin ! (load ! (from ! (fld ! refl (stop !))) (look-in ! 62 (sub ! 0 refl (whole !)))) (load ! (from ! (stop !)) (look ! 38 refl)) tt) (from ! (stop !)) (init ! 26 refl (tt, tt)) $
-        rewrite ! 26 (λ (x : ℕ). ‵ (fat fullShare tyPtr l₂₀ 0 (vptr b₁ x))) (sym (place-is 36 o₁ i)) refl $
+        rewrite ! 26 (λ (x : ℕ). ‵ (fat fullShare tyPtr l₂₀ 0 (vptr b₁ x))) (sym (place-is 40 o₁ i)) refl $
         assigns ! (of-opd ! (load ! (from ! (fld ! refl (stop !))) (look-in ! 46 (sub ! 0 refl (whole !))))) (from ! (hop ! (look ! 26 refl) (stop !))) (store-raw ! 2 refl (LL.lawful P.the-type P′.the-laws 𝓤 H A W .typed (x .party) _ (X-party x ix) .0)) $
         move ! (3 ∷ []) $
         drop ! $

@@ -153,7 +153,7 @@ module _ {M : Type 1} (𝓤 : URA M) (H : Heap 𝓤) (A : Atoms 𝓤) (W : Given
         stays ! (load ! (from ! (stop !)) (look ! 6 refl)) $
         assigns ! (bin ! (load ! (from ! (stop !)) (look ! 10 refl)) (lit ! tt) (record { fits = place-fits (i .0) n (ltb→lt (i .0) n less) (room .1) })) (from ! (stop !)) (store ! 8 refl (tt, record { fits = place-fits (i .0) n (ltb→lt (i .0) n less) (room .1) })) $
         assigns ! (bin ! (load ! (from ! (fld ! refl (stop !))) (look-in ! 14 (sub ! 0 refl (whole !)))) (load ! (from ! (stop !)) (look ! 8 refl)) tt) (from ! (stop !)) (init ! 4 refl (tt, tt)) $
-        rewrite ! 4 (λ (k : ℕ). ‵ (fat fullShare tyPtr l₆ 0 (vptr b k))) (sym (place-is 36 o (i .0))) refl $
+        rewrite ! 4 (λ (k : ℕ). ‵ (fat fullShare tyPtr l₆ 0 (vptr b k))) (sym (place-is 40 o (i .0))) refl $
         elem-out ! P.the-row (Is P.the-row) (shows 𝓤 H A P.the-row) (λ d. P′.lowered d ∷ []) (P′.lowers .val-is) fullShare (filled p (i .0) ps) (i .0) idle b o (within less) (λ _.
         assigns ! (of-opd ! (load ! (from ! (stop !)) (look ! 14 refl))) (from ! (hop ! (look ! 6 refl) (stop !))) (store-raw ! 0 refl typed) $
         move ! (1 ∷ []) $

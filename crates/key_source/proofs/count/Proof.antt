@@ -1,4 +1,4 @@
--- `key_source::count` meets its contract. The loop's invariant: the keys counted and those chosen from the place on, together, stay as many; of the keys in addition there are as many in both.
+-- `key_source::count` meets its contract. The loop's invariant: the records counted and those chosen from the place on, together, stay as many; of those in addition there are as many in both.
 use mathlib.Core.Path.{_≡_, refl, sym, ap, _∙_}
 use mathlib.Core.Bool.{cond}
 use mathlib.Core.Logic.{⊎-elim}
@@ -6,8 +6,9 @@ use mathlib.Core.List.{List, []}
 use Prim.Native.Nat.{ℕ, _+_}
 use native.Mathlib.Omega.{arith}
 use lib.ListN.{length, getD}
-use Rattle.key_source.specs.Sources.{keysAt, Sits, chosen, kept, keysOf}
-use Rattle.key_source.proofs.Places.{onward-sits, length-keysAt}
+use Rattle.model.specs.declared.Entry.{Entry}
+use Rattle.key_source.specs.Sources.{recordsAt, Sits, chosen, kept, chosenOf}
+use Rattle.key_source.proofs.Places.{onward-sits, length-recordsAt}
 use Rattle.key_source.proofs.Choices.{few-extra, length-chosen-none, most-chosen}
 use Rattle.key_source.proofs.Takings.{one-fewer, one-more, none-more, counted-on}
 use borrow.Author.Needs.{needs}
@@ -16,16 +17,16 @@ use Rattle.key_source.proofs.count.Tie as tie
 
 abbrev Inv-loop : tie.InvT-loop
 Inv-loop pages c p₀ sum₀ p sum =
-    Sits pages p × (p .left ≡ 0 → keysAt pages p ≡ []) × (sum + length (chosen c (keysAt pages p)) ≡ sum₀ + length (chosen c (keysAt pages p₀)))
+    Sits pages p × (p .left ≡ 0 → recordsAt pages p ≡ []) × (sum + length (chosen c (recordsAt pages p)) ≡ sum₀ + length (chosen c (recordsAt pages p₀)))
 
 abbrev μ-loop : tie.MeasureT-loop
-μ-loop pages c p₀ sum₀ p sum = length (keysAt pages p)
+μ-loop pages c p₀ sum₀ p sum = length (recordsAt pages p)
 
 settled-requires : tie.Need-settled-requires Inv-loop μ-loop
 settled-requires c κs = c .before .pre .0
 
-extra-keys-requires : tie.Need-extra-keys-requires Inv-loop μ-loop
-extra-keys-requires c κs = tt
+extra-records-requires : tie.Need-extra-records-requires Inv-loop μ-loop
+extra-records-requires c κs = tt
 
 loop-holds : tie.Need-loop-holds Inv-loop μ-loop
 loop-holds c = (c .before .settled .ensures .0, c .before .settled .ensures .2, refl)
@@ -46,9 +47,9 @@ add-sum c =
     let start = entered .before .before .before in
     let a = start .args in
     let s = entered .before .settled in
-    let most = most-chosen (a .s .choice) (keysAt (a .pages .now) (s .result)) in
-    let all = length-keysAt (a .pages .now) (s .result) (s .ensures .0) in
-    omega (arith, l .inv .2, most, all, entered .extra-keys .ensures, few-extra (a .s .choice))
+    let most = most-chosen (a .s .choice) (recordsAt (a .pages .now) (s .result)) in
+    let all = length-recordsAt (a .pages .now) (s .result) (s .ensures .0) in
+    omega (arith, l .inv .2, most, all, entered .extra-records .ensures, few-extra (a .s .choice))
 
 passed-requires : tie.Need-passed-requires Inv-loop μ-loop
 passed-requires c κs = search needs
@@ -82,15 +83,15 @@ loop-again c =
     (c .settled2 .ensures .0, c .settled2 .ensures .2, on ∙ l .inv .2)
 
 returns : tie.Need-returns Inv-loop μ-loop
-unfolding keysOf
+unfolding chosenOf
 returns c =
     let l = c .before .before .loop in
     let entered = c .before .before .before in
     let a = entered .before .before .before .args in
     let s = entered .before .settled in
-    let none = ap (λ (es : List ℕ). length (chosen (a .s .choice) es)) (l .inv .1 (omega (arith, c .if1 .left))) ∙ length-chosen-none (a .s .choice) in
-    let all = ap (λ (es : List ℕ). length (chosen (a .s .choice) es)) (s .ensures .1) in
-    omega (arith, l .inv .2, none, all, entered .extra-keys .ensures)
+    let none = ap (λ (es : List Entry). length (chosen (a .s .choice) es)) (l .inv .1 (omega (arith, c .if1 .left))) ∙ length-chosen-none (a .s .choice) in
+    let all = ap (λ (es : List Entry). length (chosen (a .s .choice) es)) (s .ensures .1) in
+    omega (arith, l .inv .2, none, all, entered .extra-records .ensures)
 
 pub count-spec : {M : Type 1} → statement M
 count-spec =
@@ -99,7 +100,7 @@ count-spec =
     Inv-loop
     μ-loop
     settled-requires
-    extra-keys-requires
+    extra-records-requires
     loop-holds
     mul-k
     shared-slice-read-k

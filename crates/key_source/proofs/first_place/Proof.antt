@@ -1,6 +1,6 @@
 -- `key_source::first_place` meets its contract.
 use mathlib.Core.Path.{refl}
-use Rattle.key_source.proofs.Places.{first-sits, first-keys}
+use Rattle.key_source.proofs.Places.{first-sits, first-records}
 use borrow.Author.Needs.{needs}
 use Rattle.key_source.proofs.first_place.Statement.{statement}
 use Rattle.key_source.proofs.first_place.Tie as tie
@@ -36,7 +36,7 @@ returns : tie.Need-returns
 returns c =
     let a = c .before .before .before .args in
     let can = c .before .before .before .pre in
-    (first-sits (a .pages .now) (a .page .0) (a .n) can, refl, first-keys (a .pages .now) (a .page .0) (a .n) can)
+    (first-sits (a .pages .now) (a .page .0) (a .n) can, refl, first-records (a .pages .now) (a .page .0) (a .n) can)
 
 pub first-place-spec : {M : Type 1} → statement M
 first-place-spec =

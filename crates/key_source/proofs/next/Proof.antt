@@ -1,7 +1,7 @@
 -- `key_source::next` meets its contract.
 use mathlib.Core.Path.{ap}
 use Rattle.key_source.specs.declared.Choice.{Choice}
-use Rattle.key_source.specs.Sources.{keysAt, chosen, keysOf}
+use Rattle.key_source.specs.Sources.{recordsAt, chosen, chosenOf}
 use Rattle.key_source.proofs.Choices.{no-extra}
 use borrow.Author.Needs.{needs}
 use Rattle.key_source.proofs.next.Statement.{statement}
@@ -14,19 +14,19 @@ next-with-requires : tie.Need-next-with-requires
 next-with-requires c κs = search needs
 
 next-kept-requires : tie.Need-next-kept-requires
-unfolding keysOf
+unfolding chosenOf
 next-kept-requires c κs =
     let start = c .before .before .before in
     (start .pre .0, start .pre .1, no-extra (start .args .s .choice) (c .match .keys2), start .pre .2)
 
 returns : tie.Need-returns
-unfolding keysOf
+unfolding chosenOf
 returns c =
     let a = c .before .before .before .before .before .before .args in
-    rw (ap (λ (d : Choice). chosen d (keysAt (a .pages .now) (a .s .place))) (c .before .before .c .given .1)) (c .next-with .ensures)
+    rw (ap (λ (d : Choice). chosen d (recordsAt (a .pages .now) (a .s .place))) (c .before .before .c .given .1)) (c .next-with .ensures)
 
 returns-2 : tie.Need-returns-2
-unfolding keysOf
+unfolding chosenOf
 returns-2 c = c .next-kept .ensures
 
 pub next-spec : {M : Type 1} → statement M

@@ -29,20 +29,29 @@ before-all-requires-2 c κs = search needs
 
 returns-2 : tie.Need-returns-2
 returns-2 c =
-    let s = c .before .before .before .before .before .settled in
-    let a = c .before .before .before .before .before .before .before .args in
-    let some : 1 ≤ s .result .left = omega (arith, c .before .before .before .if1 .left) in
+    let s = c .before .before .before .before .before .before .settled in
+    let a = c .before .before .before .before .before .before .before .before .args in
+    let some : 1 ≤ s .result .left = omega (arith, c .before .before .before .before .if1 .left) in
     rw (c .before-all2 .ensures) (with-given-before (a .pages .now) (a .p) (s .result) (s .ensures .0) (s .ensures .1) (a .x) some (c .before .if2 .taken))
 
 passed-requires : tie.Need-passed-requires
 passed-requires c κs = search needs
 
+add-t9 : tie.Need-add-t9
+add-t9 c = search needs
+
+mul-t12 : tie.Need-mul-t12
+mul-t12 c = search needs
+
+shared-slice-read-t11 : tie.Need-shared-slice-read-t11
+shared-slice-read-t11 c = search needs
+
 returns-3 : tie.Need-returns-3
 returns-3 c =
-    let s = c .before .before .before .before .before .settled in
-    let a = c .before .before .before .before .before .before .before .args in
-    let some : 1 ≤ s .result .left = omega (arith, c .before .before .before .if1 .left) in
-    with-given-after (a .pages .now) (a .p) (s .result) (s .ensures .0) (s .ensures .1) (a .x) (c .passed .result) some (c .before .if2 .left) (c .passed .ensures)
+    let s = c .before .before .before .before .before .before .before .settled in
+    let a = c .before .before .before .before .before .before .before .before .before .args in
+    let some : 1 ≤ s .result .left = omega (arith, c .before .before .before .before .before .if1 .left) in
+    with-given-after (a .pages .now) (a .p) (s .result) (s .ensures .0) (s .ensures .1) (a .x) (c .before .passed .result) some (c .before .before .if2 .left) (c .before .passed .ensures)
 
 pub next-with-spec : {M : Type 1} → statement M
 next-with-spec =
@@ -56,4 +65,7 @@ next-with-spec =
     before-all-requires-2
     returns-2
     passed-requires
+    add-t9
+    mul-t12
+    shared-slice-read-t11
     returns-3)

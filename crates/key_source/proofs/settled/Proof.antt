@@ -1,14 +1,14 @@
--- `key_source::settled` meets its contract. The loop's invariant: the keys from the place on are the same.
+-- `key_source::settled` meets its contract. The loop's invariant: the records from the place on are the same.
 use mathlib.Core.Path.{_≡_, refl, sym, _∙_}
 use Prim.Native.Nat.{_<_}
 use native.Mathlib.Omega.{arith}
-use Rattle.key_source.specs.Sources.{keysAt, Sits}
+use Rattle.key_source.specs.Sources.{recordsAt, Sits}
 use Rattle.key_source.proofs.Places.{linked, next-start, page-over, none-left}
 use Rattle.key_source.proofs.settled.Statement.{statement}
 use Rattle.key_source.proofs.settled.Tie as tie
 
 abbrev Inv-loop : tie.InvT-loop
-Inv-loop pages q₀ q = Sits pages q × (keysAt pages q ≡ keysAt pages q₀)
+Inv-loop pages q₀ q = Sits pages q × (recordsAt pages q ≡ recordsAt pages q₀)
 
 abbrev μ-loop : tie.MeasureT-loop
 μ-loop pages q₀ q = q .pages

@@ -1,7 +1,6 @@
 -- `lines::answer` meets its contract: what the line asks for is performed, then its reply printed.
-use mathlib.Core.Path.{_≡_, sym, _∙_, ap}
-use mathlib.Core.List.{List}
-use Prim.Native.Nat.{ℕ, _+_}
+use mathlib.Core.Path.{_∙_, ap}
+use Prim.Native.Nat.{_+_}
 use lib.ListN.{length}
 use lib.Seq.{sets}
 use Rattle.model.specs.Calls.{Called}

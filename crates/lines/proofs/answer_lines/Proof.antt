@@ -1,6 +1,6 @@
 -- `lines::answer_lines` meets its contract. The loop's invariant: the text is being answered line by line (proofs/Going.antt), and every lent slice keeps its length.
-use mathlib.Core.Path.{_≡_, refl, sym, ap, _∙_}
-use Prim.Native.Nat.{ℕ, _+_, _-_, _≤_, _<_}
+use mathlib.Core.Path.{_≡_, refl, _∙_}
+use Prim.Native.Nat.{_+_, _-_, _≤_}
 use native.Mathlib.Omega.{arith}
 use lib.ListN.{length, length-set}
 use Rattle.lines.specs.Texts.{newline}
@@ -68,7 +68,7 @@ slice-write-out : tie.Need-slice-write-out Inv-loop μ-loop
 slice-write-out c =
     let l = c .before .before .before .before .before .before .before .before .before .before .before .before .before .before .loop in
     let a = c .before .before .before .before .before .before .before .before .before .before .before .before .before .before .before .before .before .before .before .before .args in
-    let room : l .end + 48 ≤ length (a .out .now) = omega (arith, c .before .before .before .before .before .before .before .before .before .before .before .before .if1 .left, l .inv .2, l .inv .3 .within) in
+    let room : l .end + 58 ≤ length (a .out .now) = omega (arith, c .before .before .before .before .before .before .before .before .before .before .before .before .if1 .left, l .inv .2, l .inv .3 .within) in
     let made = c .before .before .before .before .before .before .before .answer in
     let below = end-below (a .text .now) (memoryOf (a .held) (a .locks .now) (a .pages .now)) (length (a .out .now)) (memoryOf (l .held) (l .locks) (l .pages)) (l .out) (l .from) (l .end) (l .to) (l .inv .3)
     _ room (made .ensures .1 .1) in
@@ -78,7 +78,7 @@ add-end : tie.Need-add-end Inv-loop μ-loop
 add-end c =
     let l = c .before .before .before .before .before .before .before .before .before .before .before .before .before .before .loop in
     let a = c .before .before .before .before .before .before .before .before .before .before .before .before .before .before .before .before .before .before .before .before .args in
-    let room : l .end + 48 ≤ length (a .out .now) = omega (arith, c .before .before .before .before .before .before .before .before .before .before .before .before .if1 .left, l .inv .2, l .inv .3 .within) in
+    let room : l .end + 58 ≤ length (a .out .now) = omega (arith, c .before .before .before .before .before .before .before .before .before .before .before .before .if1 .left, l .inv .2, l .inv .3 .within) in
     let made = c .before .before .before .before .before .before .before .answer in
     let below = end-below (a .text .now) (memoryOf (a .held) (a .locks .now) (a .pages .now)) (length (a .out .now)) (memoryOf (l .held) (l .locks) (l .pages)) (l .out) (l .from) (l .end) (l .to) (l .inv .3)
     _ room (made .ensures .1 .1) in
@@ -98,7 +98,7 @@ loop-again c =
     let l = c .before .before .before .before .before .before .before .before .before .before .before .before .before .before .before .loop in
     let a = c .before .before .before .before .before .before .before .before .before .before .before .before .before .before .before .before .before .before .before .before .before .args in
     let made = c .before .before .before .before .before .before .before .before .answer in
-    let room : l .end + 48 ≤ length (a .out .now) = omega (arith, c .before .before .before .before .before .before .before .before .before .before .before .before .before .if1 .left, l .inv .2, l .inv .3 .within) in (
+    let room : l .end + 58 ≤ length (a .out .now) = omega (arith, c .before .before .before .before .before .before .before .before .before .before .before .before .before .if1 .left, l .inv .2, l .inv .3 .within) in (
       made .kept .1 .1 .0 ∙ l .inv .0,
       made .kept .1 .1 .1 .0 ∙ l .inv .1,
       length-set (made .last .1 .1 .1 .1 .0) (made .result .end) newline ∙ made .kept .1 .1 .1 .1 .0 ∙ l .inv .2,

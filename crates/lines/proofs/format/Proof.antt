@@ -1,5 +1,5 @@
 -- `lines::format` meets its contract: a format lent the first words is the form performed.
-use mathlib.Core.Path.{_≡_, _∙_, ap}
+use mathlib.Core.Path.{_∙_, ap}
 use mathlib.Core.List.{List}
 use Prim.Native.Nat.{ℕ, _-_, min}
 use native.Mathlib.Nat.{sub-zero}

@@ -1,9 +1,9 @@
 -- `lines::line_end` meets its contract. The loop's invariant: the line that begins at `from` ends where the one that begins at `i` ends.
 use mathlib.Core.Path.{_≡_, refl, sym, ap, _∙_}
-use Prim.Native.Nat.{ℕ, suc, _+_, _-_, _≤_, _<_}
+use Prim.Native.Nat.{ℕ, _+_, _-_, _≤_}
 use native.Mathlib.Omega.{arith}
 use native.Mathlib.Nat.{add-zero}
-use lib.ListN.{length, getD, drop}
+use lib.ListN.{length, drop}
 use borrow.Author.Needs.{needs}
 use Rattle.lines.specs.Texts.{lineLength}
 use Rattle.lines.proofs.Texts.{line-here, line-on, line-over}

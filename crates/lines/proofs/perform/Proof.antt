@@ -1,5 +1,5 @@
 -- `lines::perform` meets its contract: one case a form.
-use mathlib.Core.Path.{_≡_, sym, _∙_, ap}
+use mathlib.Core.Path.{sym, _∙_, ap}
 use Rattle.held.specs.Held.{memoryOf}
 use Rattle.forms.specs.declared.Form.{Form}
 use Rattle.lines.specs.Lines.{performed}

@@ -1,5 +1,5 @@
 -- `lines::perform_line` meets its contract: a line that is no form, and one that is.
-use mathlib.Core.Path.{_≡_, sym, _∙_, ap}
+use mathlib.Core.Path.{sym, _∙_, ap}
 use Rattle.held.specs.Held.{memoryOf}
 use Rattle.forms.specs.declared.FormRead.{FormRead}
 use Rattle.lines.specs.Lines.{answeredAs, lineAnswered}

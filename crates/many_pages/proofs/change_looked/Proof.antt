@@ -2,6 +2,7 @@
 use mathlib.Core.Path.{sym, ap, _∙_}
 use native.Mathlib.Omega.{arith}
 use borrow.Author.Tests.{not-true, not-false}
+use Rattle.model.specs.Entries.{entryOf}
 use Rattle.model.specs.Chains.{chainOf}
 use Rattle.model.specs.Ready.{viewing}
 use Rattle.model.specs.Steps.Rebuild.{kept}
@@ -28,15 +29,15 @@ returns c = λ ls.
     let v = viewing (a .root) (a .party) (a .q) ls (a .pages .now) in
     let present = sym (x .found) ∙ at-if2 .if2 .taken in
     change-kept v (x .chain) (x .is-sound) (c .kept-answer .result)
-    (ap kept (c .kept-answer .ensures) ∙ key-present (a .party .operation) (a .party .key) (x .chain .entries) (at-if1 .if1 .taken) present)
+    (ap kept (c .kept-answer .ensures) ∙ key-present (a .party .operation) (a .party .key) (a .party .setting) (x .chain .entries) (at-if1 .if1 .taken) present)
 
 add-write-many : tie.Need-add-write-many
 add-write-many c =
     let start = c .before .before .before .before .before in
     let a = start .args in
     let x = looked-at (chainOf (a .root) (a .pages .now) (a .party .chain)) (a .party .key) (a .l) (start .pre .looked-through) in
-    let few = chosen-few (a .root) (a .q) (a .party .chain) (a .pages .now) (start .pre .can-change) (x .chain) (x .is-sound) (With (a .party .key)) in
-    let more = with-length (a .party .key) (x .chain .entries) in
+    let few = chosen-few (a .root) (a .q) (a .party .chain) (a .pages .now) (start .pre .can-change) (x .chain) (x .is-sound) (With (entryOf (a .party .key) (a .party .setting))) in
+    let more = with-length (entryOf (a .party .key) (a .party .setting)) (x .chain .entries) in
     omega (arith, few, more, x .count)
 
 write-many-requires : tie.Need-write-many-requires
@@ -46,7 +47,7 @@ write-many-requires c κs =
     let start = at-if1 .before .before .before in
     let a = start .args in
     let x = looked-at (chainOf (a .root) (a .pages .now) (a .party .chain)) (a .party .key) (a .l) (start .pre .looked-through) in
-    let more = with-length (a .party .key) (x .chain .entries) in
+    let more = with-length (entryOf (a .party .key) (a .party .setting)) (x .chain .entries) in
     let absent = sym (x .found) ∙ at-if2 .if2 .left in
     record {
       can-change = start .pre .can-change;
@@ -55,7 +56,7 @@ write-many-requires c κs =
       pages = x .pages;
       can-choose = tt;
       many = omega (arith, more, x .count);
-      made = made-with (a .party .operation) (a .party .key) (x .chain .entries) (at-if1 .if1 .taken) absent;
+      made = made-with (a .party .operation) (a .party .key) (a .party .setting) (x .chain .entries) (at-if1 .if1 .taken) absent;
     }
 
 same-length : tie.Need-same-length
@@ -77,7 +78,7 @@ returns-3 c = λ ls.
     let v = viewing (a .root) (a .party) (a .q) ls (a .pages .now) in
     let absent = sym (x .found) ∙ not-true _ (at-if3 .if3 .taken) in
     change-kept v (x .chain) (x .is-sound) (c .kept-answer2 .result)
-    (ap kept (c .kept-answer2 .ensures) ∙ key-absent (a .party .operation) (a .party .key) (x .chain .entries) (at-if1 .if1 .left) absent)
+    (ap kept (c .kept-answer2 .ensures) ∙ key-absent (a .party .operation) (a .party .key) (a .party .setting) (x .chain .entries) (at-if1 .if1 .left) absent)
 
 sub-write-many : tie.Need-sub-write-many
 sub-write-many c =
@@ -104,7 +105,7 @@ write-many-requires-2 c κs =
       pages = x .pages;
       can-choose = tt;
       many = omega (arith, fewer, x .count);
-      made = made-without (a .party .operation) (a .party .key) (x .chain .entries) (at-if1 .if1 .left) present;
+      made = made-without (a .party .operation) (a .party .key) (a .party .setting) (x .chain .entries) (at-if1 .if1 .left) present;
     }
 
 same-length-2 : tie.Need-same-length-2

@@ -3,7 +3,7 @@ use mathlib.Core.Path.{_≡_, subst, sym, ap, ap₂, _∙_}
 use Prim.Native.Nat.{ℕ}
 use mathlib.Core.List.{List}
 use lib.ListN.{length}
-use Rattle.model.specs.Entries.{Entry}
+use Rattle.model.specs.declared.Entry.{Entry}
 use Rattle.model.specs.Filling.{overflowNeeded, pagesFor}
 use Rattle.model.specs.FreeList.{Taken}
 use Rattle.model.specs.Ready.{viewing}
@@ -12,12 +12,12 @@ use Rattle.model.specs.Steps.Rebuild.{changed, changeOf, owedBy}
 use Rattle.chains.specs.Links.{linkedPages}
 use Rattle.free_list.proofs.Linked.{head-drawn, damage-drawn, taken-drawn}
 use Rattle.key_source.specs.declared.Source.{Source}
-use Rattle.key_source.specs.Sources.{chosen, keysOf}
+use Rattle.key_source.specs.Sources.{chosen, chosenOf}
 use Rattle.chain_writer.specs.Writing.{CanFill, chainWritten, restWritten}
 use Rattle.chain_writer.proofs.Drawing.{drawn-fills}
 use Rattle.chain_change.proofs.Changes.{no-page-answered, free-list-damaged, change-written}
 use Rattle.chain_change.proofs.ReadChains.{chain-link}
-use Rattle.many_pages.proofs.Chosen.{chain-level, can-start, keys-chosen}
+use Rattle.many_pages.proofs.Chosen.{chain-level, can-start, records-chosen}
 use borrow.Author.Needs.{needs}
 use Rattle.many_pages.proofs.write_many.Statement.{statement}
 use Rattle.many_pages.proofs.write_many.Tie as tie
@@ -79,7 +79,7 @@ write-chain-requires c κs =
     let k = at-pages-for .pages-for .result in
     let drawn-are = head-drawn (a .root) (a .pages .now) k (at-head .head .given .0 .0) (sym (at-head .head .given .1) ∙ at-draw .draw .ensures) in
     let place = at-first-place .first-place .result in
-    let keys = keys-chosen (a .root) (a .q) (a .party .chain) (a .pages .now) can d (start .pre .found) (a .n) (start .pre .pages) (a .choice) place (at-first-place .first-place .ensures .2) in
+    let records = records-chosen (a .root) (a .q) (a .party .chain) (a .pages .now) can d (start .pre .found) (a .n) (start .pre .pages) (a .choice) place (at-first-place .first-place .ensures .2) in
     let fills = drawn-fills (a .root) (a .pages .now) k (a .root .head) (can .pages-fit) (taken-drawn (a .root) (a .pages .now) k _ drawn-are .can) in
     record {
       some-key = can .some-key;
@@ -87,7 +87,7 @@ write-chain-requires c κs =
       chain = record {
         sits = at-first-place .first-place .ensures .0;
         can-choose = start .pre .can-choose;
-        many = ap length keys ∙ start .pre .many;
+        many = ap length records ∙ start .pre .many;
         page-fits = rw (at-scratch-page .scratch-page .ensures) (can .scratch .page-fits);
         can-fill = subst (λ (n : ℕ). CanFill (a .pages .now) n (a .root .head)) (at-pages-for .pages-for .ensures) fills;
       };
@@ -144,15 +144,15 @@ returns-3 c = λ ls.
     let many : k ≡ pagesFor (a .root .capacity) es = at-pages-for .pages-for .ensures ∙ ap (overflowNeeded (a .root .capacity)) (sym (start .pre .many)) in
     let drawn-are = head-drawn (a .root) (a .pages .now) k (at-head .head .given .0 .0) (sym (at-head .head .given .1) ∙ at-draw .draw .ensures) in
     let place = at-first-place .first-place .result in
-    let keys = keys-chosen (a .root) (a .q) (a .party .chain) (a .pages .now) can d (start .pre .found) (a .n) (start .pre .pages) (a .choice) place (at-first-place .first-place .ensures .2) in
+    let records = records-chosen (a .root) (a .q) (a .party .chain) (a .pages .now) can d (start .pre .found) (a .n) (start .pre .pages) (a .choice) place (at-first-place .first-place .ensures .2) in
     let source : Source = record { choice = a .choice; place = place } in
     let t : Taken = record { pages = linkedPages (a .pages .now) k (a .root .head); head = at-head .head .given .0 .0 } in
     let answer = at-changed-answer .changed-answer .result in
-    let change : changed answer es ≡ changeOf (a .party .operation) (a .party .key) (d .entries) = ap (λ (n : ℕ). changed n es) (at-changed-answer .changed-answer .ensures) ∙ start .pre .made in
+    let change : changed answer es ≡ changeOf (a .party .operation) (a .party .key) (a .party .setting) (d .entries) = ap (λ (n : ℕ). changed n es) (at-changed-answer .changed-answer .ensures) ∙ start .pre .made in
     let whole : ℕ → ℕ → List Entry → ℕ → List ℕ = λ to level fs n. chainWritten (a .root .capacity) (a .pages .now) to level fs (linkedPages (a .pages .now) n (a .root .head)) in
     let level = at-level-at .level-at .ensures ∙ chain-level (a .root) (a .q) (a .party .chain) (a .pages .now) can d (start .pre .found) in
     let written : at-write-chain .write-chain .last .1 .1 .1 .1 .0 ≡ whole (scratchPage (a .root) (a .q)) (d .level) es k
-    = at-write-chain .write-chain .ensures ∙ ap₂ (λ (to level : ℕ). whole to level (keysOf (a .pages .now) source) (overflowNeeded (a .root .capacity) (a .m))) (at-scratch-page .scratch-page .ensures) level ∙ ap₂ (whole (scratchPage (a .root) (a .q)) (d .level)) keys (sym (at-pages-for .pages-for .ensures)) in
+    = at-write-chain .write-chain .ensures ∙ ap₂ (λ (to level : ℕ). whole to level (chosenOf (a .pages .now) source) (overflowNeeded (a .root .capacity) (a .m))) (at-scratch-page .scratch-page .ensures) level ∙ ap₂ (whole (scratchPage (a .root) (a .q)) (d .level)) records (sym (at-pages-for .pages-for .ensures)) in
     let owed = c .owed-by .ensures es (start .pre .many) ∙ ap (λ (n : ℕ). owedBy (a .party .operation) n k es) (start .pre .pages) in
     change-written v d (start .pre .found) answer es change k many (at-if1 .if1 .left) t (c .owed-by .result) _ drawn-are (chain-link (a .root) (a .pages .now) (a .party .chain) d (start .pre .found)) owed written
 

@@ -1,10 +1,12 @@
 -- `merge_build::combine_with` meets its contract.
 use mathlib.Core.Path.{_≡_, refl, ap, _∙_}
-use Prim.Native.Nat.{_-_}
+use Prim.Native.Nat.{_-_, _*_}
 use native.Mathlib.Omega.{arith}
 use lib.ListN.{take}
+use Rattle.model.specs.Sizes.{recordWords}
+use Rattle.model.specs.Pages.{recordsIn}
 use Rattle.model.specs.Steps.MergeBuild.{joinedEntries}
-use Rattle.model.proofs.Laws.Lists.{front-part}
+use Rattle.model.proofs.Laws.RecordWords.{records-front}
 use Rattle.chain_keys.specs.declared.Front.{Front}
 use Rattle.merge_build.proofs.Combines.{front-need, too-few-skipped, unbuilt-damaged, built-made}
 use borrow.Author.Needs.{needs}
@@ -22,10 +24,13 @@ returns c = λ p ls m front entries.
     let at-pages-for = c .before .before in
     let start = at-pages-for .before .before .before .before in
     let a = start .args in
-    let es = take (a .j .count - 0) (a .out .now) in
-    let joins : es ≡ joinedEntries m = front-part (a .j .count) (a .out .now) ∙ entries in
+    let es = recordsIn (take (a .j .count * recordWords - 0) (a .out .now)) in
+    let joins : es ≡ joinedEntries m = records-front (a .j .count) (a .out .now) ∙ entries in
     let many = front-need (a .root .capacity) (a .j .count) (a .out .now) (start .pre .fits) (at-pages-for .pages-for .ensures) in
     too-few-skipped (a .root) p (a .q) ls (a .pages .now) m es joins _ many (c .if1 .taken)
+
+mul-end : tie.Need-mul-end
+mul-end c = search needs
 
 sub-build-chain : tie.Need-sub-build-chain
 sub-build-chain c = search needs
@@ -70,8 +75,8 @@ returns-2 c = λ p ls m front entries.
     let at-pages-for = at-if1 .before .before in
     let start = at-pages-for .before .before .before .before in
     let a = start .args in
-    let es = take (a .j .count - 0) (a .out .now) in
-    let joins : es ≡ joinedEntries m = front-part (a .j .count) (a .out .now) ∙ entries in
+    let es = recordsIn (take (a .j .count * recordWords - 0) (a .out .now)) in
+    let joins : es ≡ joinedEntries m = records-front (a .j .count) (a .out .now) ∙ entries in
     let many = front-need (a .root .capacity) (a .j .count) (a .out .now) (start .pre .fits) (at-pages-for .pages-for .ensures) in
     unbuilt-damaged (a .root) p (a .q) ls (a .pages .now) m es joins _ many (at-if1 .if1 .left) (ap (λ (j : Front). j .level) front) (at-build-chain .build-chain .ensures) (c .enum-told .given .1)
 
@@ -89,8 +94,8 @@ returns-3 c = λ p ls m front entries.
     let at-pages-for = at-if1 .before .before in
     let start = at-pages-for .before .before .before .before in
     let a = start .args in
-    let es = take (a .j .count - 0) (a .out .now) in
-    let joins : es ≡ joinedEntries m = front-part (a .j .count) (a .out .now) ∙ entries in
+    let es = recordsIn (take (a .j .count * recordWords - 0) (a .out .now)) in
+    let joins : es ≡ joinedEntries m = records-front (a .j .count) (a .out .now) ∙ entries in
     let many = front-need (a .root .capacity) (a .j .count) (a .out .now) (start .pre .fits) (at-pages-for .pages-for .ensures) in
     built-made (a .root) p (a .q) ls (a .pages .now) m es joins _ many (at-if1 .if1 .left) (ap (λ (j : Front). j .level) front) (at-build-chain .build-chain .ensures) (at-head .head .given .1) refl (ap (λ (j : Front). j .link) front)
 
@@ -101,6 +106,7 @@ combine-with-spec =
     pages-for-requires
     cast-if1
     returns
+    mul-end
     sub-build-chain
     part-build-chain-start
     part-build-chain-end

@@ -140,11 +140,7 @@ same-length-9 : tie.Need-same-length-9
 same-length-9 c = search needs
 
 same-length-10 : tie.Need-same-length-10
-same-length-10 c =
-    let at-at-step = c .before .before in
-    let at-head = at-at-step .before .before .before in
-    let start = at-head .before .before .before .before .before .before .before .before .before .before .before .before .before .before .before .before in
-    at-at-step .at-step .kept .0 ∙ length-set (start .args .party .now) 6 (at-head .head .given .0 .1 .1 .0)
+same-length-10 c = c .before .before .at-step .kept .0 ∙ simp length-set
 
 same-length-11 : tie.Need-same-length-11
 same-length-11 c = search needs

@@ -4,7 +4,7 @@ use Prim.Native.Nat.{ℕ}
 use mathlib.Core.List.{List}
 use lib.ListN.{take}
 use native.Mathlib.Omega.{arith}
-use Rattle.model.specs.Pages.{withPage, scratchPage}
+use Rattle.model.specs.Pages.{recordsIn, withPage, scratchPage}
 use Rattle.model.specs.Chains.{damaged, sound}
 use Rattle.model.specs.Filling.{primaryOf, overflowWritten}
 use Rattle.model.specs.FreeList.{Taken, pagesTaken}
@@ -68,7 +68,7 @@ returns c =
     let a = start .args in
     let xs = take (a .k) (at-take-pages .take-pages .last .1 .1 .1 .0) in
     let bad : pagesTaken (a .root) (a .pages .now) (a .k) ≡ damaged = sym (at-take-pages .take-pages .ensures) ∙ ap (λ (d : Drawn). drawnAs d xs) (c .enum-told .given .1) in
-    damaged-unwritten (a .root) (a .q) (a .pages .now) (a .level) (a .keys .now) (a .k) (start .pre .1) bad
+    damaged-unwritten (a .root) (a .q) (a .pages .now) (a .level) (recordsIn (a .words .now)) (a .k) (start .pre .1) bad
 
 same-length-3 : tie.Need-same-length-3
 same-length-3 c = search needs
@@ -90,10 +90,10 @@ returns-2 c =
     = sym (at-take-pages .take-pages .ensures) ∙ ap (λ (d : Drawn). drawnAs d (take (a .k) xs)) (at-head .head .given .1) in
     let part = front-part (a .k) xs in
     let b = a .root .capacity in
-    let whole : List ℕ → ℕ → List ℕ = λ ys n. withPage (overflowWritten b (a .pages .now) ys (a .keys .now)) n (primaryOf b (a .level) (a .keys .now) ys) in
+    let whole : List ℕ → ℕ → List ℕ = λ ys n. withPage (overflowWritten b (a .pages .now) ys (recordsIn (a .words .now))) n (primaryOf b (a .level) (recordsIn (a .words .now)) ys) in
     let pages = at-write-chain .write-chain .last .1 .1 .1 .1 .1 .0 in
     let written : pages ≡ whole (take (a .k) xs) (scratchPage (a .root) (a .q)) = at-write-chain .write-chain .ensures ∙ ap₂ whole part (at-scratch-page .scratch-page .ensures) in
-    taken-built (a .root) (a .q) (a .pages .now) (a .level) (a .keys .now) (a .k) (start .pre .1) t taken written
+    taken-built (a .root) (a .q) (a .pages .now) (a .level) (recordsIn (a .words .now)) (a .k) (start .pre .1) t taken written
 
 pub build-chain-spec : {M : Type 1} → statement M
 build-chain-spec =

@@ -1,11 +1,12 @@
 -- `merge_join::join_chains` meets its contract.
 use mathlib.Core.Path.{_≡_, sym, ap, _∙_}
-use Prim.Native.Nat.{_+_, _≤_}
+use Prim.Native.Nat.{_+_, _*_, _≤_}
 use native.Mathlib.Omega.{arith}
 use lib.ListN.{length}
+use Rattle.model.specs.Sizes.{recordWords}
 use Rattle.model.specs.Entries.{ascending}
 use Rattle.model.specs.Chains.{chainOf}
-use Rattle.chain_keys.proofs.WholeChain.{sound-ascends, gathered-damaged, gathered-whole, front-is, front-long}
+use Rattle.chain_keys.proofs.WholeChain.{sound-ascends, gathered-damaged, gathered-whole, front-is, front-words}
 use Rattle.merge_join.specs.Joining.{gatheredBoth, entriesInBoth}
 use Rattle.merge_join.proofs.Pairs.{target-damaged, partner-damaged, pair-damaged, pair-gathered, pair-in-front}
 use borrow.Author.Needs.{needs}
@@ -55,6 +56,28 @@ returns-2 c =
     let bad = sym (partner-damaged (a .root) (a .pages .now) (a .party .chain) (a .party .other) chain) in
     (ap gatheredBoth bad, ap entriesInBoth bad)
 
+mul-first : tie.Need-mul-first
+mul-first c =
+    let at-h = c .before in
+    let at-gather2 = at-h .before .before .before .before in
+    let at-g = at-gather2 .before .before .before in
+    let at-gather = at-g .before .before .before .before in
+    let start = at-gather .before .before .before .before .before .before in
+    let words = at-gather .gather .last .1 .1 .1 .1 .0 in
+    let target = gathered-whole (start .pre .target) words (at-gather .gather .ensures) (at-g .g .given .1) in
+    let long : length words ≡ length (start .args .a .now) = at-gather .gather .kept .1 .1 .1 .1 .0 in
+    record { fits = omega (arith, target .fits, long, start .pre .out-room, start .pre .few) }
+
+mul-second : tie.Need-mul-second
+mul-second c =
+    let at-h = c .before in
+    let at-gather2 = at-h .before .before .before .before in
+    let start = at-gather2 .before .before .before .before .before .before .before .before .before .before .before .before .before in
+    let others = at-gather2 .gather2 .last .1 .1 .1 .1 .0 in
+    let partner = gathered-whole (start .pre .partner) others (at-gather2 .gather2 .ensures) (at-h .h .given .1) in
+    let long : length others ≡ length (start .args .b .now) = at-gather2 .gather2 .kept .1 .1 .1 .1 .0 in
+    record { fits = omega (arith, partner .fits, long, start .pre .out-room, start .pre .few) }
+
 sub-join : tie.Need-sub-join
 sub-join c = search needs
 
@@ -89,17 +112,17 @@ join-requires c κs =
     let at-gather = at-g .before .before .before .before in
     let start = at-gather .before .before .before .before .before .before in
     let a = start .args in
-    let keys = at-gather .gather .last .1 .1 .1 .1 .0 in
+    let words = at-gather .gather .last .1 .1 .1 .1 .0 in
     let others = at-gather2 .gather2 .last .1 .1 .1 .1 .0 in
-    let target = gathered-whole (start .pre .target) keys (at-gather .gather .ensures) (at-g .g .given .1) in
+    let target = gathered-whole (start .pre .target) words (at-gather .gather .ensures) (at-g .g .given .1) in
     let partner = gathered-whole (start .pre .partner) others (at-gather2 .gather2 .ensures) (at-h .h .given .1) in
-    let long : length keys ≡ length (a .a .now) = at-gather .gather .kept .1 .1 .1 .1 .0 in
+    let long : length words ≡ length (a .a .now) = at-gather .gather .kept .1 .1 .1 .1 .0 in
     let other-long : length others ≡ length (a .b .now) = at-gather2 .gather2 .kept .1 .1 .1 .1 .0 in
     let r = a .root in
     let ps = a .pages .now in
-    let up = ap ascending (front-is _ keys target) ∙ sound-ascends r ps (a .party .chain) (target .chain) (target .is-sound) in
+    let up = ap ascending (front-is _ words target) ∙ sound-ascends r ps (a .party .chain) (target .chain) (target .is-sound) in
     let others-up = ap ascending (front-is _ others partner) ∙ sound-ascends r ps (a .party .other) (partner .chain) (partner .is-sound) in
-    (up, others-up, omega (arith, front-long _ keys target, front-long _ others partner, target .fits, partner .fits, long, other-long, start .pre .out-room))
+    (up, others-up, omega (arith, front-words _ words target, front-words _ others partner, target .fits, partner .fits, long, other-long, start .pre .out-room))
 
 add-count : tie.Need-add-count
 add-count c =
@@ -109,11 +132,11 @@ add-count c =
     let at-gather = at-g .before .before .before .before in
     let start = at-gather .before .before .before .before .before .before in
     let a = start .args in
-    let keys = at-gather .gather .last .1 .1 .1 .1 .0 in
+    let words = at-gather .gather .last .1 .1 .1 .1 .0 in
     let others = at-gather2 .gather2 .last .1 .1 .1 .1 .0 in
-    let target = gathered-whole (start .pre .target) keys (at-gather .gather .ensures) (at-g .g .given .1) in
+    let target = gathered-whole (start .pre .target) words (at-gather .gather .ensures) (at-g .g .given .1) in
     let partner = gathered-whole (start .pre .partner) others (at-gather2 .gather2 .ensures) (at-h .h .given .1) in
-    let long : length keys ≡ length (a .a .now) = at-gather .gather .kept .1 .1 .1 .1 .0 in
+    let long : length words ≡ length (a .a .now) = at-gather .gather .kept .1 .1 .1 .1 .0 in
     let other-long : length others ≡ length (a .b .now) = at-gather2 .gather2 .kept .1 .1 .1 .1 .0 in
     omega (arith, target .fits, partner .fits, long, other-long, start .pre .out-room, start .pre .few)
 
@@ -134,11 +157,11 @@ returns-3 c =
     let at-gather = at-g .before .before .before .before in
     let start = at-gather .before .before .before .before .before .before in
     let a = start .args in
-    let keys = at-gather .gather .last .1 .1 .1 .1 .0 in
+    let words = at-gather .gather .last .1 .1 .1 .1 .0 in
     let others = at-gather2 .gather2 .last .1 .1 .1 .1 .0 in
-    let target = gathered-whole (start .pre .target) keys (at-gather .gather .ensures) (at-g .g .given .1) in
+    let target = gathered-whole (start .pre .target) words (at-gather .gather .ensures) (at-g .g .given .1) in
     let partner = gathered-whole (start .pre .partner) others (at-gather2 .gather2 .ensures) (at-h .h .given .1) in
-    let long : length keys ≡ length (a .a .now) = at-gather .gather .kept .1 .1 .1 .1 .0 in
+    let long : length words ≡ length (a .a .now) = at-gather .gather .kept .1 .1 .1 .1 .0 in
     let other-long : length others ≡ length (a .b .now) = at-gather2 .gather2 .kept .1 .1 .1 .1 .0 in
     let joining = c .before .before .before .join in
     let out = joining .last .1 .1 .0 in
@@ -147,9 +170,9 @@ returns-3 c =
     let n = a .party .chain in
     let o = a .party .other in
     let out-long : length out ≡ length (a .out .now) = joining .kept .1 .1 .0 in
-    let fits : at-g .g .given .0 .0 .count + at-h .h .given .0 .0 .count ≤ length out = omega (arith, target .fits, partner .fits, long, other-long, start .pre .out-room, out-long) in (
-      pair-gathered r ps n o _ _ keys others target partner (joining .ensures .0) (c .if1 .taken) out (joining .ensures .1) fits,
-      pair-in-front r ps n o _ _ keys others target partner (joining .ensures .0) (c .if1 .taken) out (joining .ensures .1),
+    let fits : (at-g .g .given .0 .0 .count + at-h .h .given .0 .0 .count) * recordWords ≤ length out = omega (arith, target .fits, partner .fits, long, other-long, start .pre .out-room, out-long) in (
+      pair-gathered r ps n o _ _ words others target partner (joining .ensures .0) (c .if1 .taken) out (joining .ensures .1) fits,
+      pair-in-front r ps n o _ _ words others target partner (joining .ensures .0) (c .if1 .taken) out (joining .ensures .1),
     )
 
 same-length-7 : tie.Need-same-length-7
@@ -169,11 +192,11 @@ returns-4 c =
     let at-gather = at-g .before .before .before .before in
     let start = at-gather .before .before .before .before .before .before in
     let a = start .args in
-    let keys = at-gather .gather .last .1 .1 .1 .1 .0 in
+    let words = at-gather .gather .last .1 .1 .1 .1 .0 in
     let others = at-gather2 .gather2 .last .1 .1 .1 .1 .0 in
-    let target = gathered-whole (start .pre .target) keys (at-gather .gather .ensures) (at-g .g .given .1) in
+    let target = gathered-whole (start .pre .target) words (at-gather .gather .ensures) (at-g .g .given .1) in
     let partner = gathered-whole (start .pre .partner) others (at-gather2 .gather2 .ensures) (at-h .h .given .1) in
-    let bad = sym (pair-damaged (a .root) (a .pages .now) (a .party .chain) (a .party .other) _ _ keys others target partner (c .before .before .before .join .ensures .0) (c .if1 .left)) in
+    let bad = sym (pair-damaged (a .root) (a .pages .now) (a .party .chain) (a .party .other) _ _ words others target partner (c .before .before .before .join .ensures .0) (c .if1 .left)) in
     (ap gatheredBoth bad, ap entriesInBoth bad)
 
 pub join-chains-spec : {M : Type 1} → statement M
@@ -191,6 +214,8 @@ join-chains-spec =
     same-length-2
     same-length-3
     returns-2
+    mul-first
+    mul-second
     sub-join
     part-join-start
     part-join-end

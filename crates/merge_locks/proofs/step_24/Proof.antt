@@ -8,7 +8,7 @@ use borrow.Author.Tests.{not-true, not-false}
 use Rattle.model.specs.declared.Mode.the-variants.{Exclusive}
 use Rattle.model.specs.LockWords.{chainWord}
 use Rattle.model.specs.Steps.MergeLocks.{mergeStops, targetOf, merging}
-use Rattle.records.specs.Words.{recordWords, partyIn, seen}
+use Rattle.records.specs.Words.{partyWords, partyIn, seen}
 use Rattle.records.proofs.Words.{party-is}
 use Rattle.addresses.proofs.Limits.{ready-root-fits}
 use Rattle.lock_requests.proofs.Requests.{granted-request-moves, other-request-waits}
@@ -104,7 +104,7 @@ slice-write-party-2 : tie.Need-slice-write-party-2
 slice-write-party-2 c =
     let at-merge-target = c .before .before .before .before .before .before .before in
     let start = at-merge-target .before .before .before .before .before .before in
-    let long : length (start .args .party .now) ≡ recordWords = start .pre .words in
+    let long : length (start .args .party .now) ≡ partyWords = start .pre .words in
     omega (arith, length-set (start .args .party .now) 4 (at-merge-target .merge-target .result .0))
 
 at-step-requires : tie.Need-at-step-requires

@@ -5,7 +5,7 @@ use Prim.Native.Nat.{_+_, _≤_, _<_}
 use native.Mathlib.Omega.{arith}
 use lib.ListN.{length, length-append, length-set}
 use Rattle.model.specs.declared.Root.{Root}
-use Rattle.model.specs.Pages.{zeroPage, filledPage}
+use Rattle.model.specs.Pages.{zeroPage, filledPage, wordsOf}
 use Rattle.model.specs.Chains.{listFrom}
 use Rattle.records.specs.Words.{rootIn, partyIn}
 use Rattle.records.proofs.Words.{free-list-written, root-is}
@@ -121,7 +121,7 @@ same-length-4 : tie.Need-same-length-4
 same-length-4 c = search needs
 
 returns-2 : tie.Need-returns-2
-unfolding zeroPage filledPage
+unfolding zeroPage filledPage wordsOf
 returns-2 c = λ q ls.
     let at-at-step = c .before .before in
     let at-store = at-at-step .before .before .before .before in

@@ -15,7 +15,7 @@ use Rattle.model.specs.declared.Root.{Root}
 use Rattle.model.specs.declared.Party.{Party}
 use Rattle.model.specs.Sizes.{pageWords}
 use Rattle.model.specs.Records.{withFreeList, atStep}
-use Rattle.model.specs.Entries.{Entry}
+use Rattle.model.specs.declared.Entry.{Entry}
 use Rattle.model.specs.Pages.{pageOf, withPage, primaryPage, scratchPage, linkToFirst, zeroPage}
 use Rattle.model.specs.Chains.{chainOf, sound}
 use Rattle.model.specs.Filling.{pagesFor, primaryOf, overflowWritten}

@@ -12,7 +12,7 @@ use Rattle.model.specs.declared.OperationAnswer.{OperationAnswer}
 use Rattle.model.specs.declared.Restructuring.{Restructuring}
 use Rattle.model.specs.Sizes.{lockWords}
 use Rattle.model.specs.Records.{idle}
-use Rattle.model.specs.Answers.{answerNumber, answerOf, refusalNumber}
+use Rattle.model.specs.Answers.{answerOf, refusalNumber}
 use Rattle.model.specs.LockWords.{Claim}
 use Rattle.model.specs.Pages.{withPage, scratchPage, zeroPage}
 use Rattle.model.specs.Endings.{done, endedWith}
@@ -29,6 +29,7 @@ use Rattle.model.proofs.Invariant.Turn.{Plain, Turn, before, claimsAt, 
 use Rattle.model.proofs.Effects.Kept.{Kept, assemble}
 use Rattle.model.proofs.Effects.ScratchPage.{scratch-same, scratch-parts}
 use Rattle.model.proofs.Effects.GiveUps.{Apart, given-up-rest, held-all, release-all}
+use Rattle.model.proofs.Laws.Answers.{same-answer}
 
 -- Every lock of a list is claimed by it.
 pub claims-claimed : (cs : List Claim) → All (λ c. isClaimed cs (c .word) (c .mode) ≡ true) cs
@@ -80,7 +81,7 @@ module _ {m : Memory} {b : Book} {q k : ℕ} (t : Turn m b q k) {a : OperationAn
       rw (given-up-rest cs (viewOf m q))
       (record {
         allowed = refl;
-        right = rw (still, t .busy .entry, x .noted, eqb-same (answerNumber a) (answerNumber a) refl) refl;
+        right = rw (still, t .busy .entry, x .noted, same-answer a) refl;
         inv = rw still done-inv;
       })
 

@@ -1,4 +1,4 @@
--- What is owed of a step: it is not refused, it agrees with the set book, and the invariant holds after it; and how
+-- What is owed of a step: it is not refused, it agrees with the book, and the invariant holds after it; and how
 -- the parts of the invariant are put together again.
 -- Main statements: Kept; row-same, row-other, row-chain (the row after one record changed); ExtentsStay and
 -- extents-move, ExtentsByOne and extents-by-one, extents-leave; assemble; waits-kept (a waiting call), moved-kept (a

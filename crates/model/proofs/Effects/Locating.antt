@@ -48,6 +48,7 @@ locating {m} {b} {q} {k} t n lev chain x = record {
   busy = record {
     entry = t .busy .entry;
     same-operation = t .busy .same-operation;
+    same-setting = t .busy .same-setting;
     same-key = t .busy .same-key;
     step-fits = x .has-next;
     lev-fits = x .lev-fits;

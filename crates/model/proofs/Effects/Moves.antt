@@ -41,6 +41,7 @@ module _ {m : Memory} {b : Book} {q k : ℕ} (t : Turn m b q k) (n : ℕ) (has :
   busy-as s entry= chains= c o l w c-fits o-fits w-fits = record {
     entry = entry= ∙ t .busy .entry;
     same-operation = t .busy .same-operation;
+    same-setting = t .busy .same-setting;
     same-key = t .busy .same-key;
     step-fits = has;
     lev-fits = t .busy .lev-fits;

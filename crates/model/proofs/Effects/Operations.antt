@@ -1,4 +1,4 @@
--- What an operation with step 10, an insert or a delete, decides there about its chain, beside the note that the set book makes of the same step.
+-- What an operation with step 10, an insert or a delete, decides there about its chain, beside the note that the book makes of the same step.
 -- Main statements: KeepsChain, ChangesChain, decided (the note is the answer where nothing changes, else no page); owed-small.
 use mathlib.Core.Path.{_≡_, refl}
 use mathlib.Core.Logic.{_≢_}
@@ -11,7 +11,8 @@ use Rattle.model.specs.declared.Operation.{Operation}
 use Rattle.model.specs.declared.Operation.the-variants as Operation
 use Rattle.model.specs.declared.OperationAnswer.the-variants as OperationAnswer
 use Rattle.model.specs.Answers.{operationNumber, answerNumber, answerOf}
-use Rattle.model.specs.Entries.{Entry, hasKey}
+use Rattle.model.specs.declared.Entry.{Entry}
+use Rattle.model.specs.Entries.{hasKey}
 use Rattle.model.specs.Book.{noteAtTen}
 use Rattle.model.specs.Steps.Rebuild.{Change, kept, changed, changeOf, splitOwed, mergeOwed, owedBy}
 use Rattle.model.specs.Steps.Write.{isChange}
@@ -36,15 +37,15 @@ abbrev pub Decided : Operation → Bool → Change → Type 0
 Decided o there (kept a) = KeepsChain o there a
 Decided o there (changed a es) = ChangesChain o there a
 
-pub decided : (o : Operation) (n k : ℕ) (es : List Entry) → operationNumber o ≡ n → hasStep n 10 ≡ true → Decided o (hasKey k es) (changeOf n k es)
+pub decided : (o : Operation) (n k x : ℕ) (es : List Entry) → operationNumber o ≡ n → hasStep n 10 ≡ true → Decided o (hasKey k es) (changeOf n k x es)
 unfolding operationNumber hasStep changeOf answerNumber answerOf noteAtTen isChange
-decided Operation.Find n k es e h = absurd (false≢true (rw (← e) at h))
-decided Operation.Insert n k es e h = rw (← e) (go (hasKey k es) _)
+decided Operation.Find n k x es e h = absurd (false≢true (rw (← e) at h))
+decided (Operation.Insert y) n k x es e h = rw (← e) (go (hasKey k es) _)
   where
-    go : (there : Bool) (after : List Entry) → Decided Operation.Insert there (cond there (kept 2) (changed 1 after))
+    go : (there : Bool) (after : List Entry) → Decided (Operation.Insert y) there (cond there (kept 2) (changed 1 after))
     go true after = record { noted = refl; no-change = refl; some-answer = omega arith; answer-fits = omega arith }
     go false after = record { noted = refl; answer-fits = omega arith }
-decided Operation.Delete n k es e h = rw (← e) (go (hasKey k es) _)
+decided Operation.Delete n k x es e h = rw (← e) (go (hasKey k es) _)
   where
     go : (there : Bool) (after : List Entry) → Decided Operation.Delete there (cond there (changed 3 after) (kept 4))
     go true after = record { noted = refl; answer-fits = omega arith }

@@ -14,7 +14,7 @@ use Rattle.model.specs.declared.Mode.{Mode}
 use Rattle.model.specs.declared.Mode.the-variants.{Read, Selective, Exclusive}
 use Rattle.model.specs.Sizes.{pageWords}
 use Rattle.model.specs.LockWords.{chainWord}
-use Rattle.model.specs.Entries.{Entry}
+use Rattle.model.specs.declared.Entry.{Entry}
 use Rattle.model.specs.Pages.{pageOf, withPage, levelOf, pageSound, scratchPage, primaryPage, mostLevel}
 use Rattle.model.specs.Filling.{primaryOf}
 use Rattle.model.specs.Memory.{Memory, partyAt}

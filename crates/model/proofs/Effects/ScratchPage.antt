@@ -4,7 +4,7 @@
 -- invariant after such a step); copied-walks (a page copied there by a find).
 use mathlib.Core.Path.{_≡_, refl, sym, ap, _∙_}
 use mathlib.Core.Logic.{_≢_, _⊎_, inl, inr}
-use mathlib.Core.Bool.{true, false, cond, false≢true}
+use mathlib.Core.Bool.{true, false, false≢true}
 use mathlib.Core.List.{List, [], _∷_, _++_}
 use mathlib.Core.Option.{some}
 use Prim.Native.Nat.{ℕ, _+_, _≤_, _<_}
@@ -12,14 +12,14 @@ use native.Mathlib.Omega.{arith}
 use lib.ListN.{length, set}
 use lib.Dec.{eqb}
 use Rattle.model.specs.declared.Party.{Party}
-use Rattle.model.specs.declared.OperationAnswer.the-variants as OperationAnswer
 use Rattle.model.specs.Sizes.{pageWords}
-use Rattle.model.specs.Entries.{hasKey}
+use Rattle.model.specs.Entries.{settingIn}
 use Rattle.model.specs.Pages.{pageOf, withPage, linkOf, entriesOf, pageSound, linkToFirst, scratchPage}
 use Rattle.model.specs.Chains.{entriesOn}
 use Rattle.model.specs.FreeList.{isAmong}
 use Rattle.model.specs.Memory.{Memory}
 use Rattle.model.specs.Book.{Book, Entered}
+use Rattle.model.specs.Answers.{foundOrAbsent}
 use Rattle.model.proofs.Laws.Lists.{eqb-diff, eqb-false, or-neither, first-or-rest}
 use Rattle.model.proofs.Laws.Pages.{Has, length-withPage, page-same, page-other}
 use Rattle.model.proofs.Laws.Structure.{Linked, SameOn, linked-frame, free-frame}
@@ -132,7 +132,7 @@ pub record Leads (s : Scene) (q : ℕ) (p : Party) (e : Entered) (w rest : List 
   pub linked : Linked (s .root) (s .pages) rest
   pub once : (x : ℕ) → count x rest ≤ 1
   pub protected : (x : ℕ) → isAmong x rest ≡ true → Protected s (p .chain) x
-  pub note-is : e .note ≡ some (cond (hasKey (p .key) (entriesOf w ++ entriesOn (s .pages) rest)) OperationAnswer.Found OperationAnswer.Absent)
+  pub note-is : e .note ≡ some (foundOrAbsent (settingIn (p .key) (entriesOf w ++ entriesOn (s .pages) rest)))
   pub no-pages : NoPages s q
 
 -- The party then walks.

@@ -11,7 +11,8 @@ use lib.ListN.{length, set, List·getD-eq-default}
 use lib.Dec.{eqb}
 use Rattle.model.specs.declared.Party.{Party}
 use Rattle.model.specs.Records.{idle}
-use Rattle.model.specs.Entries.{Entry, ascending, hasKey}
+use Rattle.model.specs.declared.Entry.{Entry}
+use Rattle.model.specs.Entries.{ascending, hasKey}
 use Rattle.model.specs.Addresses.{hash}
 use Rattle.model.specs.Pages.{pageOf, primaryPage, scratchPage, linkToFirst, zeroPage}
 use Rattle.model.specs.FreeList.{isAmong}

@@ -1,6 +1,6 @@
 -- The facts of a party whose step number is known, and facts that go by the ghost alone.
 -- Main statements: At and facts-at (a party under way with its facts), used-outside (a primary page in use outside the live file), no-pages-held, still-noted (a step whose number the
--- book does not note), changed-here, changed-elsewhere.
+-- book does not note), book-has (a key is in the book where its live home chain has it), changed-here, changed-elsewhere.
 use mathlib.Core.Path.{_≡_, refl, sym, ap, _∙_, subst}
 use mathlib.Core.Logic.{_≢_, _⊎_, inl, inr}
 use mathlib.Core.Bool.{true, false, _||_, false≢true}
@@ -13,11 +13,14 @@ use Rattle.model.specs.declared.Party.{Party}
 use Rattle.model.specs.Sizes.{within}
 use Rattle.model.specs.Records.{idle}
 use Rattle.model.specs.Memory.{Memory, partyAt}
-use Rattle.model.specs.Book.{Book, Entered, changedAt, noteFor, noteStep}
-use Rattle.model.specs.Addresses.{countOfChains}
+use Rattle.model.specs.declared.Root.{Root}
+use Rattle.model.specs.Entries.{hasKey}
+use Rattle.model.specs.Book.{Book, Entered, isIn, changedAt, noteFor, noteStep}
+use Rattle.model.specs.Addresses.{countOfChains, addressOf}
+use Rattle.model.proofs.Laws.Entries.{has-setting}
 use Rattle.model.proofs.Laws.Lists.{eqb-true, eqb-same, eqb-diff, Ord, lt, ge, ord, and-both, or-either}
-use Rattle.model.proofs.Invariant.Ghost.{rootExtent, size}
-use Rattle.model.proofs.Invariant.Statement.{restructures, liveFor, uses, Scene, NoPages, factsAt, Busy, PartyOk, resting, working, sceneOf, Inv}
+use Rattle.model.proofs.Invariant.Ghost.{Ghost, rootExtent, size}
+use Rattle.model.proofs.Invariant.Statement.{restructures, liveFor, uses, BookOk, Scene, NoPages, factsAt, Busy, PartyOk, resting, working, sceneOf, Inv}
 
 -- A party under way at step number n: its entry in the book, its bounds and its facts.
 pub record At (n : ℕ) (s : Scene) (q : ℕ) (p : Party) : Type 0 where
@@ -73,6 +76,10 @@ pub still-noted : (b : Book) (q : ℕ) (x : Option Entered) (n : ℕ) → n ≢ 
 unfolding noteFor noteStep
 still-noted b q none n x6 x10 x11 = refl
 still-noted b q (some e) n x6 x10 x11 = rw (eqb-diff n 6 x6, eqb-diff n 10 x10, eqb-diff n 11 x11) refl
+
+-- A key is in the book exactly where its live home chain has it.
+pub book-has : {r : Root} {g : Ghost} {b : Book} → BookOk r g b → (k : ℕ) → isIn (b .contents k) ≡ hasKey k (g .records (addressOf (r .originals) (g .live .level) (g .live .next) k))
+book-has {r} {g} {b} x k = ap isIn (x .same k) ∙ has-setting k (g .records (addressOf (r .originals) (g .live .level) (g .live .next) k))
 
 -- A function changed at one number.
 pub changed-here : {A : Type 0} (f : ℕ → A) (k : ℕ) (a : A) (j : ℕ) → j ≡ k → changedAt f k a j ≡ a

@@ -13,7 +13,8 @@ use Rattle.model.specs.declared.Party.{Party}
 use Rattle.model.specs.declared.Mode.{Mode}
 use Rattle.model.specs.declared.Mode.the-variants.{Read, Selective, Exclusive}
 use Rattle.model.specs.LockWords.{Claim, chainWord}
-use Rattle.model.specs.Entries.{Entry, staying, going, joined}
+use Rattle.model.specs.declared.Entry.{Entry}
+use Rattle.model.specs.Entries.{staying, going, joined}
 use Rattle.model.specs.Pages.{pageOf, linkOf, pageSound, linkSound, namesOverflow, linkToFirst, primaryPage}
 use Rattle.model.specs.Chains.{entriesOn}
 use Rattle.model.specs.FreeList.{isAmong}
@@ -325,6 +326,7 @@ module _ (s t : Scene) (j : ℕ) (p : Party) (k : Keeps s t j p) where
   busy-kept e h = record {
     entry = k .entry= ∙ h .entry;
     same-operation = h .same-operation;
+    same-setting = h .same-setting;
     same-key = h .same-key;
     step-fits = h .step-fits;
     lev-fits = h .lev-fits;

@@ -6,7 +6,7 @@ use mathlib.Core.List.{List, []}
 use Prim.Native.Nat.{ℕ, _+_, _≤_, _<_}
 use lib.Dec.{ltb, leb, eqb}
 use Rattle.model.specs.declared.Root.{Root}
-use Rattle.model.specs.Entries.{Entry}
+use Rattle.model.specs.declared.Entry.{Entry}
 use Rattle.model.specs.Addresses.{span, chainCount}
 use Rattle.model.specs.FreeList.{isAmong}
 unfoldable pub use Rattle.model.specs.PagePlaces.{count}

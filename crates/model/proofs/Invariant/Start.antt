@@ -14,7 +14,7 @@ use Rattle.model.specs.declared.Party.{Party}
 use Rattle.model.specs.Sizes.{mostRecords, within, withinLimits, lockWords}
 use Rattle.model.specs.Records.{idle, rootOfSizes}
 use Rattle.model.specs.Addresses.{span, chainCount}
-use Rattle.model.specs.Entries.{hasKey, ascending}
+use Rattle.model.specs.Entries.{hasKey, ascending, settingIn}
 use Rattle.model.specs.Pages.{pageOf, zeroPage, linkToFirst, primaryPage}
 use Rattle.model.specs.Filling.{primaryOf}
 use Rattle.model.specs.Memory.{partyAt, formatted, formattedRoot, formattedPages}
@@ -165,7 +165,7 @@ module _ (n b p v q : ℕ) (fits : withinLimits (rootOfSizes n b p v q) ≡ true
   }
 
   start-book : BookOk root ghost emptyBook
-  unfolding hasKey emptyBook
+  unfolding settingIn emptyBook
   start-book = record { same = λ k. refl }
 
   abbrev scene : Scene

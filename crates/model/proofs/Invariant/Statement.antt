@@ -1,5 +1,5 @@
--- THE INVARIANT: what holds of the memory, with the set book beside it, after every list of calls from formatted memory.
--- Main statements: Limits; ExtentsOk (how far the live file extends); PagesOk (who owns each page, and what each page holds); BookOk (the book's set is the keys of the live chains);
+-- THE INVARIANT: what holds of the memory, with the book beside it, after every list of calls from formatted memory.
+-- Main statements: Limits; ExtentsOk (how far the live file extends); PagesOk (who owns each page, and what each page holds); BookOk (the book's map is the records of the live chains);
 -- the facts of a party by its step number (factTable), PartyOk; Inv.
 use mathlib.Core.Path.{_≡_}
 use mathlib.Core.Logic.{_≢_}
@@ -11,19 +11,18 @@ use lib.ListN.{length, getD, drop}
 use lib.Dec.{eqb}
 use Rattle.model.specs.declared.Root.{Root}
 use Rattle.model.specs.declared.Party.{Party}
-use Rattle.model.specs.declared.OperationAnswer.{OperationAnswer}
-use Rattle.model.specs.declared.OperationAnswer.the-variants as OperationAnswer
 use Rattle.model.specs.Sizes.{mostRecords, lockWords, allPageWords, within}
 use Rattle.model.specs.Records.{idle}
-use Rattle.model.specs.Answers.{operationNumber, answerOf}
+use Rattle.model.specs.Answers.{operationNumber, settingGiven, answerOf, foundOrAbsent}
 use Rattle.model.specs.Addresses.{span, hash, addressOf, countOfChains, mergePartner}
-use Rattle.model.specs.Entries.{Entry, hasKey, ascending, staying, going, joined}
+use Rattle.model.specs.declared.Entry.{Entry}
+use Rattle.model.specs.Entries.{hasKey, ascending, staying, going, joined, settingIn}
 use Rattle.model.specs.Pages.{pageOf, linkOf, entriesOf, linkToFirst, pageSound, primaryPage, scratchPage, zeroPage}
 use Rattle.model.specs.Chains.{entriesOn}
 use Rattle.model.specs.Filling.{primaryOf}
 use Rattle.model.specs.FreeList.{isAmong}
 use Rattle.model.specs.Memory.{Memory, partyAt}
-use Rattle.model.specs.Book.{Book, Entered, isIn}
+use Rattle.model.specs.Book.{Book, Entered}
 unfoldable pub use Rattle.model.specs.Consistency.{restructures}
 use Rattle.model.specs.Steps.Rebuild.{changed, changeOf, owedBy}
 use Rattle.model.specs.Steps.Write.{isChange}
@@ -101,11 +100,11 @@ pub record PagesOk (r : Root) (ps : List Party) (m : List ℕ) (g : Ghost) : Typ
   -- A primary page outside the live file that nobody uses is zero.
   pub dead : (c : ℕ) → size (r .originals) (g .live) ≤ c → c < r .primaries → ((q : ℕ) → uses (partyAt ps q) c ≡ false) → pageOf m (primaryPage c) ≡ zeroPage
 
--- ---- The book's set
+-- ---- The book's map
 
 pub record BookOk (r : Root) (g : Ghost) (b : Book) : Type 0 where
-  -- A key is in the book's set exactly where its live home chain has it.
-  pub same : (k : ℕ) → isIn (b .contents k) ≡ hasKey k (g .records (addressOf (r .originals) (g .live .level) (g .live .next) k))
+  -- The book has of a key what its live home chain has.
+  pub same : (k : ℕ) → b .contents k ≡ settingIn k (g .records (addressOf (r .originals) (g .live .level) (g .live .next) k))
 
 -- ---- The facts of a party
 
@@ -172,7 +171,7 @@ pub record Walking (s : Scene) (q : ℕ) (p : Party) (e : Entered) : Type 0 wher
   pub linked : Linked (s .root) (s .pages) rest
   pub once : (x : ℕ) → count x rest ≤ 1
   pub protected : (x : ℕ) → isAmong x rest ≡ true → Protected s (p .chain) x
-  pub note-is : e .note ≡ some (cond (hasKey (p .key) (entriesOf (scratchIn s q) ++ entriesOn (s .pages) rest)) OperationAnswer.Found OperationAnswer.Absent)
+  pub note-is : e .note ≡ some (foundOrAbsent (settingIn (p .key) (entriesOf (scratchIn s q) ++ entriesOn (s .pages) rest)))
   pub no-pages : NoPages s q
 
 -- 10 and 11: the chain is the key's home.
@@ -193,7 +192,7 @@ KeepsLink s p = p .old ≡ linkToFirst (heldIn s (inChain (p .chain)))
 pub record Rebuilt (s : Scene) (q : ℕ) (p : Party) : Type 0 where
   pub at-home : AtHome s p
   pub after : List Entry
-  pub change : changeOf (p .operation) (p .key) (s .ghost .records (p .chain)) ≡ changed (p .answer) after
+  pub change : changeOf (p .operation) (p .key) (p .setting) (s .ghost .records (p .chain)) ≡ changed (p .answer) after
   pub building : Building s q (localLevel (s .root .originals) (s .ghost .live) (p .chain)) after
   pub keeps-link : KeepsLink s p
   pub owed-is : p .owed ≡ owedBy (p .operation) (length (heldIn s (inChain (p .chain)))) (length (heldIn s (builtBy q))) after
@@ -360,6 +359,7 @@ factsAt k = getD factTable k factsNone
 pub record Busy (s : Scene) (q : ℕ) (p : Party) (e : Entered) : Type 0 where
   pub entry : s .entries q ≡ some e
   pub same-operation : operationNumber (e .operation) ≡ p .operation
+  pub same-setting : settingGiven (e .operation) ≡ p .setting
   pub same-key : e .key ≡ p .key
   pub step-fits : hasStep (p .operation) (p .step) ≡ true
   pub lev-fits : p .lev ≤ 9
@@ -379,7 +379,7 @@ pub data PartyOk (s : Scene) (q : ℕ) (p : Party) : Type 0 where
 abbrev pub sceneOf : Memory → Ghost → Book → Scene
 sceneOf m g b = record { root = m .root; parties = m .parties; pages = m .pages; ghost = g; entries = b .entries }
 
--- The invariant of a memory with the set book beside it.
+-- The invariant of a memory with the book beside it.
 pub record Inv (m : Memory) (b : Book) : Type 0 where
   -- What only the proof knows.
   pub ghost : Ghost
@@ -394,7 +394,7 @@ pub record Inv (m : Memory) (b : Book) : Type 0 where
   pub locks-ok : LocksOk (lockWords (m .root)) (m .locks) (claimed (m .root) (m .parties))
   -- Every page is owned and filled as the ghost says.
   pub pages-ok : PagesOk (m .root) (m .parties) (m .pages) ghost
-  -- The book's set is the keys of the live chains.
+  -- The book's map is the records of the live chains.
   pub book-ok : BookOk (m .root) ghost b
   -- Each party of the row rests or works as its step number says.
   pub parties-ok : (q : ℕ) → q < m .root .parties → PartyOk (sceneOf m ghost b) q (partyAt (m .parties) q)

@@ -1,13 +1,17 @@
--- An ascending list of records is determined by its keys.
+-- An ascending list of records is determined by its keys and their settings.
 -- Main statements: beyond-first; same-ascending.
 use mathlib.Core.Path.{_≡_, refl, sym, ap, _∙_}
 use mathlib.Core.Logic.{_≢_, _⊎_, inl, inr}
 use mathlib.Core.Bool.{true, false}
 use mathlib.Core.List.{List, [], _∷_}
+use mathlib.Core.Option.{some}
 use Prim.Native.Nat.{ℕ, _<_}
 use native.Mathlib.Omega.{arith}
 use lib.Dec.{eqb}
-use Rattle.model.specs.Entries.{Entry, keyOf, hasKey, belowFirst, ascending}
+use Rattle.model.specs.declared.Entry.{Entry}
+use Rattle.model.specs.Entries.{keyOf, settingOf, entryOf, hasKey, settingIn, belowFirst, ascending}
+use Rattle.model.specs.Book.{isIn}
+use Rattle.model.proofs.Laws.Entries.{has-setting, setting-absent}
 use Rattle.model.proofs.Laws.Lists.{Cmp, same, diff, cmp, and-both, left-or, or-either, eqb-true, eqb-same, eqb-diff, ltb-true, true≢false, false≢true}
 use Rattle.model.proofs.Laws.Joins.{below-absent}
 
@@ -52,30 +56,49 @@ has-none : (k : ℕ) → hasKey k [] ≡ false
 unfolding hasKey
 has-none k = refl
 
--- Another key than the first is in the list where it is in the rest.
-has-rest : (e : Entry) (es : List Entry) (k : ℕ) → keyOf e ≢ k → hasKey k (e ∷ es) ≡ hasKey k es
-unfolding hasKey
-has-rest e es k n = rw (eqb-diff (keyOf e) k n) refl
+-- The settings of the first and of another key.
+setting-first : (e : Entry) (es : List Entry) → settingIn (keyOf e) (e ∷ es) ≡ some (settingOf e)
+unfolding settingIn
+setting-first e es = rw (eqb-same (keyOf e) (keyOf e) refl) refl
 
--- ---- Two lists with the same keys
+setting-rest : (e : Entry) (es : List Entry) (k : ℕ) → keyOf e ≢ k → settingIn k (e ∷ es) ≡ settingIn k es
+unfolding settingIn
+setting-rest e es k n = rw (eqb-diff (keyOf e) k n) refl
 
-pub same-ascending : (xs ys : List Entry) → ascending xs ≡ true → ascending ys ≡ true → ((k : ℕ) → hasKey k xs ≡ hasKey k ys) → xs ≡ ys
+-- ---- Two lists with the same keys and settings
+
+-- Records with the same key and the same setting.
+same-record : (x y : Entry) → keyOf x ≡ keyOf y → some (settingOf x) ≡ some (settingOf y) → x ≡ y
+same-record x y s t = ap (λ (k : ℕ). entryOf k (settingOf x)) s ∙ ap (entryOf (keyOf y)) cc
+
+-- The same settings are the same keys.
+same-keys : (xs ys : List Entry) → ((k : ℕ) → settingIn k xs ≡ settingIn k ys) → (k : ℕ) → hasKey k xs ≡ hasKey k ys
+same-keys xs ys f k = sym (has-setting k xs) ∙ ap isIn (f k) ∙ has-setting k ys
+
+pub same-ascending : (xs ys : List Entry) → ascending xs ≡ true → ascending ys ≡ true → ((k : ℕ) → settingIn k xs ≡ settingIn k ys) → xs ≡ ys
 same-ascending [] [] a b f = refl
-same-ascending [] (y ∷ ys) a b f = absurd (false≢true (sym (has-none (keyOf y)) ∙ f (keyOf y) ∙ has-first y ys))
-same-ascending (x ∷ xs) [] a b f = absurd (true≢false (sym (has-first x xs) ∙ f (keyOf x) ∙ has-none (keyOf x)))
+same-ascending [] (y ∷ ys) a b f = absurd (false≢true (sym (has-none (keyOf y)) ∙ same-keys [] (y ∷ ys) f (keyOf y) ∙ has-first y ys))
+same-ascending (x ∷ xs) [] a b f = absurd (true≢false (sym (has-first x xs) ∙ same-keys (x ∷ xs) [] f (keyOf x) ∙ has-none (keyOf x)))
 same-ascending (x ∷ xs) (y ∷ ys) a b f = go (cmp (keyOf x) (keyOf y)) (same-ascending xs ys (rest-ascends x xs a) (rest-ascends y ys b))
   where
-    rests : keyOf x ≡ keyOf y → (k : ℕ) → Cmp (keyOf x) k → hasKey k xs ≡ hasKey k ys
-    rests s k (same e) =
-        ap (λ (j : ℕ). hasKey j xs) (sym e) ∙ first-once x xs a ∙ sym (first-once y ys b) ∙ ap (λ (j : ℕ). hasKey j ys) (sym s ∙ e)
-    rests s k (diff n) = sym (has-rest x xs k n) ∙ f k ∙ has-rest y ys k (λ e. n (s ∙ e))
+    g : (k : ℕ) → hasKey k (x ∷ xs) ≡ hasKey k (y ∷ ys)
+    g = same-keys (x ∷ xs) (y ∷ ys) f
 
-    go : Cmp (keyOf x) (keyOf y) → (((k : ℕ) → hasKey k xs ≡ hasKey k ys) → xs ≡ ys) → x ∷ xs ≡ y ∷ ys
-    go (same s) ih = cc (s, ih (λ k. rests s k (cmp (keyOf x) k)))
+    rests : keyOf x ≡ keyOf y → (k : ℕ) → Cmp (keyOf x) k → settingIn k xs ≡ settingIn k ys
+    rests s k (same e) =
+        setting-absent k xs (ap (λ (j : ℕ). hasKey j xs) (sym e) ∙ first-once x xs a)
+        ∙ sym (setting-absent k ys (ap (λ (j : ℕ). hasKey j ys) (sym e ∙ s) ∙ first-once y ys b))
+    rests s k (diff n) = sym (setting-rest x xs k n) ∙ f k ∙ setting-rest y ys k (λ e. n (s ∙ e))
+
+    firsts : keyOf x ≡ keyOf y → x ≡ y
+    firsts s = same-record x y s (sym (setting-first x xs) ∙ f (keyOf x) ∙ ap (λ (j : ℕ). settingIn j (y ∷ ys)) s ∙ setting-first y ys)
+
+    go : Cmp (keyOf x) (keyOf y) → (((k : ℕ) → settingIn k xs ≡ settingIn k ys) → xs ≡ ys) → x ∷ xs ≡ y ∷ ys
+    go (same s) ih = cc (firsts s, ih (λ k. rests s k (cmp (keyOf x) k)))
     go (diff n) ih =
         absurd
         (omega (
           arith,
-          first-least x xs a (keyOf y) (f (keyOf y) ∙ has-first y ys) (λ s. n (sym s)),
-          first-least y ys b (keyOf x) (sym (f (keyOf x)) ∙ has-first x xs) n,
+          first-least x xs a (keyOf y) (g (keyOf y) ∙ has-first y ys) (λ s. n (sym s)),
+          first-least y ys b (keyOf x) (sym (g (keyOf x)) ∙ has-first x xs) n,
         ))

@@ -1,7 +1,8 @@
--- What an insert or a delete makes of a chain's records: one key more or one key less, and the keys still ascend.
--- Main statements: has-inserted, has-removed (the keys afterwards); ascends-inserted, ascends-removed; ChangeMade and change-made (a change, beside what the set book makes of its key).
-use mathlib.Core.Path.{_≡_, refl, sym, ap, _∙_}
-use mathlib.Core.Bool.{Bool, true, false, cond, not, _&&_, _||_, false≢true}
+-- What an insert or a delete makes of a chain's records: one key more or one key less, every other key with the setting it had, and the keys still ascend.
+-- Main statements: has-inserted (the keys afterwards); setting-inserted, setting-removed (their settings); ascends-inserted, ascends-removed; ChangeMade and change-made (a change, beside what the book makes of its key).
+use mathlib.Core.Path.{_≡_, refl, sym, ap, subst, _∙_}
+use mathlib.Core.Bool.{Bool, true, false, cond, _||_, false≢true}
+use mathlib.Core.Logic.{_≢_}
 use mathlib.Core.List.{List, [], _∷_}
 use mathlib.Core.Option.{Option, none, some}
 use Prim.Native.Nat.{ℕ, _<_}
@@ -9,12 +10,14 @@ use native.Mathlib.Omega.{arith}
 use lib.Dec.{ltb, eqb}
 use Rattle.model.specs.declared.Operation.{Operation}
 use Rattle.model.specs.declared.Operation.the-variants as Operation
-use Rattle.model.specs.Answers.{operationNumber, answerNumber, answerOf}
-use Rattle.model.specs.Entries.{Entry, keyOf, entryOf, hasKey, belowFirst, ascending, insertedInto, removedFrom}
+use Rattle.model.specs.Answers.{operationNumber, settingGiven, answerNumber, answerOf}
+use Rattle.model.specs.declared.Entry.{Entry}
+use Rattle.model.specs.Entries.{keyOf, settingOf, entryOf, hasKey, settingIn, belowFirst, ascending, insertedInto, removedFrom}
 use Rattle.model.specs.Book.{Value, isIn, noteAtEleven, contentAtEleven}
 use Rattle.model.specs.Steps.Rebuild.{Change, kept, changed, changeOf}
 use Rattle.model.specs.Steps.Dispatch.{hasStep}
-use Rattle.model.proofs.Laws.Lists.{cond-ind, Told, holds, fails, tell, Cmp, same, diff, cmp, Ord, lt, ge, ord, and-both, both-and, or-neither, eqb-true, eqb-same, eqb-diff, eqb-false, ltb-true, lt-ltb}
+use Rattle.model.proofs.Laws.Entries.{has-setting, setting-absent}
+use Rattle.model.proofs.Laws.Lists.{cond-ind, Told, holds, fails, tell, Cmp, same, diff, cmp, Ord, lt, ge, ord, and-both, both-and, or-neither, eqb-same, eqb-diff, eqb-false, ltb-true, lt-ltb}
 
 -- ---- The keys afterwards
 
@@ -33,31 +36,35 @@ has-inserted x k (e ∷ es) = go (ltb (keyOf x) (keyOf e)) (has-inserted x k es)
     go true ih = refl
     go false ih = ap (λ (t : Bool). eqb (keyOf e) k || t) ih ∙ swap (eqb (keyOf e) k) (eqb (keyOf x) k) (hasKey k es)
 
-pub has-removed : (x k : ℕ) (es : List Entry) → hasKey k (removedFrom x es) ≡ (not (eqb x k) && hasKey k es)
-unfolding hasKey removedFrom
-has-removed x k [] = go (not (eqb x k))
-  where
-    go : (t : Bool) → false ≡ (t && false)
-    go true = refl
-    go false = refl
-has-removed x k (e ∷ es) = go (cmp (keyOf e) x) (has-removed x k es)
-  where
-    gone : (t s : Bool) → (not t && s) ≡ (not t && (t || s))
-    gone true s = refl
-    gone false s = refl
+-- ---- Their settings
 
-    stays : (t u s : Bool) → (t ≡ true → u ≡ true → ⊥) → (u || (not t && s)) ≡ (not t && (u || s))
-    stays true true s f = absurd (f refl refl)
-    stays true false s f = refl
-    stays false u s f = refl
+-- A record put in where its key is not: that key has its setting, every other the one it had.
+pub setting-inserted : (x : Entry) (k : ℕ) (es : List Entry) → hasKey (keyOf x) es ≡ false → settingIn k (insertedInto x es) ≡ cond (eqb (keyOf x) k) (some (settingOf x)) (settingIn k es)
+unfolding hasKey settingIn insertedInto
+setting-inserted x k [] n = refl
+setting-inserted x k (e ∷ es) n = go (ltb (keyOf x) (keyOf e)) (cmp (keyOf x) k) (setting-inserted x k es (o .1))
+  where
+    o : (eqb (keyOf e) (keyOf x) ≡ false) × (hasKey (keyOf x) es ≡ false)
+    o = or-neither (eqb (keyOf e) (keyOf x)) (hasKey (keyOf x) es) n
 
-    go : Cmp (keyOf e) x → hasKey k (removedFrom x es) ≡ (not (eqb x k) && hasKey k es)
-        → hasKey k (cond (eqb (keyOf e) x) (removedFrom x es) (e ∷ removedFrom x es)) ≡ (not (eqb x k) && (eqb (keyOf e) k || hasKey k es))
-    go (same i) ih = rw (eqb-same (keyOf e) x i, ap (λ (n : ℕ). eqb n k) i) (ih ∙ gone (eqb x k) (hasKey k es))
-    go (diff n) ih =
-        rw (eqb-diff (keyOf e) x n)
-        (ap (λ (t : Bool). eqb (keyOf e) k || t) ih
-        ∙ stays (eqb x k) (eqb (keyOf e) k) (hasKey k es) (λ a b. n (eqb-true (keyOf e) k b ∙ sym (eqb-true x k a))))
+    go : (t : Bool) → Cmp (keyOf x) k → settingIn k (insertedInto x es) ≡ cond (eqb (keyOf x) k) (some (settingOf x)) (settingIn k es)
+        → settingIn k (cond t (x ∷ (e ∷ es)) (e ∷ insertedInto x es)) ≡ cond (eqb (keyOf x) k) (some (settingOf x)) (cond (eqb (keyOf e) k) (some (settingOf e)) (settingIn k es))
+    go true c ih = refl
+    go false (same i) ih = rw (ih, ap (eqb (keyOf e)) (sym i) ∙ o .0, eqb-same (keyOf x) k i) refl
+    go false (diff d) ih = rw (ih, eqb-diff (keyOf x) k d) refl
+
+-- Records taken out: their key has no setting, every other the one it had.
+pub setting-removed : (x k : ℕ) (es : List Entry) → settingIn k (removedFrom x es) ≡ cond (eqb x k) none (settingIn k es)
+unfolding settingIn removedFrom
+setting-removed x k [] = cond-ind (λ (l : Option Value). none ≡ l) (eqb x k) none none (λ _. refl) (λ _. refl)
+setting-removed x k (e ∷ es) = go (cmp (keyOf e) x) (cmp x k) (setting-removed x k es)
+  where
+    go : Cmp (keyOf e) x → Cmp x k → settingIn k (removedFrom x es) ≡ cond (eqb x k) none (settingIn k es)
+        → settingIn k (cond (eqb (keyOf e) x) (removedFrom x es) (e ∷ removedFrom x es)) ≡ cond (eqb x k) none (cond (eqb (keyOf e) k) (some (settingOf e)) (settingIn k es))
+    go (same i) (same j) ih = rw (eqb-same (keyOf e) x i, ih, eqb-same x k j) refl
+    go (same i) (diff d) ih = rw (eqb-same (keyOf e) x i, ih, eqb-diff x k d, eqb-diff (keyOf e) k (λ s. d (sym i ∙ s))) refl
+    go (diff n) (same j) ih = rw (eqb-diff (keyOf e) x n, eqb-diff (keyOf e) k (λ s. n (s ∙ sym j)), ih, eqb-same x k j) refl
+    go (diff n) (diff d) ih = rw (eqb-diff (keyOf e) x n, ih, eqb-diff x k d) refl
 
 -- ---- The keys still ascend
 
@@ -103,15 +110,20 @@ ascends-removed x (e ∷ es) a =
     cond-ind (λ (l : List Entry). ascending l ≡ true) (eqb (keyOf e) x) (removedFrom x es) (e ∷ removedFrom x es)
     (λ _. ih) (λ _. both-and (below-removed x (keyOf e) es (f .1) (f .0)) ih)
 
--- ---- A change, and the set book beside it
+-- ---- A change, and the book beside it
 
--- A change of key k from the records es to the records after, with this answer: operation o's own answer, which the book notes; the key is there afterwards where the book's
--- contents say so, and every other key where it was.
+-- A change of key k from the records es to the records after, with this answer: operation o's own answer, which the book notes; the key has afterwards what the book then has of it, and every
+-- other key what it had.
 pub record ChangeMade (o : Operation) (k : ℕ) (es : List Entry) (answer : ℕ) (after : List Entry) : Type 0 where
   pub made : answer ≡ cond (eqb (operationNumber o) 2) 1 3
   pub noted : noteAtEleven o (hasKey k es) ≡ answerOf answer
   pub ascends : ascending es ≡ true → ascending after ≡ true
-  pub keys : (x : Option Value) (j : ℕ) → hasKey j after ≡ cond (eqb j k) (isIn (contentAtEleven o x)) (hasKey j es)
+  pub settings : (j : ℕ) → settingIn j after ≡ cond (eqb j k) (contentAtEleven o (settingIn k es)) (settingIn j es)
+
+-- A key other than k is in where it was.
+pub keys-kept : {o : Operation} {k : ℕ} {es : List Entry} {answer : ℕ} {after : List Entry} → ChangeMade o k es answer after → (j : ℕ) → j ≢ k → hasKey j after ≡ hasKey j es
+keys-kept {o} {k} {es} {answer} {after} c j n =
+    sym (has-setting j after) ∙ ap isIn (c .settings j ∙ ap (λ (t : Bool). cond t (contentAtEleven o (settingIn k es)) (settingIn j es)) (eqb-diff j k n)) ∙ has-setting j es
 
 -- What a change says of its answer and records.
 answerIn : Change → ℕ
@@ -126,35 +138,35 @@ isChanged : Change → Bool
 isChanged (kept a) = false
 isChanged (changed a es) = true
 
-module _ (k : ℕ) (es : List Entry) (answer : ℕ) (after : List Entry) where
+module _ (k x : ℕ) (es : List Entry) (answer : ℕ) (after : List Entry) where
   -- An insert changes a chain without its key, a delete one with it.
-  insert-made : changeOf 2 k es ≡ changed answer after → ChangeMade Operation.Insert k es answer after
+  insert-made : changeOf 2 k x es ≡ changed answer after → ChangeMade (Operation.Insert x) k es answer after
   unfolding changeOf answerNumber answerOf operationNumber noteAtEleven contentAtEleven isChanged answerIn recordsIn
   insert-made e = go (tell (hasKey k es))
     where
-      there : (x : Option Value) (j : ℕ) → Cmp j k → (eqb k j || hasKey j es) ≡ cond (eqb j k) (isIn (contentAtEleven Operation.Insert x)) (hasKey j es)
-      there none j (same i) = rw (eqb-same j k i, eqb-same k j (sym i))
-      there (some v) j (same i) = rw (eqb-same j k i, eqb-same k j (sym i))
-      there x j (diff n) = rw (eqb-diff j k n, eqb-diff k j (λ s. n (sym s)))
+      there : (j : ℕ) → Cmp j k → hasKey k es ≡ false
+          → cond (eqb k j) (some x) (settingIn j es) ≡ cond (eqb j k) (contentAtEleven (Operation.Insert x) (settingIn k es)) (settingIn j es)
+      there j (same i) h = rw (eqb-same j k i, eqb-same k j (sym i), setting-absent k es h)
+      there j (diff n) h = rw (eqb-diff j k n, eqb-diff k j (λ s. n (sym s)))
 
-      go : Told (hasKey k es) → ChangeMade Operation.Insert k es answer after
+      go : Told (hasKey k es) → ChangeMade (Operation.Insert x) k es answer after
       go (holds h) = absurd (false≢true (ap isChanged (rw h at e)))
       go (fails h) =
-          let c : changed 1 (insertedInto (entryOf k) es) ≡ changed answer after = rw h at e in
+          let c : changed 1 (insertedInto (entryOf k x) es) ≡ changed answer after = rw h at e in
           let a : answer ≡ 1 = sym (ap answerIn c) in
-          let l : after ≡ insertedInto (entryOf k) es = sym (ap recordsIn c) in
+          let l : after ≡ insertedInto (entryOf k x) es = sym (ap recordsIn c) in
           record {
             made = a;
             noted = rw (h, a) refl;
-            ascends = λ up. rw l (ascends-inserted (entryOf k) es up h);
-            keys = λ x j. rw l (has-inserted (entryOf k) j es ∙ there x j (cmp j k));
+            ascends = λ up. rw l (ascends-inserted (entryOf k x) es up h);
+            settings = λ j. rw l (setting-inserted (entryOf k x) j es h ∙ there j (cmp j k) h);
           }
 
-  delete-made : changeOf 3 k es ≡ changed answer after → ChangeMade Operation.Delete k es answer after
+  delete-made : changeOf 3 k x es ≡ changed answer after → ChangeMade Operation.Delete k es answer after
   unfolding changeOf answerNumber answerOf operationNumber noteAtEleven contentAtEleven isChanged answerIn recordsIn
   delete-made e = go (tell (hasKey k es))
     where
-      there : (j : ℕ) → Cmp j k → (not (eqb k j) && hasKey j es) ≡ cond (eqb j k) false (hasKey j es)
+      there : (j : ℕ) → Cmp j k → cond (eqb k j) none (settingIn j es) ≡ cond (eqb j k) none (settingIn j es)
       there j (same i) = rw (eqb-same j k i, eqb-same k j (sym i))
       there j (diff n) = rw (eqb-diff j k n, eqb-diff k j (λ s. n (sym s)))
 
@@ -168,12 +180,12 @@ module _ (k : ℕ) (es : List Entry) (answer : ℕ) (after : List Entry) where
             made = a;
             noted = rw (h, a) refl;
             ascends = λ up. rw l (ascends-removed k es up);
-            keys = λ x j. rw l (has-removed k j es ∙ there j (cmp j k));
+            settings = λ j. rw l (setting-removed k j es ∙ there j (cmp j k));
           }
 
   -- An operation that has step 11 is an insert or a delete.
-  pub change-made : (o : Operation) (n : ℕ) → operationNumber o ≡ n → hasStep n 11 ≡ true → changeOf n k es ≡ changed answer after → ChangeMade o k es answer after
-  unfolding operationNumber hasStep
-  change-made Operation.Find n i h e = absurd (false≢true (rw (← i) at h))
-  change-made Operation.Insert n i h e = insert-made (rw (← i) at e)
-  change-made Operation.Delete n i h e = delete-made (rw (← i) at e)
+  pub change-made : (o : Operation) (n : ℕ) → operationNumber o ≡ n → settingGiven o ≡ x → hasStep n 11 ≡ true → changeOf n k x es ≡ changed answer after → ChangeMade o k es answer after
+  unfolding operationNumber settingGiven hasStep
+  change-made Operation.Find n i s h e = absurd (false≢true (rw (← i) at h))
+  change-made (Operation.Insert y) n i s h e = subst (λ (z : ℕ). ChangeMade (Operation.Insert z) k es answer after) (sym s) (insert-made (rw (← i) at e))
+  change-made Operation.Delete n i s h e = delete-made (rw (← i) at e)

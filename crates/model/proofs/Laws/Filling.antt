@@ -14,7 +14,7 @@ use lib.Dec.{leb}
 use borrow.Author.Tests.{leb-true, leb-false, le-leb, lt-ltb, ne-eqb}
 use Rattle.model.specs.declared.Root.{Root}
 use Rattle.model.specs.Sizes.{pageWords, mostRecords}
-use Rattle.model.specs.Entries.{Entry}
+use Rattle.model.specs.declared.Entry.{Entry}
 use Rattle.model.specs.Pages.{pageOf, withPage, levelOf, countOf, linkOf, filledPage, linkToFirst, namesOverflow, linkSound, mostLevel, pageSound}
 use Rattle.model.specs.Chains.{entriesOn}
 use Rattle.model.specs.Filling.{overflowNeeded, pagesFor, primaryOf, filled, overflowWritten}

@@ -10,7 +10,7 @@ use lib.Seq.{drop-append-le, take-append-le, drop-append-add, drop-at, take-at}
 use lib.Dec.{eqb}
 use Rattle.model.specs.declared.Root.{Root}
 use Rattle.model.specs.Sizes.{pageWords, allPageWords}
-use Rattle.model.specs.Pages.{pageOf, filledPage, freePage, zeroPage, linkTo, linkToFirst, primaryPage, scratchPage}
+use Rattle.model.specs.Pages.{pageOf, wordsOf, filledPage, freePage, zeroPage, linkTo, linkToFirst, primaryPage, scratchPage}
 use Rattle.model.specs.Memory.{freePages, formattedPages}
 use Rattle.model.proofs.Laws.Lists.{eqb-diff}
 use Rattle.model.proofs.Laws.Pages.{Has, length-freePage}
@@ -46,7 +46,7 @@ length-zeroes : (k : ℕ) → length (zeroes k) ≡ k
 length-zeroes k = length-replicate k 0
 
 zero-words : zeroPage ≡ zeroes pageWords
-unfolding zeroPage filledPage
+unfolding zeroPage filledPage wordsOf
 zero-words = refl
 
 page-zeroes : (n x : ℕ) → x < n → pageOf (zeroes (pageWords * n)) x ≡ zeroPage

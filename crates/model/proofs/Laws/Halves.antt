@@ -1,13 +1,15 @@
 -- The two halves of a chain that splits: which keys stay and which go, and that both halves ascend.
--- Main statements: has-staying, has-going (the keys of each half); ascends-staying, ascends-going.
+-- Main statements: has-staying, has-going (the keys of each half); setting-staying, setting-going (their settings); ascends-staying, ascends-going.
 use mathlib.Core.Path.{_≡_, refl, sym, ap, _∙_}
 use mathlib.Core.Bool.{Bool, true, false, cond, not, _&&_, _||_, and-false}
 use mathlib.Core.List.{List, [], _∷_}
+use mathlib.Core.Option.{Option, none, some}
 use Prim.Native.Nat.{ℕ}
 use native.Mathlib.Omega.{arith}
 use lib.Dec.{eqb}
 use Rattle.model.specs.Addresses.{hash}
-use Rattle.model.specs.Entries.{Entry, keyOf, hasKey, belowFirst, ascending, staying, going}
+use Rattle.model.specs.declared.Entry.{Entry}
+use Rattle.model.specs.Entries.{keyOf, settingOf, hasKey, settingIn, belowFirst, ascending, staying, going}
 use Rattle.model.proofs.Laws.Lists.{cond-ind, Cmp, same, diff, cmp, and-both, both-and, eqb-same, eqb-diff, ltb-true, lt-ltb}
 
 -- ---- The records whose keys pass a test
@@ -40,6 +42,32 @@ module _ (f : ℕ → Bool) where
       go (diff n) ih =
           let y = eqb-diff (keyOf e) k n in
           there (f (keyOf e)) y ∙ ih ∙ sym (ap (λ (t : Bool). (t || hasKey k es) && f k) y)
+
+  pub setting-passing : (k : ℕ) (es : List Entry) → settingIn k (passing f es) ≡ cond (f k) (settingIn k es) none
+  unfolding settingIn passing
+  setting-passing k [] = cond-ind (λ (l : Option ℕ). none ≡ l) (f k) none none (λ _. refl) (λ _. refl)
+  setting-passing k (e ∷ es) = go (cmp (keyOf e) k) (setting-passing k es)
+    where
+      -- the record has key k
+      here : (t : Bool) → settingIn k (passing f es) ≡ cond t (settingIn k es) none → eqb (keyOf e) k ≡ true
+          → settingIn k (cond t (e ∷ passing f es) (passing f es)) ≡ cond t (some (settingOf e)) none
+      here true ih s = rw s refl
+      here false ih s = ih
+
+      -- it has another
+      there : (t : Bool) → eqb (keyOf e) k ≡ false → settingIn k (cond t (e ∷ passing f es) (passing f es)) ≡ settingIn k (passing f es)
+      there true s = rw s refl
+      there false s = refl
+
+      go : Cmp (keyOf e) k → settingIn k (passing f es) ≡ cond (f k) (settingIn k es) none
+          → settingIn k (cond (f (keyOf e)) (e ∷ passing f es) (passing f es)) ≡ cond (f k) (cond (eqb (keyOf e) k) (some (settingOf e)) (settingIn k es)) none
+      go (same s) ih =
+          let y = eqb-same (keyOf e) k s in
+          here (f (keyOf e)) (ih ∙ ap (λ (x : ℕ). cond (f x) (settingIn k es) none) (sym s)) y
+          ∙ ap (λ (x : ℕ). cond (f x) (some (settingOf e)) none) s ∙ sym (ap (λ (t : Bool). cond (f k) (cond t (some (settingOf e)) (settingIn k es)) none) y)
+      go (diff n) ih =
+          let y = eqb-diff (keyOf e) k n in
+          there (f (keyOf e)) y ∙ ih ∙ sym (ap (λ (t : Bool). cond (f k) (cond t (some (settingOf e)) (settingIn k es)) none) y)
 
   -- A number below the first key is below the first that passes.
   below-passing : (k : ℕ) (es : List Entry) → ascending es ≡ true → belowFirst k es ≡ true → belowFirst k (passing f es) ≡ true
@@ -85,6 +113,12 @@ module _ (n i c : ℕ) where
 
   pub has-going : (k : ℕ) (es : List Entry) → hasKey k (going n i c es) ≡ (hasKey k es && not (eqb (hash n i k) c))
   has-going k es = ap (hasKey k) (going-passing es) ∙ has-passing (λ x. not (eqb (hash n i x) c)) k es
+
+  pub setting-staying : (k : ℕ) (es : List Entry) → settingIn k (staying n i c es) ≡ cond (eqb (hash n i k) c) (settingIn k es) none
+  setting-staying k es = ap (settingIn k) (staying-passing es) ∙ setting-passing (λ x. eqb (hash n i x) c) k es
+
+  pub setting-going : (k : ℕ) (es : List Entry) → settingIn k (going n i c es) ≡ cond (not (eqb (hash n i k) c)) (settingIn k es) none
+  setting-going k es = ap (settingIn k) (going-passing es) ∙ setting-passing (λ x. not (eqb (hash n i x) c)) k es
 
   pub ascends-staying : (es : List Entry) → ascending es ≡ true → ascending (staying n i c es) ≡ true
   ascends-staying es a = ap ascending (staying-passing es) ∙ ascends-passing (λ k. eqb (hash n i k) c) es a

@@ -1,14 +1,16 @@
 -- Two ascending lists of records joined: which keys the joined list has, and that it ascends.
--- Main statements: below-absent; has-joined; ascends-joined.
+-- Main statements: below-absent; has-joined, setting-joined; ascends-joined.
 use mathlib.Core.Path.{_≡_, refl, sym, ap, _∙_}
-use mathlib.Core.Bool.{Bool, true, false, _||_, or-assoc}
+use mathlib.Core.Bool.{Bool, true, false, cond, _||_, or-assoc}
 use mathlib.Core.List.{List, [], _∷_}
+use mathlib.Core.Option.{some}
 use Prim.Native.Nat.{ℕ}
 use native.Mathlib.Omega.{arith}
 use lib.Dec.{eqb}
-use Rattle.model.specs.Entries.{Entry, keyOf, hasKey, belowFirst, ascending, joined}
+use Rattle.model.specs.declared.Entry.{Entry}
+use Rattle.model.specs.Entries.{keyOf, settingOf, hasKey, settingIn, belowFirst, ascending, joined}
 use Rattle.model.proofs.Laws.Lists.{and-both, left-or, right-or, neither-or, eqb-same, eqb-diff, ltb-true, lt-ltb}
-use Rattle.model.proofs.Laws.Changes.{has-inserted, ascends-inserted}
+use Rattle.model.proofs.Laws.Changes.{has-inserted, setting-inserted, ascends-inserted}
 
 -- A number below the first key of an ascending list is none of its keys.
 pub below-absent : (k : ℕ) (es : List Entry) → ascending es ≡ true → belowFirst k es ≡ true → hasKey k es ≡ false
@@ -31,12 +33,35 @@ has-joined k (x ∷ xs) ys =
     has-inserted x k (joined xs ys) ∙ ap (λ (t : Bool). eqb (keyOf x) k || t) (has-joined k xs ys)
     ∙ sym (or-assoc (eqb (keyOf x) k) (hasKey k xs) (hasKey k ys))
 
+-- The first key of an ascending list is in neither the rest nor a list that has no key in common with it.
+joined-anew :
+    (x : Entry) (xs ys : List Entry) → ascending (x ∷ xs) ≡ true → ((k : ℕ) → hasKey k (x ∷ xs) ≡ true → hasKey k ys ≡ false) → hasKey (keyOf x) (joined xs ys) ≡ false
+unfolding hasKey ascending
+joined-anew x xs ys a none =
+    let f = and-both (belowFirst (keyOf x) xs) (ascending xs) a in
+    has-joined (keyOf x) xs ys
+    ∙ neither-or (below-absent (keyOf x) xs (f .1) (f .0)) (none (keyOf x) (left-or (hasKey (keyOf x) xs) (eqb-same (keyOf x) (keyOf x) refl)))
+
+-- A key has in the joined list the setting that it has in one of two lists that have no key in common.
+pub setting-joined :
+    (k : ℕ) (xs ys : List Entry) → ascending xs ≡ true → ((k : ℕ) → hasKey k xs ≡ true → hasKey k ys ≡ false)
+    → settingIn k (joined xs ys) ≡ cond (hasKey k xs) (settingIn k xs) (settingIn k ys)
+unfolding hasKey settingIn ascending joined
+setting-joined k [] ys a none = refl
+setting-joined k (x ∷ xs) ys a none =
+    let f = and-both (belowFirst (keyOf x) xs) (ascending xs) a in
+    setting-inserted x k (joined xs ys) (joined-anew x xs ys a none)
+    ∙ go (eqb (keyOf x) k) (setting-joined k xs ys (f .1) (λ j h. none j (right-or (eqb (keyOf x) j) h)))
+  where
+    go : (t : Bool) → settingIn k (joined xs ys) ≡ cond (hasKey k xs) (settingIn k xs) (settingIn k ys)
+        → cond t (some (settingOf x)) (settingIn k (joined xs ys)) ≡ cond (t || hasKey k xs) (cond t (some (settingOf x)) (settingIn k xs)) (settingIn k ys)
+    go true ih = refl
+    go false ih = ih
+
 -- Lists that have no key in common join into one that ascends.
 pub ascends-joined : (xs ys : List Entry) → ascending xs ≡ true → ascending ys ≡ true → ((k : ℕ) → hasKey k xs ≡ true → hasKey k ys ≡ false) → ascending (joined xs ys) ≡ true
 unfolding hasKey ascending joined
 ascends-joined [] ys a b none = b
 ascends-joined (x ∷ xs) ys a b none =
     let f = and-both (belowFirst (keyOf x) xs) (ascending xs) a in
-    ascends-inserted x (joined xs ys) (ascends-joined xs ys (f .1) b (λ k h. none k (right-or (eqb (keyOf x) k) h)))
-    (has-joined (keyOf x) xs ys
-    ∙ neither-or (below-absent (keyOf x) xs (f .1) (f .0)) (none (keyOf x) (left-or (hasKey (keyOf x) xs) (eqb-same (keyOf x) (keyOf x) refl))))
+    ascends-inserted x (joined xs ys) (ascends-joined xs ys (f .1) b (λ k h. none k (right-or (eqb (keyOf x) k) h))) (joined-anew x xs ys a none)

@@ -1,18 +1,18 @@
 -- Laws of pages: what page memory and a page's fields are after a page was written.
 -- A page of the memory: Has.
 -- Main statements: page-same, page-other, length-withPage; length-pageOf, word-at; withPage-pageOf, withPage-withPage, withPage-comm;
--- level-, count-, link-, entries- and length- of filledPage, freePage, zeroPage and withLocalLevel.
+-- length-wordsOf, records-wordsOf (records as words); level-, count-, link-, entries- and length- of filledPage, freePage, zeroPage and withLocalLevel.
 use mathlib.Core.Path.{_≡_, refl, sym, ap, _∙_}
 use mathlib.Core.Logic.{_≢_}
 use mathlib.Core.List.{List, [], _∷_, _++_, append-assoc}
-use Prim.Native.Nat.{ℕ, suc, _+_, _-_, _*_, _≤_, _<_}
+use Prim.Native.Nat.{ℕ, zero, suc, _+_, _-_, _*_, _≤_, _<_}
 use native.Mathlib.Omega.{arith}
 use lib.ListN.{length, getD, set, take, drop, replicate, length-append, length-drop, length-replicate, take-append-drop}
 use lib.Seq.{length-take-le, take-at, drop-at, drop-append-le, take-append-le, drop-append-add, drop-drop, take-append-seam, getD-take, getD-drop, set-comm, sets, sets-eq, length-sets}
-use Rattle.model.specs.Sizes.{pageWords, mostRecords}
-use Rattle.model.specs.Entries.{Entry}
+use Rattle.model.specs.Sizes.{pageWords, mostRecords, recordWords}
+use Rattle.model.specs.declared.Entry.{Entry}
 use Rattle.model.proofs.Laws.Lists.{Ord, lt, ge, ord}
-use Rattle.model.specs.Pages.{pageOf, withPage, levelOf, countOf, linkOf, entriesOf, filledPage, freePage, zeroPage, withLocalLevel}
+use Rattle.model.specs.Pages.{pageOf, withPage, levelOf, countOf, linkOf, recordsIn, entriesOf, wordsOf, filledPage, freePage, zeroPage, withLocalLevel}
 
 -- Page p is a page of the memory ps.
 pub record Has (ps : List ℕ) (p : ℕ) : Type 0 where
@@ -138,6 +138,28 @@ withPage-comm ps u v p q n hp hq lu lv = go (ord p q)
     go (lt h e) = swapped (sets-before ps (p * pageWords) u (q * pageWords) v (omega arith))
     go (ge h e) = swapped (sym (sets-before ps (q * pageWords) v (p * pageWords) u (omega (arith, h, n))))
 
+-- ---- Records as words
+
+-- A record takes two words.
+pub length-wordsOf : (es : List Entry) → length (wordsOf es) ≡ length es * recordWords
+unfolding wordsOf
+length-wordsOf [] = refl
+length-wordsOf (e ∷ es) = let h = length-wordsOf es in omega (arith, h)
+
+-- Words of records, read as records, are these records, then those of the words behind them.
+pub records-wordsOf : (es : List Entry) (ws : List ℕ) → recordsIn (wordsOf es ++ ws) ≡ es ++ recordsIn ws
+unfolding recordsIn wordsOf
+records-wordsOf [] ws = refl
+records-wordsOf (e ∷ es) ws = ap (λ (l : List Entry). e ∷ l) (records-wordsOf es ws)
+
+-- As many records as pairs of words.
+length-recordsIn : (ws : List ℕ) (n : ℕ) → n * recordWords ≤ length ws → n ≤ length (recordsIn ws)
+unfolding recordsIn
+length-recordsIn [] n h = omega (arith, h)
+length-recordsIn (k ∷ []) n h = omega (arith, h)
+length-recordsIn (k ∷ (x ∷ ws)) zero h = omega arith
+length-recordsIn (k ∷ (x ∷ ws)) (suc n) h = let ih = length-recordsIn ws n (omega (arith, h)) in omega (arith, ih)
+
 -- ---- A filled page
 
 pub level-filledPage : (level : ℕ) (es : List Entry) (link : ℕ) → levelOf (filledPage level es link) ≡ level
@@ -154,11 +176,13 @@ link-filledPage level es link = refl
 
 pub entries-filledPage : (level : ℕ) (es : List Entry) (link : ℕ) → entriesOf (filledPage level es link) ≡ es
 unfolding entriesOf countOf filledPage
-entries-filledPage level es link = take-append-seam es (replicate (mostRecords + 1 - length es) 0)
+entries-filledPage level es link =
+    let zeroes : List ℕ = replicate (mostRecords * recordWords + 1 - length es * recordWords) 0 in
+    ap (take (length es)) (records-wordsOf es zeroes) ∙ take-append-seam es (recordsIn zeroes)
 
 pub length-filledPage : (level : ℕ) (es : List Entry) (link : ℕ) → length es ≤ mostRecords → length (filledPage level es link) ≡ pageWords
 unfolding filledPage
-length-filledPage level es link h = simp (length-append, length-replicate) (omega arith)
+length-filledPage level es link h = simp (length-append, length-replicate) (omega (arith, length-wordsOf es))
 
 -- ---- A free page and a zero page
 
@@ -237,4 +261,4 @@ withLocalLevel-filledPage level old es link = refl
 -- As many as the count says, where the count is no damage.
 pub length-entriesOf : (w : List ℕ) → length w ≡ pageWords → countOf w ≤ mostRecords → length (entriesOf w) ≡ countOf w
 unfolding entriesOf
-length-entriesOf w e h = length-take-le (countOf w) (drop 3 w) (rw length-drop (omega (arith, e)))
+length-entriesOf w e h = length-take-le (countOf w) (recordsIn (drop 3 w)) (length-recordsIn (drop 3 w) (countOf w) (rw length-drop (omega (arith, e))))

@@ -13,7 +13,8 @@ use lib.Dec.{eqb}
 use borrow.Author.Tests.{lt-ltb, le-leb, ne-eqb}
 use Rattle.model.specs.declared.Root.{Root}
 use Rattle.model.specs.Sizes.{allPageWords}
-use Rattle.model.specs.Entries.{Entry, ascending}
+use Rattle.model.specs.declared.Entry.{Entry}
+use Rattle.model.specs.Entries.{ascending}
 use Rattle.model.specs.Pages.{pageOf, entriesOf, linkToFirst, namesOverflow, mostLevel, primaryPage, scratchPage, linkedPage}
 use Rattle.model.specs.Chains.{sound, overflowFrom, listFrom, readChain, ascendingChain, chainOf}
 use Rattle.model.specs.FreeList.{isAmong}

@@ -7,7 +7,7 @@ use mathlib.Core.List.{List, [], _∷_, _++_}
 use Prim.Native.Nat.{ℕ, _<_}
 use lib.ListN.{length, take, drop}
 use Rattle.model.specs.declared.Root.{Root}
-use Rattle.model.specs.Entries.{Entry}
+use Rattle.model.specs.declared.Entry.{Entry}
 use Rattle.model.specs.Pages.{pageOf, filledPage, freePage, linkOf, linkToFirst, pageSound, primaryPage}
 use Rattle.model.specs.Filling.{primaryOf}
 

@@ -1,9 +1,9 @@
 -- Step 9 keeps the invariant.
 -- Main statement: step09-kept.
 use mathlib.Core.Path.{_≡_, refl, sym, ap, _∙_, subst}
-use mathlib.Core.Bool.{Bool, true, false, cond, _||_}
+use mathlib.Core.Bool.{Bool, true, false, cond}
 use mathlib.Core.List.{List, [], _∷_, _++_}
-use mathlib.Core.Option.{some}
+use mathlib.Core.Option.{some, Option}
 use Prim.Native.Nat.{ℕ}
 use native.Mathlib.Omega.{arith}
 use lib.ListN.{length, set}
@@ -13,7 +13,7 @@ use Rattle.model.specs.declared.OperationAnswer.the-variants as Operatio
 use Rattle.model.specs.declared.Restructuring.the-variants as Restructuring
 use Rattle.model.specs.Sizes.{pageWords}
 use Rattle.model.specs.Records.{idle}
-use Rattle.model.specs.Entries.{hasKey}
+use Rattle.model.specs.Entries.{hasKey, settingIn}
 use Rattle.model.specs.Pages.{pageOf, withPage, linkOf, entriesOf, linkToFirst, linkedPage, scratchPage}
 use Rattle.model.specs.Chains.{entriesOn}
 use Rattle.model.specs.FreeList.{isAmong}
@@ -22,9 +22,9 @@ use Rattle.model.specs.ScratchPages.{withScratch}
 use Rattle.model.specs.LockRequests.{chainLock}
 use Rattle.model.specs.Steps.Find.{answered, lookedOn, step09}
 use Rattle.model.specs.Memory.{Memory, viewOf}
-use Rattle.model.specs.Book.{Book}
+use Rattle.model.specs.Book.{Book, Value}
+use Rattle.model.specs.Answers.{foundOrAbsent}
 use Rattle.model.proofs.Laws.Lists.{cond-ind, count-cons, among-first, among-rest}
-use Rattle.model.proofs.Laws.Entries.{has-append}
 use Rattle.model.proofs.Laws.Pages.{length-pageOf}
 use Rattle.model.proofs.Laws.Structure.{Linked}
 use Rattle.model.proofs.Laws.Reading.{first-some, first-linked}
@@ -36,10 +36,7 @@ use Rattle.model.proofs.Effects.Kept.{Kept, moved-kept}
 use Rattle.model.proofs.Effects.ScratchPage.{protected-bounds, scratch-parts, copied-walks}
 use Rattle.model.proofs.Effects.Done.{held-listed, done-kept, Ends}
 use Rattle.model.proofs.Effects.Moves.{extents-rest, same-file}
-
--- The answer by whether the key is there.
-abbrev answer-by : Bool → OperationAnswer
-answer-by t = cond t OperationAnswer.Found OperationAnswer.Absent
+use Rattle.model.proofs.Laws.Entries.{setting-append}
 
 module _ {m : Memory} {b : Book} {q : ℕ} (t : Turn m b q 9) where
   abbrev walk : Walking (before t) q (me t) (t .entered)
@@ -64,16 +61,22 @@ module _ {m : Memory} {b : Book} {q : ℕ} (t : Turn m b q 9) where
       } in
       rw (held-listed t ends) (done-kept t ends Restructuring.None)
 
+  -- What is noted of a key: what the scratch page has of it, or else the pages behind.
+  abbrev noted-as : Option Value → Option OperationAnswer
+  noted-as x = some (foundOrAbsent x)
+
   -- The note, where it is known whether the key is on the scratch page.
-  note-by : (on : Bool) → hasKey (me t .key) (entriesOf scratch) ≡ on → t .entered .note ≡ some (answer-by (on || hasKey (me t .key) (entriesOn (m .pages) (walk .rest))))
+  note-by : (on : Bool) → hasKey (me t .key) (entriesOf scratch) ≡ on
+      → t .entered .note ≡ noted-as (cond on (settingIn (me t .key) (entriesOf scratch)) (settingIn (me t .key) (entriesOn (m .pages) (walk .rest))))
   note-by on e =
       walk .note-is
-      ∙ ap (λ (x : Bool). some (answer-by x))
-      (has-append (me t .key) (entriesOf scratch) (entriesOn (m .pages) (walk .rest)) ∙ ap (λ (x : Bool). x || hasKey (me t .key) (entriesOn (m .pages) (walk .rest))) e)
+      ∙ ap noted-as
+      (setting-append (me t .key) (entriesOf scratch) (entriesOn (m .pages) (walk .rest))
+      ∙ ap (λ (x : Bool). cond x (settingIn (me t .key) (entriesOf scratch)) (settingIn (me t .key) (entriesOn (m .pages) (walk .rest)))) e)
 
-  -- Where it is not, the note says whether it is on the rest.
-  note-of : (xs : List ℕ) → walk .rest ≡ xs → hasKey (me t .key) (entriesOf scratch) ≡ false → t .entered .note ≡ some (answer-by (hasKey (me t .key) (entriesOn (m .pages) xs)))
-  note-of xs e h = note-by false h ∙ ap (λ (ys : List ℕ). some (answer-by (hasKey (me t .key) (entriesOn (m .pages) ys)))) e
+  -- Where it is not, the note says what the rest has of it.
+  note-of : (xs : List ℕ) → walk .rest ≡ xs → hasKey (me t .key) (entriesOf scratch) ≡ false → t .entered .note ≡ noted-as (settingIn (me t .key) (entriesOn (m .pages) xs))
+  note-of xs e h = note-by false h ∙ ap (λ (ys : List ℕ). noted-as (settingIn (me t .key) (entriesOn (m .pages) ys))) e
 
   -- ---- Or on to the next page
 
@@ -100,7 +103,7 @@ module _ {m : Memory} {b : Book} {q : ℕ} (t : Turn m b q 9) where
     page-long = let z = protected-bounds m b (t .inv) q (t .in-row) (me t .chain) x (guards x (among-first x xs)) in length-pageOf (record { fits = omega (arith, t .inv .pages-many) })
 
     -- The key is not on the page passed.
-    note-then : t .entered .note ≡ some (answer-by (hasKey (me t .key) (entriesOf page ++ entriesOn (m .pages) xs)))
+    note-then : t .entered .note ≡ noted-as (settingIn (me t .key) (entriesOf page ++ entriesOn (m .pages) xs))
     unfolding entriesOn
     note-then = note-of (x ∷ xs) rest-is missed
 
@@ -123,6 +126,7 @@ module _ {m : Memory} {b : Book} {q : ℕ} (t : Turn m b q 9) where
         record {
           entry = k .entry;
           same-operation = k .same-operation;
+          same-setting = k .same-setting;
           same-key = k .same-key;
           step-fits = k .step-fits;
           lev-fits = k .lev-fits;
@@ -151,7 +155,7 @@ module _ {m : Memory} {b : Book} {q : ℕ} (t : Turn m b q 9) where
 
   goes-on : (xs : List ℕ) → walk .rest ≡ xs → hasKey (me t .key) (entriesOf scratch) ≡ false
       → Kept m b q (cond (eqb (linkOf scratch) 0) (answered (viewOf m q) OperationAnswer.Absent) (lookedOn (viewOf m q)))
-  unfolding entriesOn hasKey lookedOn linkToFirst
+  unfolding entriesOn settingIn foundOrAbsent lookedOn linkToFirst
   goes-on [] e h = rw (walk .link ∙ ap linkToFirst e) (answers OperationAnswer.Absent (note-of [] e h))
   goes-on (x ∷ xs) e h =
       let l = walk .link ∙ ap linkToFirst e in
@@ -161,4 +165,4 @@ module _ {m : Memory} {b : Book} {q : ℕ} (t : Turn m b q 9) where
   unfolding step09
   step09-kept =
       rw (walk .sound)
-      (cond-ind (Kept m b q) (hasKey (me t .key) (entriesOf scratch)) _ _ (λ h. answers OperationAnswer.Found (note-by true h)) (λ h. goes-on (walk .rest) refl h))
+      (cond-ind (Kept m b q) (hasKey (me t .key) (entriesOf scratch)) _ _ (λ h. answers (foundOrAbsent (settingIn (me t .key) (entriesOf scratch))) (note-by true h)) (λ h. goes-on (walk .rest) refl h))

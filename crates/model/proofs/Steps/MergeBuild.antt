@@ -12,7 +12,8 @@ use Rattle.model.specs.declared.Party.{Party}
 use Rattle.model.specs.declared.Restructuring.the-variants as Restructuring
 use Rattle.model.specs.Records.{idle, atStep, withOld}
 use Rattle.model.specs.Addresses.{addressOf, mergePartner}
-use Rattle.model.specs.Entries.{Entry, hasKey, joined, sharesKey}
+use Rattle.model.specs.declared.Entry.{Entry}
+use Rattle.model.specs.Entries.{hasKey, joined, sharesKey, keyOf}
 use Rattle.model.specs.Pages.{linkToFirst}
 use Rattle.model.specs.Chains.{Chain, sound}
 use Rattle.model.specs.Filling.{pagesFor}
@@ -39,7 +40,7 @@ use Rattle.model.proofs.Effects.BuiltChain.{chain-found, builtRoot, bui
 shares-none : (xs ys : List Entry) → ((k : ℕ) → hasKey k xs ≡ true → hasKey k ys ≡ false) → sharesKey xs ys ≡ false
 unfolding sharesKey hasKey
 shares-none [] ys f = refl
-shares-none (x ∷ xs) ys f = neither-or (f x (left-or (hasKey x xs) (eqb-same x x refl))) (shares-none xs ys (λ k h. f k (right-or (eqb x k) h)))
+shares-none (x ∷ xs) ys f = neither-or (f (keyOf x) (left-or (hasKey (keyOf x) xs) (eqb-same (keyOf x) (keyOf x) refl))) (shares-none xs ys (λ k h. f k (right-or (eqb (keyOf x) k) h)))
 
 module _ {m : Memory} {b : Book} {q : ℕ} (t : Turn m b q 26) where
   abbrev r : Root

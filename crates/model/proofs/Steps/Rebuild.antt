@@ -14,7 +14,8 @@ use Rattle.model.specs.declared.Party.{Party}
 use Rattle.model.specs.declared.OperationAnswer.{OperationAnswer}
 use Rattle.model.specs.Records.{atStep, withAnswer, withOld, withOwed}
 use Rattle.model.specs.Answers.{answerNumber, answerOf}
-use Rattle.model.specs.Entries.{Entry, hasKey}
+use Rattle.model.specs.declared.Entry.{Entry}
+use Rattle.model.specs.Entries.{hasKey}
 use Rattle.model.specs.Pages.{linkToFirst}
 use Rattle.model.specs.Chains.{Chain}
 use Rattle.model.specs.Filling.{pagesFor}
@@ -31,7 +32,7 @@ use Rattle.model.proofs.Invariant.Claims.{claims}
 use Rattle.model.proofs.Invariant.LockMoves.{locks-stay}
 use Rattle.model.proofs.Invariant.Extents.{home-is}
 use Rattle.model.proofs.Invariant.Statement.{restructures, NoPages, AtHome, Rebuilt, unchanged, working, liveFor, lowFor}
-use Rattle.model.proofs.Invariant.Facts.{no-pages-held}
+use Rattle.model.proofs.Invariant.Facts.{no-pages-held, book-has}
 use Rattle.model.proofs.Invariant.Turn.{Turn, before, has-step, its-claims, row-long, uses-none, me}
 use Rattle.model.proofs.Effects.Kept.{Kept, moved-kept, Parts}
 use Rattle.model.proofs.Effects.OwnRecord.{own-parts}
@@ -74,10 +75,10 @@ module _ {m : Memory} {b : Book} {q : ℕ} (t : Turn m b q 10) where
 
   -- ---- The book's note
 
-  -- The key is in the set where it is on the chain, its home.
+  -- The key is in the map where it is on the chain, its home.
   there-is : isIn (b .contents (entry .key)) ≡ hasKey (me t .key) records
   there-is =
-      ap (λ (k : ℕ). isIn (b .contents k)) (t .busy .same-key) ∙ t .inv .book-ok .same (me t .key)
+      ap (λ (k : ℕ). isIn (b .contents k)) (t .busy .same-key) ∙ book-has (t .inv .book-ok) (me t .key)
       ∙ ap (λ (c : ℕ). hasKey (me t .key) (t .inv .ghost .records c))
       (home-is (r .originals) (t .inv .ghost .live) (me t .chain) (me t .lev) (me t .key) (t .inv .limits .some-original) (omega (arith, t .inv .extents-ok .live-next)) (at-home .heads) (at-home .exact))
 
@@ -99,8 +100,8 @@ module _ {m : Memory} {b : Book} {q : ℕ} (t : Turn m b q 10) where
   unfolding changedAt
   entry-then = rw (eqb-same q q refl) refl
 
-  decision : Decided (entry .operation) (hasKey (me t .key) records) (changeOf (me t .operation) (me t .key) records)
-  decision = decided (entry .operation) (me t .operation) (me t .key) records (t .busy .same-operation) (has-step t)
+  decision : Decided (entry .operation) (hasKey (me t .key) records) (changeOf (me t .operation) (me t .key) (me t .setting) records)
+  decision = decided (entry .operation) (me t .operation) (me t .key) (me t .setting) records (t .busy .same-operation) (has-step t)
 
   -- ---- Nothing changes: on to 12 with the noted answer
 
@@ -125,6 +126,7 @@ module _ {m : Memory} {b : Book} {q : ℕ} (t : Turn m b q 10) where
               (record {
                 entry = entry-then;
                 same-operation = k .same-operation;
+                same-setting = k .same-setting;
                 same-key = k .same-key;
                 step-fits = has-next (me t .operation) (has-step t) .1;
                 lev-fits = k .lev-fits;
@@ -142,7 +144,7 @@ module _ {m : Memory} {b : Book} {q : ℕ} (t : Turn m b q 10) where
   abbrev builds : (after : List Entry) → pagesFor (r .capacity) after ≤ r .free → Builds t after
   builds after enough = record { no-pages = no-pages; enough = enough }
 
-  module _ (a : ℕ) (after : List Entry) (change : changeOf (me t .operation) (me t .key) records ≡ changed a after) (fits : a ≤ 5) (enough : pagesFor (r .capacity) after ≤ r .free) where
+  module _ (a : ℕ) (after : List Entry) (change : changeOf (me t .operation) (me t .key) (me t .setting) records ≡ changed a after) (fits : a ≤ 5) (enough : pagesFor (r .capacity) after ≤ r .free) where
     abbrev need : ℕ
     need = pagesFor (r .capacity) after
 
@@ -177,6 +179,7 @@ module _ {m : Memory} {b : Book} {q : ℕ} (t : Turn m b q 10) where
         (record {
           entry = entry-then;
           same-operation = k .same-operation;
+          same-setting = k .same-setting;
           same-key = k .same-key;
           step-fits = has-next (me t .operation) (has-step t) .0;
           lev-fits = k .lev-fits;
@@ -194,7 +197,7 @@ module _ {m : Memory} {b : Book} {q : ℕ} (t : Turn m b q 10) where
 
   -- ---- The three ways
 
-  by-change : (x : Change) → changeOf (me t .operation) (me t .key) records ≡ x → Kept m b q (rebuildWith (viewOf m q) whole x)
+  by-change : (x : Change) → changeOf (me t .operation) (me t .key) (me t .setting) records ≡ x → Kept m b q (rebuildWith (viewOf m q) whole x)
   unfolding rebuildWith tooFew answerNumber answerOf isChange
   by-change (kept a) e =
       let d : KeepsChain (entry .operation) (hasKey (me t .key) records) a = subst (Decided (entry .operation) (hasKey (me t .key) records)) e decision in
@@ -208,4 +211,4 @@ module _ {m : Memory} {b : Book} {q : ℕ} (t : Turn m b q 10) where
 
   pub step10-kept : Kept m b q (step10 (viewOf m q))
   unfolding step10
-  step10-kept = rw (chain-found m b (t .inv) (me t .chain) chain-live) (by-change (changeOf (me t .operation) (me t .key) records) refl)
+  step10-kept = rw (chain-found m b (t .inv) (me t .chain) chain-live) (by-change (changeOf (me t .operation) (me t .key) (me t .setting) records) refl)

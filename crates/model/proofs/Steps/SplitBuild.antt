@@ -14,7 +14,8 @@ use Rattle.model.specs.declared.Restructuring.the-variants as Restructur
 use Rattle.model.specs.Sizes.{lockWords, pageWords}
 use Rattle.model.specs.Records.{idle, atStep, withOld}
 use Rattle.model.specs.Addresses.{chainCount, splitBarred, countOfChains}
-use Rattle.model.specs.Entries.{Entry, staying, going}
+use Rattle.model.specs.declared.Entry.{Entry}
+use Rattle.model.specs.Entries.{staying, going}
 use Rattle.model.specs.Pages.{pageOf, withPage, primaryPage, scratchPage, linkToFirst, zeroPage}
 use Rattle.model.specs.Chains.{Chain}
 use Rattle.model.specs.Filling.{pagesFor, primaryOf, overflowWritten}

@@ -1,4 +1,4 @@
--- From steps to calls and lists of calls: if every step keeps the invariant, so does every call, and the set book agrees with every answer of a list.
+-- From steps to calls and lists of calls: if every step keeps the invariant, so does every call, and the book agrees with every answer of a list.
 -- Main statements: StepsKept (what the lemmas of the thirty steps say together); record-sound (no common test of damage fails); call-kept; run-answers, run-inv (over whole lists).
 use mathlib.Core.Path.{_≡_, refl, sym, ap, _∙_, subst}
 use mathlib.Core.Logic.{_≢_}
@@ -19,7 +19,7 @@ use Rattle.model.specs.declared.BeginAnswer.{BeginAnswer}
 use Rattle.model.specs.declared.BeginAnswer.the-variants as BeginAnswer
 use Rattle.model.specs.Sizes.{withinLimits, lockWords, allPageWords}
 use Rattle.model.specs.Records.{idle, begun}
-use Rattle.model.specs.Answers.{operationNumber, refusalNumber}
+use Rattle.model.specs.Answers.{operationNumber, refusalNumber, settingGiven}
 use Rattle.model.specs.Addresses.{span, chainCount}
 use Rattle.model.specs.Outcome.{damage}
 use Rattle.model.specs.Memory.{Memory, partyAt, viewOf}
@@ -60,20 +60,20 @@ within-limits r l =
       le-leb 1 (r .parties) (l .some-party),
       le-leb (r .parties) 16 (l .parties-fit),
       le-leb 1 (r .capacity) (l .some-key),
-      le-leb (r .capacity) 12 (l .keys-fit),
+      le-leb (r .capacity) 6 (l .keys-fit),
     ) refl
 
 -- The operation in a record that the book has entered.
 operation-small : (o : Operation) (n : ℕ) → operationNumber o ≡ n → n ≤ 3
 unfolding operationNumber
 operation-small Operation.Find n e = omega arith
-operation-small Operation.Insert n e = omega arith
+operation-small (Operation.Insert x) n e = omega arith
 operation-small Operation.Delete n e = omega arith
 
 pub operation-some : (o : Operation) (n : ℕ) → operationNumber o ≡ n → n ≢ 0
 unfolding operationNumber
 operation-some Operation.Find n e = omega arith
-operation-some Operation.Insert n e = omega arith
+operation-some (Operation.Insert x) n e = omega arith
 operation-some Operation.Delete n e = omega arith
 
 pub record-sound : (r : Root) (p : Party) → rootSound r ≡ true → partySound r p ≡ true → recordSound r p ≡ true
@@ -131,13 +131,13 @@ module _ (m : Memory) (b : Book) (i : Inv m b) where
 has-first : (o : Operation) → hasStep (operationNumber o) 1 ≡ true
 unfolding operationNumber hasStep
 has-first Operation.Find = refl
-has-first Operation.Insert = refl
+has-first (Operation.Insert x) = refl
 has-first Operation.Delete = refl
 
 module _ (m : Memory) (b : Book) (i : Inv m b) (q : ℕ) (o : Operation) (k : ℕ) (in-row : q < m .root .parties) (was-idle : partyAt (m .parties) q ≡ idle)
     (none : NoPages (sceneOf m (i .ghost) b) q) where
   abbrev p-then : Party
-  p-then = begun (operationNumber o) k
+  p-then = begun (operationNumber o) k (settingGiven o)
 
   row-long : q < length (m .parties)
   row-long = omega (arith, i .parties-many)
@@ -188,6 +188,7 @@ module _ (m : Memory) (b : Book) (i : Inv m b) (q : ℕ) (o : Operation) (k : �
             (record {
               entry = rw (eqb-same q q refl) refl;
               same-operation = refl;
+              same-setting = refl;
               same-key = refl;
               step-fits = has-first o;
               lev-fits = omega arith;

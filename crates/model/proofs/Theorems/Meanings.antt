@@ -1,10 +1,10 @@
 -- Definitions that the demands could lose unseen, said once more in other words: parts of the book and of the link rule that only forbid, what steps and yardstick share, the record's words,
 -- and numbers of answers.
--- Main statements: unentered-refused, unnoted-refused (the book); grown-owes, not-grown-owes-none, emptied-owes (what is owed); idle-zero, begun-zeroes, update-alone (a party's record); begin-number,
--- format-number, restructurings-in-order (numbers of answers).
+-- Main statements: unentered-refused, unnoted-refused (the book); grown-owes, not-grown-owes-none, emptied-owes (what is owed); idle-zero, begun-zeroes, update-alone (a party's record); find-given,
+-- insert-given, delete-given, found-carries, others-carry-none (settings); begin-number, format-number, restructurings-in-order (numbers of answers).
 use mathlib.Core.Path.{_≡_, refl, sym}
 use mathlib.Core.Bool.{true, false}
-use mathlib.Core.List.{List, [], _∷_, map}
+use mathlib.Core.List.{List, [], _∷_, _++_, map}
 use mathlib.Core.Option.{none}
 use Prim.Native.Nat.{ℕ, _≤_, _<_}
 use native.Mathlib.Omega.{arith}
@@ -13,17 +13,20 @@ use lib.Dec.{eqb}
 use borrow.Author.Tests.{ne-eqb, lt-ltb, le-ltb}
 use Rattle.model.specs.declared.Party.{Party}
 use Rattle.model.specs.declared.OperationAnswer.{OperationAnswer}
+use Rattle.model.specs.declared.OperationAnswer.the-variants as OperationAnswer
 use Rattle.model.specs.declared.Operation.{Operation}
+use Rattle.model.specs.declared.Operation.the-variants as Operation
 use Rattle.model.specs.declared.Restructuring.the-variants as Restructuring
 use Rattle.model.specs.Records.{rootOfSizes, idle, begun, atStep, withLev, withChain, withOther, withOld, withOwed, withAnswer}
-use Rattle.model.specs.Answers.{restructuringNumber, beginRefusal, formatRefusal}
-use Rattle.model.specs.Entries.{Entry, isEmpty}
+use Rattle.model.specs.Answers.{answerOf, settingGiven, settingFound, restructuringNumber, beginRefusal, formatRefusal}
+use Rattle.model.specs.declared.Entry.{Entry}
+use Rattle.model.specs.Entries.{isEmpty}
 use Rattle.model.specs.Steps.Rebuild.{splitOwed, mergeOwed}
 use Rattle.model.specs.Memory.{Memory}
 use Rattle.model.specs.Refusals.{firstCause, formatRows, beginRows}
 use Rattle.model.specs.Calls.{formatCall, beginCall}
 use Rattle.model.specs.Book.{isNote, isNoteOf}
-use Rattle.model.proofs.Laws.Lists.{Cmp, same, diff, cmp, Numbered, _▸_}
+use Rattle.model.proofs.Laws.Lists.{cond-ind, Cmp, same, diff, cmp, Numbered, _▸_}
 
 -- An answer to an operation that was not entered, or that has no note yet, does not agree.
 pub unentered-refused : (a : OperationAnswer) → isNoteOf a none ≡ false
@@ -49,17 +52,43 @@ unfolding mergeOwed isEmpty
 emptied-owes [] = refl
 emptied-owes (e ∷ es) = sym (ne-eqb (length (e ∷ es)) 0 (λ z. omega arith))
 
--- The nine words of a party's record: all zero where nobody is under way; operation, key, step 1 and six zeros where an operation has begun.
+-- The ten words of a party's record: all zero where nobody is under way; operation, key, step 1, six zeros and the setting where an operation has begun.
 abbrev pub words : Party → List ℕ
-words p = p .operation ∷ p .key ∷ p .step ∷ p .lev ∷ p .chain ∷ p .other ∷ p .old ∷ p .owed ∷ p .answer ∷ []
+words p = p .operation ∷ p .key ∷ p .step ∷ p .lev ∷ p .chain ∷ p .other ∷ p .old ∷ p .owed ∷ p .answer ∷ p .setting ∷ []
 
-pub idle-zero : words idle ≡ replicate 9 0
+pub idle-zero : words idle ≡ replicate 10 0
 idle-zero = refl
 
-pub begun-zeroes : (operation key : ℕ) → words (begun operation key) ≡ operation ∷ key ∷ 1 ∷ replicate 6 0
-begun-zeroes operation key = refl
+pub begun-zeroes : (operation key setting : ℕ) → words (begun operation key setting) ≡ operation ∷ key ∷ 1 ∷ (replicate 6 0 ++ (setting ∷ []))
+begun-zeroes operation key setting = refl
 
--- Each update of a record alters its own word alone, from the third word on.
+-- A find and a delete have setting 0, an insert the one given: what a begin puts into the record's last word.
+pub find-given : settingGiven Operation.Find ≡ 0
+unfolding settingGiven
+find-given = refl
+
+pub insert-given : (x : ℕ) → settingGiven (Operation.Insert x) ≡ x
+unfolding settingGiven
+insert-given x = refl
+
+pub delete-given : settingGiven Operation.Delete ≡ 0
+unfolding settingGiven
+delete-given = refl
+
+-- No answer that a record may hold carries a setting; found carries its own.
+pub found-carries : (x : ℕ) → settingFound (OperationAnswer.Found x) ≡ x
+unfolding settingFound
+found-carries x = refl
+
+pub others-carry-none : (n : ℕ) → settingFound (answerOf n) ≡ 0
+unfolding settingFound answerOf
+others-carry-none n =
+    cond-ind (λ (a : OperationAnswer). settingFound a ≡ 0) (eqb n 1) _ _ (λ _. refl)
+    (λ _. cond-ind (λ (a : OperationAnswer). settingFound a ≡ 0) (eqb n 2) _ _ (λ _. refl)
+    (λ _. cond-ind (λ (a : OperationAnswer). settingFound a ≡ 0) (eqb n 3) _ _ (λ _. refl)
+    (λ _. cond-ind (λ (a : OperationAnswer). settingFound a ≡ 0) (eqb n 4) _ _ (λ _. refl) (λ _. refl))))
+
+-- Each update of a record alters its own word alone, from the third word to the ninth.
 pub update-alone :
     Numbered (λ n f. (x : ℕ) (p : Party) → words (f x p) ≡ set (words p) n x) 2 (atStep ∷ withLev ∷ withChain ∷ withOther ∷ withOld ∷ withOwed ∷ withAnswer ∷ [])
 update-alone = (λ x p. refl) ▸ (λ x p. refl) ▸ (λ x p. refl) ▸ (λ x p. refl) ▸ (λ x p. refl) ▸ (λ x p. refl) ▸ (λ x p. refl) ▸ tt

@@ -7,7 +7,8 @@ use Rattle.model.specs.declared.OperationAnswer.{OperationAnswer}
 use Rattle.model.specs.declared.OperationAnswer.the-variants as OperationAnswer
 use Rattle.model.specs.declared.Restructuring.{Restructuring}
 use Rattle.model.specs.declared.Restructuring.the-variants as Restructuring
-use Rattle.model.specs.Entries.{hasKey}
+use Rattle.model.specs.Answers.{foundOrAbsent}
+use Rattle.model.specs.Entries.{hasKey, settingIn}
 use Rattle.model.specs.Pages.{pageOf, linkOf, linkedPage, pageSound, entriesOf}
 use Rattle.model.specs.Outcome.{View, Outcome, moved, guarded}
 use Rattle.model.specs.LockRequests.{chainLock, heldAll, givenUp}
@@ -26,9 +27,9 @@ lookedOn v =
     let w = pageOf (v .pages) (linkedPage (linkOf (scratchOf v))) in
     guarded v (pageSound (v .root) w) (moved (withScratch w v))
 
--- 9: key on the scratch page: found. No link: absent. Else on.
+-- 9: key on the scratch page: found, with the setting that stands there. No link: absent. Else on.
 unfoldable pub step09 : View → Outcome
 step09 v =
     let s = scratchOf v in
     let on = cond (eqb (linkOf s) 0) (answered v OperationAnswer.Absent) (lookedOn v) in
-    guarded v (pageSound (v .root) s) (cond (hasKey (v .party .key) (entriesOf s)) (answered v OperationAnswer.Found) on)
+    guarded v (pageSound (v .root) s) (cond (hasKey (v .party .key) (entriesOf s)) (answered v (foundOrAbsent (settingIn (v .party .key) (entriesOf s)))) on)

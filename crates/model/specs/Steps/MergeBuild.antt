@@ -7,7 +7,8 @@ use Rattle.model.specs.declared.Restructuring.{Restructuring}
 use Rattle.model.specs.declared.Restructuring.the-variants as Restructuring
 use Rattle.model.specs.declared.Root.{Root}
 use Rattle.model.specs.Records.{atStep, withOld}
-use Rattle.model.specs.Entries.{Entry, joined, sharesKey}
+use Rattle.model.specs.declared.Entry.{Entry}
+use Rattle.model.specs.Entries.{joined, sharesKey}
 use Rattle.model.specs.Chains.{Checked, andThen, Chain, chainOf, soundIf}
 use Rattle.model.specs.Filling.{pagesFor}
 use Rattle.model.specs.Outcome.{View, withParty, Outcome, moved, guarded, checked}
@@ -46,7 +47,7 @@ combineWith v m =
     let build = checked v (pagesTaken (v .root) (v .pages) (pagesFor (v .root .capacity) es)) (λ t. combined v m t) in
     cond (mergeGoes (v .root) es) build (endedWith v (mergeLocks rootExclusive (v .party)) Restructuring.MergeSkipped)
 
--- 26: join both key lists. "n = N at 26" is damage.
+-- 26: join the records of both chains. "n = N at 26" is damage.
 unfoldable pub step26 : View → Outcome
 step26 v =
     let join = checked v (pairOf (v .root) (v .pages) (v .party .chain) (v .party .other)) (λ m. combineWith v m) in

@@ -10,7 +10,8 @@ use Rattle.model.specs.declared.OperationAnswer.the-variants as Operatio
 use Rattle.model.specs.declared.Party.{Party}
 use Rattle.model.specs.Records.{atStep, withAnswer, withOld, withOwed, insertOperation, owesNone, owesSplit, owesMerge}
 use Rattle.model.specs.Answers.{answerNumber}
-use Rattle.model.specs.Entries.{hasKey, Entry, entryOf, insertedInto, removedFrom, isEmpty}
+use Rattle.model.specs.declared.Entry.{Entry}
+use Rattle.model.specs.Entries.{hasKey, entryOf, insertedInto, removedFrom, isEmpty}
 use Rattle.model.specs.Chains.{Chain, chainOf}
 use Rattle.model.specs.Filling.{pagesFor}
 use Rattle.model.specs.Outcome.{View, withParty, Outcome, moved, checked}
@@ -26,11 +27,11 @@ pub data Change : Type 0 where
   -- The answer's number, and the records then.
   changed : ℕ → List Entry → Change
 
--- "Insert of a present key answers present, delete of a missing one absent".
-unfoldable pub changeOf : ℕ → ℕ → List Entry → Change
-changeOf operation k es =
+-- "Insert of a present key answers present, delete of a missing one absent"; "an insert of a present key keeps the old one": the operation, its key k and setting x.
+unfoldable pub changeOf : ℕ → ℕ → ℕ → List Entry → Change
+changeOf operation k x es =
     cond (eqb operation insertOperation)
-    (cond (hasKey k es) (kept (answerNumber OperationAnswer.Present)) (changed (answerNumber OperationAnswer.Inserted) (insertedInto (entryOf k) es)))
+    (cond (hasKey k es) (kept (answerNumber OperationAnswer.Present)) (changed (answerNumber OperationAnswer.Inserted) (insertedInto (entryOf k x) es)))
     (cond (hasKey k es) (changed (answerNumber OperationAnswer.Deleted) (removedFrom k es)) (kept (answerNumber OperationAnswer.Absent)))
 
 -- "An insert whose new chain has more overflow pages than the old owes a split".
@@ -71,4 +72,4 @@ rebuildWith v c (changed a es) =
 
 -- 10: look through the whole chain in the file; change it beside the file.
 unfoldable pub step10 : View → Outcome
-step10 v = checked v (chainOf (v .root) (v .pages) (v .party .chain)) (λ c. rebuildWith v c (changeOf (v .party .operation) (v .party .key) (c .entries)))
+step10 v = checked v (chainOf (v .root) (v .pages) (v .party .chain)) (λ c. rebuildWith v c (changeOf (v .party .operation) (v .party .key) (v .party .setting) (c .entries)))

@@ -8,7 +8,8 @@ use Rattle.model.specs.declared.Restructuring.{Restructuring}
 use Rattle.model.specs.declared.Restructuring.the-variants as Restructuring
 use Rattle.model.specs.Records.{atStep, withOld}
 use Rattle.model.specs.Addresses.{countOfChains, splitBarred}
-use Rattle.model.specs.Entries.{Entry, staying, going}
+use Rattle.model.specs.declared.Entry.{Entry}
+use Rattle.model.specs.Entries.{staying, going}
 use Rattle.model.specs.Pages.{withPage, primaryPage}
 use Rattle.model.specs.Chains.{Chain, chainOf}
 use Rattle.model.specs.Filling.{pagesFor, primaryOf, overflowWritten}

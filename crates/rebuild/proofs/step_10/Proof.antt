@@ -1,10 +1,9 @@
 -- `rebuild::step_10` meets its contract: Outcomes has its three cases.
-use mathlib.Core.Path.{sym, ap, _∙_}
+use mathlib.Core.Path.{ap, _∙_}
 use native.Mathlib.Omega.{arith}
 use Rattle.model.specs.declared.Party.{Party}
 use Rattle.model.specs.Pages.{pageOf, linkOf}
 use Rattle.records.specs.Words.{rootIn, partyIn, seen}
-use Rattle.chain_change.specs.Changing.{CanChange}
 use Rattle.chain_change.proofs.Changes.{ready-can-change}
 use Rattle.rebuild.proofs.Outcomes.{damage-met, nothing-changed, chain-changed}
 use borrow.Author.Needs.{needs}

@@ -1,6 +1,7 @@
 -- `refusals::within_limits` meets its contract: each test that refuses breaks a limit, and the last decides.
 use native.Mathlib.Omega.{arith}
 use borrow.Author.Tests.{leb-true, le-leb}
+use Rattle.model.specs.Sizes.{mostRecords}
 use Rattle.model.proofs.Invariant.Start.{limits-within}
 use Rattle.model.proofs.Theorems.Calls.{within-limits}
 use Rattle.model.proofs.Laws.Booleans.{eq-of-iff}
@@ -50,7 +51,7 @@ returns-8 c =
       some-party = omega (arith, some .if4 .left);
       parties-fit = omega (arith, parties .if5 .left);
     })
-    (λ e. le-leb (root .capacity) 12 (limits-within root e .keys-fit))
+    (λ e. le-leb (root .capacity) mostRecords (limits-within root e .keys-fit))
 
 pub within-limits-spec : {M : Type 1} → statement M
 within-limits-spec =

@@ -21,9 +21,9 @@ sub-t9 c =
     let at-first-place = at-count .before in
     let start = at-first-place .before .before .before in
     let a = start .args in
-    let keys = at-first-place .first-place .ensures .2 in
+    let same = at-first-place .first-place .ensures .2 in
     let sits = at-first-place .first-place .ensures .0 in
-    some-stay (a .root) (a .pages .now) (a .chain) (a .l) (start .pre) (at-first-place .first-place .result) (at-count .count .result) sits keys (at-count .count .ensures)
+    some-stay (a .root) (a .pages .now) (a .chain) (a .l) (start .pre) (at-first-place .first-place .result) (at-count .count .result) sits same (at-count .count .ensures)
 
 returns : tie.Need-returns
 unfolding recordsOf
@@ -32,9 +32,9 @@ returns c =
     let at-first-place = at-count .before in
     let start = at-first-place .before .before .before in
     let a = start .args in
-    let keys = at-first-place .first-place .ensures .2 in
+    let same = at-first-place .first-place .ensures .2 in
     let sits = at-first-place .first-place .ensures .0 in
-    division-divides (a .root) (a .pages .now) (a .chain) (a .l) (start .pre) (at-first-place .first-place .result) (at-count .count .result) sits keys (at-count .count .ensures)
+    division-divides (a .root) (a .pages .now) (a .chain) (a .l) (start .pre) (at-first-place .first-place .result) (at-count .count .result) sits same (at-count .count .ensures)
 
 pub division-of-spec : {M : Type 1} → statement M
 division-of-spec = tie.close (tie.spec add-t9 first-place-requires count-requires sub-t9 returns)

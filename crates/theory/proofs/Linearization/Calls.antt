@@ -19,8 +19,9 @@ use Rattle.model.specs.declared.StepAnswer.the-variants as StepAnswer
 use Rattle.model.specs.declared.BeginAnswer.{BeginAnswer}
 use Rattle.model.specs.declared.BeginAnswer.the-variants as BeginAnswer
 use Rattle.model.specs.Records.{idle, begun, atStep}
-use Rattle.model.specs.Answers.{operationNumber, answerNumber, answerOf, performs}
-use Rattle.model.specs.Entries.{Entry, hasKey}
+use Rattle.model.specs.Answers.{operationNumber, answerNumber, answerOf, performs, settingGiven}
+use Rattle.model.specs.declared.Entry.{Entry}
+use Rattle.model.specs.Entries.{hasKey}
 use Rattle.model.specs.Pages.{withPage, pageSound, primaryPage}
 use Rattle.model.specs.Outcome.{View, Outcome, withParty, withPages, moved, guarded}
 use Rattle.model.specs.ScratchPages.{scratchOf, primaryWritten}
@@ -42,7 +43,7 @@ use Rattle.theory.proofs.Alters.{nothing-altered}
 use Rattle.theory.proofs.Linearization.Ordering.{looking, Begun, Suffix, nothing-left}
 use Rattle.theory.proofs.Linearization.Leads.{Passage, searches, at-six, at-ten, at-eleven, goes-on, Leads, stays, moves, ends, step-leads}
 use Rattle.theory.proofs.Linearization.Turns.{Turn, still, begins, turn-on}
-use Rattle.theory.proofs.Linearization.Notes.{setOf, after-eleven}
+use Rattle.theory.proofs.Linearization.Notes.{mapOf, after-eleven}
 use Rattle.theory.proofs.Linearization.StepTurns.{noteOr, statusBy, statusOf, own-record, states-then, StepTurn, waits-turn, searches-turn, goes-on-turn, done-turn, six-turn, ten-turn, eleven-turn}
 
 -- ---- Which operation, and whether 11 makes a change
@@ -54,7 +55,7 @@ not-find o n h has i = false≢true (sym h ∙ ap (λ (x : Operation). hasStep (
 find-only : (o : Operation) → operationNumber o ≡ 1 → o ≡ Operation.Find
 unfolding operationNumber
 find-only Operation.Find h = refl
-find-only Operation.Insert h = absurd (omega arith)
+find-only (Operation.Insert x) h = absurd (omega arith)
 find-only Operation.Delete h = absurd (omega arith)
 
 find-lacks-ten : hasStep (operationNumber Operation.Find) 10 ≡ false
@@ -76,9 +77,9 @@ changes-chain true false x y a es h = let z : 1 ≡ a = cc in rw (← z) refl
 changes-chain false true x y a es h = let z : 3 ≡ a = cc in rw (← z) refl
 changes-chain false false x y a es h = absurd (let z : _≡_ {A = ℕ} 0 1 = cc in omega arith)
 
-changed-is-change : (operation k : ℕ) (es : List Entry) (a : ℕ) (xs : List Entry) → changeOf operation k es ≡ changed a xs → isChange a ≡ true
+changed-is-change : (operation k x : ℕ) (es : List Entry) (a : ℕ) (xs : List Entry) → changeOf operation k x es ≡ changed a xs → isChange a ≡ true
 unfolding changeOf
-changed-is-change operation k es a xs h = changes-chain (eqb operation 2) (hasKey k es) _ _ a xs h
+changed-is-change operation k x es a xs h = changes-chain (eqb operation 2) (hasKey k es) _ _ a xs h
 
 made-is-change : (t : Bool) → isChange (answerNumber (answerOf (cond t 1 3))) ≡ true
 unfolding isChange answerNumber answerOf
@@ -134,7 +135,7 @@ module _ (m : Memory) (b : Book) (i : Inv m b) (q : ℕ) (in-row : q < m .root .
       was = facts-at 10 (sceneOf m (i .ghost) b) q (partyAt (m .parties) q) k (i .parties-ok q in-row)
 
       changes : isChange (partyAt (m .parties) q .answer) ≡ true
-      changes = changed-is-change _ _ _ _ (was .facts .after) (was .facts .change)
+      changes = changed-is-change _ _ _ _ _ (was .facts .after) (was .facts .change)
 
       own : partyAt (then .parties) q ≡ out .after .party
       own = own-record m b i q in-row (out .after) number=
@@ -205,8 +206,8 @@ module _ (m : Memory) (b : Book) (i : Inv m b) (q : ℕ) where
 -- A begin with this answer and memory is a turn.
 abbrev pub BeginTurn : Memory → Book → ℕ → Operation → ℕ → Called BeginAnswer → Type 0
 BeginTurn m b q o k x =
-    Turn (statusOf m b) (setOf b) (record { call = beginFor q o k; number = partyAt (m .parties) q .step; reply = toBegin (x .answer) })
-    (statusOf (x .memory) (afterBegin b q o k (x .answer))) (setOf (afterBegin b q o k (x .answer)))
+    Turn (statusOf m b) (mapOf b) (record { call = beginFor q o k; number = partyAt (m .parties) q .step; reply = toBegin (x .answer) })
+    (statusOf (x .memory) (afterBegin b q o k (x .answer))) (mapOf (afterBegin b q o k (x .answer)))
 
 module _ (m : Memory) (b : Book) (i : Inv m b) (q : ℕ) (o : Operation) (k : ℕ) where
   begin-refused-turn : (n : ℕ) → beginCall m q o k ≡ called (BeginAnswer.Refused n) m → BeginTurn m b q o k (beginCall m q o k)
@@ -214,7 +215,7 @@ module _ (m : Memory) (b : Book) (i : Inv m b) (q : ℕ) (o : Operation) (k : �
   begin-refused-turn n x = subst (BeginTurn m b q o k) (sym x) (still (λ j es rest. refl) (λ p. refl) (λ p u l a h. refl) refl refl)
 
   abbrev viewThen : View
-  viewThen = record { root = m .root; party = begun (operationNumber o) k; number = q; locks = m .locks; pages = m .pages }
+  viewThen = record { root = m .root; party = begun (operationNumber o) k (settingGiven o); number = q; locks = m .locks; pages = m .pages }
 
   begun-turn : q < m .root .parties → b .entries q ≡ none → beginCall m q o k ≡ called BeginAnswer.Begun (withBegun m q o k) → BeginTurn m b q o k (beginCall m q o k)
   unfolding afterBegin withBegun enter statusOf isBehind
@@ -241,18 +242,18 @@ module _ (m : Memory) (b : Book) (i : Inv m b) (q : ℕ) (o : Operation) (k : �
 -- ---- A list of calls
 
 pub call-turn : (m : Memory) (b : Book) → Inv m b → (c : Call)
-    → Turn (statusOf m b) (setOf b) (eventOf m c) (statusOf (afterCall m c) (bookAfter b c (partyAt (m .parties) (callerOf c) .step) (replyTo m c)))
-    (setOf (bookAfter b c (partyAt (m .parties) (callerOf c) .step) (replyTo m c)))
+    → Turn (statusOf m b) (mapOf b) (eventOf m c) (statusOf (afterCall m c) (bookAfter b c (partyAt (m .parties) (callerOf c) .step) (replyTo m c)))
+    (mapOf (bookAfter b c (partyAt (m .parties) (callerOf c) .step) (replyTo m c)))
 unfolding eventOf replyTo afterCall bookAfter
 call-turn m b i (beginFor q o k) = begin-turn m b i q o k
 call-turn m b i (stepFor q) = step-turn m b i q
 
 pub run-suffix : (m : Memory) (b : Book) → Inv m b → (cs : List Call) (n : ℕ) (begun : ℕ → ℕ) → Begun n begun (statusOf m b)
-    → Suffix n begun (statusOf m b) (setOf b) (events m cs) (statusOf (finalMemory m cs) (bookAtEnd b (events m cs))) (setOf (bookAtEnd b (events m cs)))
+    → Suffix n begun (statusOf m b) (mapOf b) (events m cs) (statusOf (finalMemory m cs) (bookAtEnd b (events m cs))) (mapOf (bookAtEnd b (events m cs)))
 unfolding events finalMemory bookAtEnd eventOf
-run-suffix m b i [] n begun g = nothing-left n begun (statusOf m b) (setOf b)
+run-suffix m b i [] n begun g = nothing-left n begun (statusOf m b) (mapOf b)
 run-suffix m b i (c ∷ cs) n begun g =
     let then = afterCall m c in
     let book = bookAfter b c (partyAt (m .parties) (callerOf c) .step) (replyTo m c) in
-    turn-on n begun (statusOf m b) (setOf b) (eventOf m c) (statusOf then book) (setOf book) (events then cs) _ _ g
+    turn-on n begun (statusOf m b) (mapOf b) (eventOf m c) (statusOf then book) (mapOf book) (events then cs) _ _ g
     (λ begun′ g′. run-suffix then book (call-kept steps-kept m b i c .inv) cs (n + 1) begun′ g′) (call-turn m b i c)

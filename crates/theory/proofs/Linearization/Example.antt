@@ -1,9 +1,9 @@
--- A run of 27 calls with its linearization, worked out by the checker: one chain, one key a page, two parties.
--- Party 0 inserts 5. A find of party 1 looks at the chain before the insert writes it, and answers absent after that; the
--- next find answers found, while the insert is still under way. Then party 1 begins a delete.
+-- A run of 27 calls with its linearization, worked out by the checker: one chain, one record a page, two parties.
+-- Party 0 inserts 5 with setting 9. A find of party 1 looks at the chain before the insert writes it, and answers absent after that; the
+-- next find answers found with 9, while the insert is still under way. Then party 1 begins a delete.
 -- In the order the first find stands before the insert, though it begins later, and is answered after the insert took effect.
--- Main statements: its-events, its-operations, its-effects, its-order, its-times (each by computing); order-of-begins
--- (the order of the begins is refused).
+-- Main statements: its-events, its-operations, its-effects, its-order, its-map, its-times (each by computing); other-setting,
+-- order-of-begins (another setting found and the order of the begins are refused).
 use mathlib.Core.Path.{_≡_, refl}
 use mathlib.Core.Bool.{Bool, true, false, _&&_}
 use mathlib.Core.List.{List, [], _∷_}
@@ -16,17 +16,17 @@ use Rattle.model.specs.declared.Restructuring.the-variants as Restructuring
 use Rattle.model.specs.declared.StepAnswer.the-variants as StepAnswer
 use Rattle.model.specs.declared.BeginAnswer.the-variants as BeginAnswer
 use Rattle.model.specs.Addresses.{addressLevel, addressOf, chainCount, hash, hashed, span}
-use Rattle.model.specs.Answers.{answerNumber, operationNumber}
+use Rattle.model.specs.Answers.{answerNumber, operationNumber, settingGiven, foundOrAbsent, sameAnswer, settingFound}
 use Rattle.model.specs.Book.{changedAt}
 use Rattle.model.specs.Calls.{beginCall, stepCall, stepped, withBegun}
 use Rattle.model.specs.Chains.{ascendingChain, chainOf, entriesOn, listFrom, overflowFrom, readChain}
-use Rattle.model.specs.Entries.{ascending, belowFirst, hasKey, insertedInto, isEmpty, removedFrom}
+use Rattle.model.specs.Entries.{ascending, belowFirst, hasKey, insertedInto, isEmpty, removedFrom, settingIn}
 use Rattle.model.specs.Filling.{filled, overflowNeeded, overflowWritten, pagesFor, primaryOf}
 use Rattle.model.specs.FreeList.{alsoTaken, isAmong, pagesTaken, takenFrom, tooFew, rootAfterTaking}
 use Rattle.model.specs.LockWords.{fieldOf, grantedWord, holds, permits, releasedWord, withField}
 use Rattle.model.specs.Memory.{formatted, formattedPages, formattedRoot, freePages}
 use Rattle.model.specs.LockRequests.{givenUp, heldAll, isGranted, isHeld, request, withHold, withoutHold, modeOf, release}
-use Rattle.model.specs.Pages.{countOf, entriesOf, filledPage, freePage, levelOf, linkOf, linkSound, linkToFirst, namesOverflow, pageOf, pageSound, withPage, zeroPage}
+use Rattle.model.specs.Pages.{countOf, entriesOf, filledPage, freePage, levelOf, linkOf, linkSound, linkToFirst, namesOverflow, pageOf, pageSound, withPage, zeroPage, wordsOf, recordsIn}
 use Rattle.model.specs.Refusals.{beginRows, firstCause, lengthsFit, partySound, recordSound, rootSound, stepRows}
 use Rattle.model.specs.Runs.{afterCall, eventOf, events, finalMemory, replyTo, Call, beginFor, stepFor, Reply, toBegin, toStep, Event}
 use Rattle.model.specs.Sizes.{withinLimits}
@@ -38,9 +38,9 @@ use Rattle.model.specs.Steps.Dispatch.{hasStep, stepOf, stepTable}
 use Rattle.model.specs.Steps.Find.{answered, lookedOn, step09}
 use Rattle.model.specs.Steps.Chase.{arrived, chase, chaseOf, chasing, step06}
 use Rattle.model.specs.Steps.Locate.{located, step01, step02, step03, step04, step05}
-use Rattle.theory.specs.PlainSet.{emptySet, plainAnswer, plainAfter, mayLackPages, isNoPage, answersAsSet, setLeftBy}
+use Rattle.theory.specs.PlainMap.{emptyMap, plainAnswer, keptOr, plainAfter, mayLackPages, isNoPage, answersAsMap, mapLeftBy}
 use Rattle.theory.specs.Demands.{Sizes, start, Reached}
-use Rattle.theory.specs.Linearization.{Operated, Answered, answerIn, answerTo, orLater, firstAnswer, entering, operationsFrom, operationsOf, isBehind, hasTakenEffect, Linearized, ascendingFrom, timesIn, answersInOrder, setAfter}
+use Rattle.theory.specs.Linearization.{Operated, Answered, answerIn, answerTo, orLater, firstAnswer, entering, operationsFrom, operationsOf, isBehind, hasTakenEffect, Linearized, ascendingFrom, timesIn, answersInOrder, mapAfter}
 
 -- ---- The run
 
@@ -57,7 +57,7 @@ happened c n x = record { call = c; number = n; reply = x }
 -- The calls, with the step number at each and the reply.
 abbrev transcript : List Event
 transcript =
-    happened (beginFor 0 Operation.Insert 5) 0 (toBegin BeginAnswer.Begun)
+    happened (beginFor 0 (Operation.Insert 9) 5) 0 (toBegin BeginAnswer.Begun)
     ∷ happened (beginFor 1 Operation.Find 5) 0 (toBegin BeginAnswer.Begun)
     ∷ happened (stepFor 1) 1 (toStep StepAnswer.Moved)
     ∷ happened (stepFor 1) 2 (toStep StepAnswer.Moved)
@@ -81,7 +81,7 @@ transcript =
     ∷ happened (stepFor 1) 4 (toStep StepAnswer.Moved)
     ∷ happened (stepFor 1) 5 (toStep StepAnswer.Moved)
     ∷ happened (stepFor 1) 6 (toStep StepAnswer.Moved)
-    ∷ happened (stepFor 1) 9 (toStep (StepAnswer.Done OperationAnswer.Found Restructuring.None))
+    ∷ happened (stepFor 1) 9 (toStep (StepAnswer.Done (OperationAnswer.Found 9) Restructuring.None))
     ∷ happened (beginFor 1 Operation.Delete 5) 0 (toBegin BeginAnswer.Begun)
     ∷ happened (stepFor 1) 1 (toStep StepAnswer.Moved)
     ∷ []
@@ -95,7 +95,7 @@ calls = callsOf transcript
 
 -- Every definition that the run takes.
 opened : ℕ
-unfolding addressLevel addressOf chainCount hash hashed span answerNumber operationNumber changedAt beginCall stepCall stepped withBegun ascendingChain chainOf entriesOn listFrom overflowFrom readChain ascending belowFirst hasKey insertedInto isEmpty removedFrom filled overflowNeeded overflowWritten pagesFor primaryOf alsoTaken isAmong pagesTaken takenFrom tooFew fieldOf grantedWord holds permits releasedWord withField formatted formattedPages formattedRoot freePages givenUp heldAll isGranted isHeld request withHold withoutHold countOf entriesOf filledPage freePage levelOf linkOf linkSound linkToFirst namesOverflow pageOf pageSound withPage zeroPage beginRows firstCause lengthsFit partySound recordSound rootSound stepRows afterCall eventOf events finalMemory replyTo withinLimits changeOf changesNothing changing isChange mergeOwed owedBy primaryWritten rebuildWith rebuilt rootAfterTaking splitOwed step10 step11 hasStep stepOf stepTable answered lookedOn step09 arrived chase chaseOf chasing located modeOf release step01 step02 step03 step04 step05 step06 hasTakenEffect isBehind
+unfolding addressLevel addressOf chainCount hash hashed span answerNumber operationNumber settingGiven foundOrAbsent changedAt beginCall stepCall stepped withBegun ascendingChain chainOf entriesOn listFrom overflowFrom readChain ascending belowFirst hasKey settingIn insertedInto isEmpty removedFrom filled overflowNeeded overflowWritten pagesFor primaryOf alsoTaken isAmong pagesTaken takenFrom tooFew fieldOf grantedWord holds permits releasedWord withField formatted formattedPages formattedRoot freePages givenUp heldAll isGranted isHeld request withHold withoutHold countOf recordsIn entriesOf wordsOf filledPage freePage levelOf linkOf linkSound linkToFirst namesOverflow pageOf pageSound withPage zeroPage beginRows firstCause lengthsFit partySound recordSound rootSound stepRows afterCall eventOf events finalMemory replyTo withinLimits changeOf changesNothing changing isChange mergeOwed owedBy primaryWritten rebuildWith rebuilt rootAfterTaking splitOwed step10 step11 hasStep stepOf stepTable answered lookedOn step09 arrived chase chaseOf chasing located modeOf release step01 step02 step03 step04 step05 step06 hasTakenEffect isBehind
 opened = 0
 
 its-events : events (start sizes) calls ≡ transcript
@@ -108,13 +108,13 @@ abbrev answeredAt : ℕ → OperationAnswer → Answered
 answeredAt n a = record { call = n; answer = a }
 
 abbrev insert-of-zero : Operated
-insert-of-zero = record { begun = 1; party = 0; operation = Operation.Insert; key = 5; answered = none }
+insert-of-zero = record { begun = 1; party = 0; operation = Operation.Insert 9; key = 5; answered = none }
 
 abbrev first-find : Operated
 first-find = record { begun = 2; party = 1; operation = Operation.Find; key = 5; answered = some (answeredAt 17 OperationAnswer.Absent) }
 
 abbrev second-find : Operated
-second-find = record { begun = 18; party = 1; operation = Operation.Find; key = 5; answered = some (answeredAt 25 OperationAnswer.Found) }
+second-find = record { begun = 18; party = 1; operation = Operation.Find; key = 5; answered = some (answeredAt 25 (OperationAnswer.Found 9)) }
 
 abbrev delete-of-one : Operated
 delete-of-one = record { begun = 26; party = 1; operation = Operation.Delete; key = 5; answered = none }
@@ -138,12 +138,23 @@ abbrev order : List Linearized
 order =
     record { operated = first-find; point = 8; answer = OperationAnswer.Absent }
     ∷ record { operated = insert-of-zero; point = 16; answer = OperationAnswer.Inserted }
-    ∷ record { operated = second-find; point = 24; answer = OperationAnswer.Found }
+    ∷ record { operated = second-find; point = 24; answer = OperationAnswer.Found 9 }
     ∷ []
 
-its-order : (ascendingFrom 1 order && answersInOrder emptySet order && setAfter emptySet order 5) ≡ true
-unfolding ascendingFrom answersInOrder setAfter emptySet answersAsSet setLeftBy plainAnswer plainAfter mayLackPages isNoPage answerNumber changedAt
+its-order : (ascendingFrom 1 order && answersInOrder emptyMap order) ≡ true
+unfolding ascendingFrom answersInOrder emptyMap answersAsMap mapLeftBy plainAnswer plainAfter keptOr mayLackPages isNoPage sameAnswer answerNumber settingFound foundOrAbsent changedAt
 its-order = refl
+
+-- The map that it leaves has 5 with 9.
+its-map : mapAfter emptyMap order 5 ≡ some 9
+unfolding mapAfter emptyMap mapLeftBy plainAfter keptOr isNoPage answerNumber changedAt
+its-map = refl
+
+-- With another setting found, no plain map gives these answers.
+other-setting : answersInOrder emptyMap
+    (record { operated = insert-of-zero; point = 16; answer = OperationAnswer.Inserted } ∷ record { operated = second-find; point = 24; answer = OperationAnswer.Found 8 } ∷ []) ≡ false
+unfolding answersInOrder emptyMap answersAsMap mapLeftBy plainAnswer plainAfter keptOr mayLackPages isNoPage sameAnswer answerNumber settingFound foundOrAbsent changedAt
+other-setting = refl
 
 abbrev timesOf : List Operated → List ℕ
 timesOf [] = []
@@ -153,7 +164,7 @@ its-times : timesOf (insert-of-zero ∷ first-find ∷ second-find ∷ delete-of
 unfolding timesIn
 its-times = refl
 
--- In the order of the begins no plain set gives these answers.
-order-of-begins : answersInOrder emptySet (record { operated = insert-of-zero; point = 1; answer = OperationAnswer.Inserted } ∷ record { operated = first-find; point = 2; answer = OperationAnswer.Absent } ∷ []) ≡ false
-unfolding answersInOrder emptySet answersAsSet setLeftBy plainAnswer plainAfter mayLackPages isNoPage answerNumber changedAt
+-- In the order of the begins no plain map gives these answers.
+order-of-begins : answersInOrder emptyMap (record { operated = insert-of-zero; point = 1; answer = OperationAnswer.Inserted } ∷ record { operated = first-find; point = 2; answer = OperationAnswer.Absent } ∷ []) ≡ false
+unfolding answersInOrder emptyMap answersAsMap mapLeftBy plainAnswer plainAfter keptOr mayLackPages isNoPage sameAnswer answerNumber settingFound foundOrAbsent changedAt
 order-of-begins = refl

@@ -16,7 +16,7 @@ use Rattle.model.specs.declared.StepAnswer.the-variants as StepAnswer
 use Rattle.model.specs.Records.{idle, withOld, withOwed}
 use Rattle.model.specs.LockWords.{Claim}
 use Rattle.model.specs.Addresses.{splitBarred, countOfChains}
-use Rattle.model.specs.Entries.{hasKey}
+use Rattle.model.specs.Entries.{hasKey, settingIn}
 use Rattle.model.specs.Pages.{pageOf, levelOf, linkOf, entriesOf, pageSound, primaryPage, linkedPage, namesOverflow}
 use Rattle.model.specs.Chains.{Checked, damaged, sound, Chain, chainOf, listFrom}
 use Rattle.model.specs.Filling.{pagesFor}
@@ -38,7 +38,7 @@ use Rattle.model.specs.Steps.MergeBuild.{Pair, pairOf, joinedEntries, mergeGoes
 use Rattle.model.specs.Steps.MergeLocks.{mergeStops, merging, step23, step24, step25, step30}
 use Rattle.model.specs.Steps.MergeWrite.{mergedAway, partnerCleared, step27, step28, step29}
 use Rattle.model.specs.Steps.Dispatch.{noStep, stepTable, stepOf}
-use Rattle.model.specs.Answers.{performs}
+use Rattle.model.specs.Answers.{performs, foundOrAbsent}
 use Rattle.theory.specs.Linearization.{isBehind}
 use Rattle.model.proofs.Laws.Lists.{cond-ind, eqb-true, Numbered, numbered-at, _▸_}
 use Rattle.model.proofs.Effects.GiveUps.{given-up-rest}
@@ -188,7 +188,7 @@ unfolding step09
 leads-09 v e =
     let s = scratchOf v in
     guarded-leads v 9 (pageSound (v .root) s)
-    (either-leads v 9 (hasKey (v .party .key) (entriesOf s)) (answered-leads v OperationAnswer.Found)
+    (either-leads v 9 (hasKey (v .party .key) (entriesOf s)) (answered-leads v (foundOrAbsent (settingIn (v .party .key) (entriesOf s))))
     (either-leads v 9 (eqb (linkOf s) 0) (answered-leads v OperationAnswer.Absent) (looked-leads v e)))
 
 rebuild-leads : (v : View) (c : Chain) (h : Change) → Leads v 10 (rebuildWith v c h)

@@ -1,121 +1,92 @@
--- The set book's notes at 6, 10 and 11 are answers of the plain set that its contents are, and the contents after them are
--- what that set becomes.
--- Main statements: setOf; six-plain, six-left, ten-plain, ten-left, eleven-plain, eleven-left; ten-decides, eleven-decides
+-- The book's notes at 6, 10 and 11 are answers of the plain map that its contents are, and the contents after them are
+-- what that map becomes.
+-- Main statements: mapOf; six-plain, six-left, ten-plain, ten-left, eleven-plain, eleven-left; ten-decides, eleven-decides
 -- (the decisive step); noted-elsewhere, noted-contents, noted-own (what a note leaves); after-six, after-ten, after-eleven
 -- (the book then); note-is-answer.
-use mathlib.Core.Path.{_≡_, refl, sym, ap, _∙_, subst}
+use mathlib.Core.Path.{_≡_, refl, sym, ap, subst}
 use mathlib.Core.Logic.{_≢_}
-use mathlib.Core.Bool.{Bool, true, false, cond, false≢true}
+use mathlib.Core.Bool.{Bool, true, false, false≢true}
 use mathlib.Core.Option.{Option, none, some}
 use Prim.Native.Nat.{ℕ}
 use lib.Dec.{eqb}
 use Rattle.model.specs.declared.Operation.{Operation}
 use Rattle.model.specs.declared.Operation.the-variants as Operation
 use Rattle.model.specs.declared.OperationAnswer.{OperationAnswer}
-use Rattle.model.specs.declared.OperationAnswer.the-variants as OperationAnswer
-use Rattle.model.specs.Answers.{answerNumber}
+use Rattle.model.specs.Answers.{answerNumber, foundOrAbsent, sameAnswer, settingFound}
 use Rattle.model.specs.Book.{Value, Entered, Book, isIn, changedAt, withEntry, withContent, noted, noteAtSix, noteAtTen, noteAtEleven, contentAtEleven, notedIfFind, noteStep, noteFor, isNote}
-use Rattle.theory.specs.PlainSet.{PlainSet, plainAnswer, plainAfter, mayLackPages, isNoPage, answersAsSet, setLeftBy}
+use Rattle.theory.specs.PlainMap.{PlainMap, plainAnswer, keptOr, plainAfter, mayLackPages, isNoPage, answersAsMap, mapLeftBy}
 use Rattle.model.specs.Steps.Write.{isChange}
 use Rattle.theory.specs.Linearization.{decisiveStep}
-use Rattle.model.proofs.Laws.Lists.{Cmp, same, diff, cmp, cond-ind, eqb-true, eqb-diff}
+use Rattle.model.proofs.Laws.Lists.{cond-ind, eqb-diff, left-or}
 use Rattle.model.proofs.Invariant.Facts.{changed-here, changed-elsewhere}
-use Rattle.theory.proofs.Singly.Alone.{answer-same}
+use Rattle.model.proofs.Laws.Answers.{same-answer, answers-same}
+use Rattle.theory.proofs.PlainMaps.{changed-same, out-none, kept-there, content-kept}
 
--- The book's set.
-abbrev pub setOf : Book → PlainSet
-setOf b k = isIn (b .contents k)
-
--- A set changed at a key to what it says there is the same set.
-changed-same : (s : PlainSet) (k : ℕ) (t : Bool) → s k ≡ t → (j : ℕ) → changedAt s k t j ≡ s j
-changed-same s k t h j = go (cmp j k)
-  where
-    go : Cmp j k → changedAt s k t j ≡ s j
-    go (same i) = changed-here s k t j i ∙ sym h ∙ ap s (sym i)
-    go (diff d) = changed-elsewhere s k t j d
+-- The book's map.
+abbrev pub mapOf : Book → PlainMap
+mapOf b = b .contents
 
 -- ---- 6 of a find
 
-pub six-plain : (s : PlainSet) (k : ℕ) (t : Bool) → s k ≡ t → answersAsSet s Operation.Find k (cond t OperationAnswer.Found OperationAnswer.Absent) ≡ true
-unfolding answersAsSet plainAnswer answerNumber
-six-plain s k true h = rw h refl
-six-plain s k false h = rw h refl
+pub six-plain : (s : PlainMap) (k : ℕ) → answersAsMap s Operation.Find k (foundOrAbsent (s k)) ≡ true
+unfolding answersAsMap plainAnswer
+six-plain s k = left-or _ (same-answer (foundOrAbsent (s k)))
 
-pub six-left : (s : PlainSet) (k : ℕ) (t : Bool) → setLeftBy s Operation.Find k (cond t OperationAnswer.Found OperationAnswer.Absent) ≡ s
-unfolding setLeftBy plainAfter isNoPage answerNumber
-six-left s k true = refl
-six-left s k false = refl
+pub six-left : (s : PlainMap) (k : ℕ) (x : Option Value) → mapLeftBy s Operation.Find k (foundOrAbsent x) ≡ s
+unfolding mapLeftBy plainAfter isNoPage answerNumber foundOrAbsent
+six-left s k none = refl
+six-left s k (some x) = refl
 
 -- ---- 10
 
-pub ten-plain : (s : PlainSet) (o : Operation) (k : ℕ) (t : Bool) → o ≢ Operation.Find → s k ≡ t → answersAsSet s o k (noteAtTen o t) ≡ true
-unfolding answersAsSet plainAnswer mayLackPages isNoPage noteAtTen answerNumber
+pub ten-plain : (s : PlainMap) (o : Operation) (k : ℕ) (t : Bool) → o ≢ Operation.Find → isIn (s k) ≡ t → answersAsMap s o k (noteAtTen o t) ≡ true
+unfolding answersAsMap plainAnswer mayLackPages isNoPage noteAtTen sameAnswer answerNumber settingFound
 ten-plain s Operation.Find k t n h = absurd (n refl)
-ten-plain s Operation.Insert k true n h = rw h refl
-ten-plain s Operation.Insert k false n h = rw h refl
+ten-plain s (Operation.Insert x) k true n h = rw h refl
+ten-plain s (Operation.Insert x) k false n h = rw h refl
 ten-plain s Operation.Delete k true n h = rw h refl
 ten-plain s Operation.Delete k false n h = rw h refl
 
-pub ten-left : (s : PlainSet) (o : Operation) (k : ℕ) (t : Bool) → o ≢ Operation.Find → s k ≡ t → (j : ℕ) → s j ≡ setLeftBy s o k (noteAtTen o t) j
-unfolding setLeftBy plainAfter isNoPage noteAtTen answerNumber
+pub ten-left : (s : PlainMap) (o : Operation) (k : ℕ) (t : Bool) → o ≢ Operation.Find → isIn (s k) ≡ t → (j : ℕ) → s j ≡ mapLeftBy s o k (noteAtTen o t) j
+unfolding mapLeftBy plainAfter isNoPage noteAtTen answerNumber
 ten-left s Operation.Find k t n h j = absurd (n refl)
-ten-left s Operation.Insert k true n h j = sym (changed-same s k true h j)
-ten-left s Operation.Insert k false n h j = refl
+ten-left s (Operation.Insert x) k true n h j = sym (changed-same s k (keptOr (s k) x) (sym (kept-there (s k) x h)) j)
+ten-left s (Operation.Insert x) k false n h j = refl
 ten-left s Operation.Delete k true n h j = refl
-ten-left s Operation.Delete k false n h j = sym (changed-same s k false h j)
+ten-left s Operation.Delete k false n h j = sym (changed-same s k none (out-none (s k) h) j)
 
 pub ten-decides : (o : Operation) (t : Bool) → o ≢ Operation.Find → decisiveStep o (noteAtTen o t) ≡ 10
 unfolding decisiveStep noteAtTen isChange answerNumber
 ten-decides Operation.Find t n = absurd (n refl)
-ten-decides Operation.Insert true n = refl
-ten-decides Operation.Insert false n = refl
+ten-decides (Operation.Insert x) true n = refl
+ten-decides (Operation.Insert x) false n = refl
 ten-decides Operation.Delete true n = refl
 ten-decides Operation.Delete false n = refl
 
 -- ---- 11
 
-pub eleven-plain : (s : PlainSet) (o : Operation) (k : ℕ) (t : Bool) → o ≢ Operation.Find → s k ≡ t → answersAsSet s o k (noteAtEleven o t) ≡ true
-unfolding answersAsSet plainAnswer noteAtEleven answerNumber
+pub eleven-plain : (s : PlainMap) (o : Operation) (k : ℕ) (t : Bool) → o ≢ Operation.Find → isIn (s k) ≡ t → answersAsMap s o k (noteAtEleven o t) ≡ true
+unfolding answersAsMap plainAnswer noteAtEleven sameAnswer answerNumber settingFound
 eleven-plain s Operation.Find k t n h = absurd (n refl)
-eleven-plain s Operation.Insert k true n h = rw h refl
-eleven-plain s Operation.Insert k false n h = rw h refl
+eleven-plain s (Operation.Insert x) k true n h = rw h refl
+eleven-plain s (Operation.Insert x) k false n h = rw h refl
 eleven-plain s Operation.Delete k true n h = rw h refl
 eleven-plain s Operation.Delete k false n h = rw h refl
 
--- What a key holds after 11, as a plain set's: an insert's key is in, a delete's is out.
-inserted-in : (x : Option Value) → isIn (contentAtEleven Operation.Insert x) ≡ true
-unfolding contentAtEleven
-inserted-in none = refl
-inserted-in (some x) = refl
-
-deleted-out : (x : Option Value) → isIn (contentAtEleven Operation.Delete x) ≡ false
-unfolding contentAtEleven
-deleted-out x = refl
-
-module _ (c : ℕ → Option Value) (k : ℕ) where
-  abbrev before : PlainSet
-  before j = isIn (c j)
-
-  changed-in : (x : Option Value) (t : Bool) → isIn x ≡ t → (j : ℕ) → isIn (changedAt c k x j) ≡ changedAt before k t j
-  changed-in x t h j = go (cmp j k)
-    where
-      go : Cmp j k → isIn (changedAt c k x j) ≡ changedAt before k t j
-      go (same i) = ap isIn (changed-here c k x j i) ∙ h ∙ sym (changed-here before k t j i)
-      go (diff d) = ap isIn (changed-elsewhere c k x j d) ∙ sym (changed-elsewhere before k t j d)
-
-  pub eleven-left : (o : Operation) (t : Bool) → o ≢ Operation.Find → (j : ℕ) → isIn (changedAt c k (contentAtEleven o (c k)) j) ≡ setLeftBy before o k (noteAtEleven o t) j
-  unfolding setLeftBy plainAfter isNoPage noteAtEleven answerNumber
-  eleven-left Operation.Find t n j = absurd (n refl)
-  eleven-left Operation.Insert true n j = changed-in _ true (inserted-in (c k)) j
-  eleven-left Operation.Insert false n j = changed-in _ true (inserted-in (c k)) j
-  eleven-left Operation.Delete true n j = changed-in _ false (deleted-out (c k)) j
-  eleven-left Operation.Delete false n j = changed-in _ false (deleted-out (c k)) j
+-- What the book has after 11 is what a plain map has: an insert's setting or the one that was there, nothing of a delete's key.
+pub eleven-left : (s : PlainMap) (k : ℕ) (o : Operation) (t : Bool) → o ≢ Operation.Find → (j : ℕ) → changedAt s k (contentAtEleven o (s k)) j ≡ mapLeftBy s o k (noteAtEleven o t) j
+unfolding mapLeftBy plainAfter isNoPage noteAtEleven contentAtEleven answerNumber
+eleven-left s k Operation.Find t n j = absurd (n refl)
+eleven-left s k (Operation.Insert x) true n j = ap (λ (y : Option Value). changedAt s k y j) (content-kept (s k) x)
+eleven-left s k (Operation.Insert x) false n j = ap (λ (y : Option Value). changedAt s k y j) (content-kept (s k) x)
+eleven-left s k Operation.Delete true n j = refl
+eleven-left s k Operation.Delete false n j = refl
 
 -- An insert's or delete's note at 11, where it is a change made, is decided there.
 pub eleven-decides : (o : Operation) (a : OperationAnswer) → o ≢ Operation.Find → isChange (answerNumber a) ≡ true → decisiveStep o a ≡ 11
 unfolding decisiveStep
 eleven-decides Operation.Find a n h = absurd (n refl)
-eleven-decides Operation.Insert a n h = rw h refl
+eleven-decides (Operation.Insert x) a n h = rw h refl
 eleven-decides Operation.Delete a n h = rw h refl
 
 -- ---- What a step leaves of the book
@@ -140,7 +111,7 @@ module _ (b : Book) (q : ℕ) where
       (λ _. cond-ind (λ (c : Book). c .entries p ≡ b .entries p) (eqb n 10) _ _ (λ _. changed-elsewhere (b .entries) q _ p d)
       (λ _. cond-ind (λ (c : Book). c .entries p ≡ b .entries p) (eqb n 11) _ _ (λ _. changed-elsewhere (b .entries) q _ p d) (λ _. refl)))
 
-  -- So does the set, but at 11.
+  -- So does the map, but at 11.
   pub noted-contents : (x : Option Entered) (n : ℕ) → n ≢ 11 → noteFor b q x n .contents ≡ b .contents
   unfolding noteFor noteStep
   noted-contents none n h = refl
@@ -182,7 +153,7 @@ module _ (b : Book) (q : ℕ) where
 
     -- The books after 6 of a find, 10 and 11.
     pub after-six : e .operation ≡ Operation.Find
-        → noteFor b q (b .entries q) 6 ≡ withEntry b q (some (noted e (cond there OperationAnswer.Found OperationAnswer.Absent)))
+        → noteFor b q (b .entries q) 6 ≡ withEntry b q (some (noted e (foundOrAbsent (b .contents (e .key)))))
     unfolding noteFor noteStep notedIfFind noteAtSix
     after-six h = rw (entry, h) refl
 
@@ -199,4 +170,4 @@ module _ (b : Book) (q : ℕ) where
 pub note-is-answer : (a : OperationAnswer) (x : Option OperationAnswer) → isNote a x ≡ true → x ≡ some a
 unfolding isNote
 note-is-answer a none h = absurd (false≢true h)
-note-is-answer a (some n) h = ap some (answer-same n a (sym (eqb-true (answerNumber a) (answerNumber n) h)))
+note-is-answer a (some n) h = ap some (sym (answers-same a n h))

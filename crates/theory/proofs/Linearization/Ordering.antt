@@ -19,8 +19,8 @@ use Rattle.model.specs.declared.StepAnswer.the-variants as StepAnswer
 use Rattle.model.specs.declared.BeginAnswer.the-variants as BeginAnswer
 use Rattle.model.specs.Runs.{Call, beginFor, stepFor, Reply, toBegin, toStep, Event}
 use Rattle.model.specs.Book.{changedAt}
-use Rattle.theory.specs.PlainSet.{PlainSet, answersAsSet, setLeftBy}
-use Rattle.theory.specs.Linearization.{Answered, Operated, answerIn, answerTo, orLater, firstAnswer, entering, operationsFrom, eventFrom, decisiveStep, stepMarks, marks, isAnswered, Linearized, ascendingFrom, timesIn, answersInOrder, setAfter, isBefore}
+use Rattle.theory.specs.PlainMap.{PlainMap, answersAsMap, mapLeftBy}
+use Rattle.theory.specs.Linearization.{Answered, Operated, answerIn, answerTo, orLater, firstAnswer, entering, operationsFrom, eventFrom, decisiveStep, stepMarks, marks, isAnswered, Linearized, ascendingFrom, timesIn, answersInOrder, mapAfter, isBefore}
 use Rattle.model.proofs.Laws.Lists.{Cmp, same, diff, cmp, eqb-same, eqb-diff, le-leb, leb-true, ltb-true, and-both, both-and}
 use Rattle.model.proofs.Invariant.Facts.{changed-here, changed-elsewhere}
 
@@ -85,12 +85,12 @@ pub record Begun (n : ℕ) (begun : ℕ → ℕ) (st : ℕ → Status) : Type 0 
   pub earlier : (p : ℕ) → begun p < n
   pub apart : (p q : ℕ) → p ≢ q → st p ≢ away → st q ≢ away → begun p ≢ begun q
 
--- An order for the events es of calls numbered from n on, which lead from the states st and the set s to stₑ and sₑ.
-pub record Suffix (n : ℕ) (begun : ℕ → ℕ) (st : ℕ → Status) (s : PlainSet) (es : List Event) (stₑ : ℕ → Status) (sₑ : PlainSet) : Type 0 where
+-- An order for the events es of calls numbered from n on, which lead from the states st and the map s to stₑ and sₑ.
+pub record Suffix (n : ℕ) (begun : ℕ → ℕ) (st : ℕ → Status) (s : PlainMap) (es : List Event) (stₑ : ℕ → Status) (sₑ : PlainMap) : Type 0 where
   pub order : List Linearized
   pub ascends : ascendingFrom n order ≡ true
   pub answers : answersInOrder s order ≡ true
-  pub left : setAfter s order ≡ sₑ
+  pub left : mapAfter s order ≡ sₑ
   pub placed : (x : Linearized) → List·Memᴰ x order → PlacedFrom n begun st es x
   pub entered : (o : Operated) → List·Memᴰ o (operationsFrom n es) → timesIn (o .begun) order ≡ cond (inEffect (stₑ (o .party)) (o .answered)) 1 0
   pub searching : (p : ℕ) (o : Operation) (k : ℕ) → st p ≡ looking o k → timesIn (begun p) order ≡ cond (inEffect (stₑ p) (firstAnswer p n es)) 1 0
@@ -99,8 +99,8 @@ pub record Suffix (n : ℕ) (begun : ℕ → ℕ) (st : ℕ → Status) (s : Pla
 
 -- ---- No event is left
 
-pub nothing-left : (n : ℕ) (begun : ℕ → ℕ) (st : ℕ → Status) (s : PlainSet) → Suffix n begun st s [] st s
-unfolding ascendingFrom answersInOrder setAfter timesIn firstAnswer operationsFrom eventFrom marks
+pub nothing-left : (n : ℕ) (begun : ℕ → ℕ) (st : ℕ → Status) (s : PlainMap) → Suffix n begun st s [] st s
+unfolding ascendingFrom answersInOrder mapAfter timesIn firstAnswer operationsFrom eventFrom marks
 nothing-left n begun st s = record {
   order = [];
   ascends = refl;
@@ -168,7 +168,7 @@ module _ (n : ℕ) (e : Event) (es : List Event) where
 
 -- ---- An event that leaves what every party is doing
 
-module _ (n : ℕ) (begun : ℕ → ℕ) (st : ℕ → Status) (s : PlainSet) (e : Event) (es : List Event) (stₑ : ℕ → Status) (sₑ : PlainSet)
+module _ (n : ℕ) (begun : ℕ → ℕ) (st : ℕ → Status) (s : PlainMap) (e : Event) (es : List Event) (stₑ : ℕ → Status) (sₑ : PlainMap)
     (enters-none : (rest : List Operated) → entering n (e .call) (e .reply) es rest ≡ rest)
     (answers-none : (p : ℕ) → answerTo p (e .call) (e .reply) ≡ none)
     (unmarked : (p : ℕ) (o : Operation) (k : ℕ) (a : OperationAnswer) → st p ≡ fixed o k a → marks p (some e) ≡ false) where
@@ -194,7 +194,7 @@ module _ (n : ℕ) (begun : ℕ → ℕ) (st : ℕ → Status) (s : PlainSet) (e
 
 -- ---- A begin answered ok
 
-module _ (n : ℕ) (begun : ℕ → ℕ) (st : ℕ → Status) (s : PlainSet) (q : ℕ) (o : Operation) (k number : ℕ) (es : List Event) (stₑ : ℕ → Status) (sₑ : PlainSet)
+module _ (n : ℕ) (begun : ℕ → ℕ) (st : ℕ → Status) (s : PlainMap) (q : ℕ) (o : Operation) (k number : ℕ) (es : List Event) (stₑ : ℕ → Status) (sₑ : PlainMap)
     (was-away : st q ≡ away) where
   abbrev begin-event : Event
   begin-event = record { call = beginFor q o k; number = number; reply = toBegin BeginAnswer.Begun }
@@ -277,7 +277,7 @@ module _ (n : ℕ) (es : List Event) (rest : List Operated) (o : Operated) (late
   entering-late (beginFor q x k) (toStep a) t = later t
   entering-late (stepFor q) r t = later t
 
-entered-late : (n : ℕ) (es : List Event) (o : Operated) → List·Memᴰ o (operationsFrom n es) → n ≤ o .begun
+pub entered-late : (n : ℕ) (es : List Event) (o : Operated) → List·Memᴰ o (operationsFrom n es) → n ≤ o .begun
 unfolding operationsFrom
 entered-late n [] o m = absurd (List·Memᴰ·not-nil m)
 entered-late n (e ∷ es) o m =
@@ -321,8 +321,8 @@ module _ (st : ℕ → Status) (q : ℕ) (t : Status) (not-looking : (u : Operat
 
 -- ---- A decisive step
 
-module _ (n : ℕ) (begun : ℕ → ℕ) (st : ℕ → Status) (s : PlainSet) (q : ℕ) (o : Operation) (k : ℕ) (a : OperationAnswer) (es : List Event) (stₑ : ℕ → Status) (sₑ : PlainSet)
-    (begins : Begun n begun st) (was-looking : st q ≡ looking o k) (plain : answersAsSet s o k a ≡ true) where
+module _ (n : ℕ) (begun : ℕ → ℕ) (st : ℕ → Status) (s : PlainMap) (q : ℕ) (o : Operation) (k : ℕ) (a : OperationAnswer) (es : List Event) (stₑ : ℕ → Status) (sₑ : PlainMap)
+    (begins : Begun n begun st) (was-looking : st q ≡ looking o k) (plain : answersAsMap s o k a ≡ true) where
   abbrev decisive-event : Event
   decisive-event = record { call = stepFor q; number = decisiveStep o a; reply = toStep StepAnswer.Moved }
 
@@ -345,7 +345,7 @@ module _ (n : ℕ) (begun : ℕ → ℕ) (st : ℕ → Status) (s : PlainSet) (q
   no-more-looking : (u : Operation) (l : ℕ) → fixed o k a ≢ looking u l
   no-more-looking u l = fixed-not-looking o k a u l
 
-  module _ (x : Suffix (n + 1) begun fixed-then (setLeftBy s o k a) es stₑ sₑ) where
+  module _ (x : Suffix (n + 1) begun fixed-then (mapLeftBy s o k a) es stₑ sₑ) where
     now-fixed : Decided (n + 1) es q a (stₑ q)
     now-fixed = x .decided q o k a (changed-here st q (fixed o k a) q refl)
 
@@ -394,7 +394,7 @@ module _ (n : ℕ) (begun : ℕ → ℕ) (st : ℕ → Status) (s : PlainSet) (q
         placed-later n decisive-event es begun begun st fixed-then y (origin-before st q (fixed o k a) no-more-looking n begun (decisiveStep o a) StepAnswer.Moved es y) (x .placed y m)
 
     pub decides-on : Suffix n begun st s (decisive-event ∷ es) stₑ sₑ
-    unfolding operationsFrom entering marks ascendingFrom answersInOrder setAfter
+    unfolding operationsFrom entering marks ascendingFrom answersInOrder mapAfter
     decides-on = record {
       order = its-place ∷ x .order;
       ascends = both-and (le-leb n n (omega arith)) (x .ascends);
@@ -413,8 +413,8 @@ module _ (n : ℕ) (begun : ℕ → ℕ) (st : ℕ → Status) (s : PlainSet) (q
 
 -- ---- Done
 
-module _ (n : ℕ) (begun : ℕ → ℕ) (st : ℕ → Status) (s : PlainSet) (q : ℕ) (o : Operation) (k : ℕ) (a : OperationAnswer) (number : ℕ) (r : Restructuring) (es : List Event)
-    (stₑ : ℕ → Status) (sₑ : PlainSet) (was-fixed : st q ≡ fixed o k a) where
+module _ (n : ℕ) (begun : ℕ → ℕ) (st : ℕ → Status) (s : PlainMap) (q : ℕ) (o : Operation) (k : ℕ) (a : OperationAnswer) (number : ℕ) (r : Restructuring) (es : List Event)
+    (stₑ : ℕ → Status) (sₑ : PlainMap) (was-fixed : st q ≡ fixed o k a) where
   abbrev done-event : Event
   done-event = record { call = stepFor q; number = number; reply = toStep (StepAnswer.Done a r) }
 

@@ -1,10 +1,10 @@
 -- A call of step as a turn, by what it answered and where it led; what the parties are doing is read off the memory and
--- the set book.
+-- the book.
 -- Main statements: statusOf (what a party is doing), StepTurn; waits-turn, searches-turn, goes-on-turn, done-turn, six-turn,
 -- ten-turn, eleven-turn.
 use mathlib.Core.Path.{_≡_, refl, sym, ap, _∙_, fun-ext}
 use mathlib.Core.Logic.{_≢_}
-use mathlib.Core.Bool.{Bool, true, false, cond, _&&_, _||_, false≢true}
+use mathlib.Core.Bool.{Bool, true, false, _&&_, _||_, false≢true}
 use mathlib.Core.Option.{Option, none, some}
 use Prim.Native.Nat.{ℕ, _<_}
 use native.Mathlib.Omega.{arith}
@@ -19,7 +19,7 @@ use Rattle.model.specs.declared.Restructuring.{Restructuring}
 use Rattle.model.specs.declared.StepAnswer.{StepAnswer}
 use Rattle.model.specs.declared.StepAnswer.the-variants as StepAnswer
 use Rattle.model.specs.Records.{idle}
-use Rattle.model.specs.Answers.{answerNumber, performs}
+use Rattle.model.specs.Answers.{answerNumber, performs, foundOrAbsent}
 use Rattle.model.specs.Outcome.{View}
 use Rattle.model.specs.Steps.Write.{isChange}
 use Rattle.model.specs.Memory.{Memory, partyAt, afterStep}
@@ -33,7 +33,7 @@ use Rattle.model.proofs.Invariant.Facts.{still-noted, changed-here, changed-els
 use Rattle.model.proofs.Effects.Kept.{row-same, row-other}
 use Rattle.theory.proofs.Linearization.Ordering.{Status, away, looking, fixed, fixed-not-looking, unanswered, mark-elsewhere}
 use Rattle.theory.proofs.Linearization.Turns.{Turn, still, decides, ends}
-use Rattle.theory.proofs.Linearization.Notes.{setOf, six-plain, six-left, ten-plain, ten-left, ten-decides, eleven-plain, eleven-left, eleven-decides, noted-elsewhere, noted-contents, noted-own, after-six, after-ten, after-eleven, note-is-answer}
+use Rattle.theory.proofs.Linearization.Notes.{mapOf, six-plain, six-left, ten-plain, ten-left, ten-decides, eleven-plain, eleven-left, eleven-decides, noted-elsewhere, noted-contents, noted-own, after-six, after-ten, after-eleven, note-is-answer}
 
 -- ---- What a party is doing
 
@@ -77,8 +77,8 @@ module _ (n : ℕ) (behind : isBehind n ≡ true) where
 -- A call of step with this answer and memory is a turn.
 abbrev pub StepTurn : Memory → Book → ℕ → Called StepAnswer → Type 0
 StepTurn m b q x =
-    Turn (statusOf m b) (setOf b) (record { call = stepFor q; number = partyAt (m .parties) q .step; reply = toStep (x .answer) })
-    (statusOf (x .memory) (afterReply b q (partyAt (m .parties) q .step) (x .answer))) (setOf (afterReply b q (partyAt (m .parties) q .step) (x .answer)))
+    Turn (statusOf m b) (mapOf b) (record { call = stepFor q; number = partyAt (m .parties) q .step; reply = toStep (x .answer) })
+    (statusOf (x .memory) (afterReply b q (partyAt (m .parties) q .step) (x .answer))) (mapOf (afterReply b q (partyAt (m .parties) q .step) (x .answer)))
 
 -- One that performs no step.
 unmarked-call : (q p number : ℕ) (a : StepAnswer) → performs a ≡ false → stepMarks p number (stepFor q) (toStep a) ≡ false
@@ -150,7 +150,7 @@ module _ (m : Memory) (b : Book) (i : Inv m b) (q : ℕ) (in-row : q < m .root .
       still (λ n es rest. refl) (λ p. unanswered q p _ refl) (λ p o k a h. elsewhere p o k a h (cmp p q))
       (states c (looking (e .operation) (e .key)) (λ p d. noted-elsewhere b q (b .entries q) number p d) own
       ∙ changed-back (statusOf m b) q (looking (e .operation) (e .key)) (was-looking was))
-      (fun-ext (λ k. ap (λ (x : ℕ → Option (Unit {0})). isIn (x k)) (noted-contents b q (b .entries q) number not-eleven)))
+      (noted-contents b q (b .entries q) number not-eleven)
     where
       own : statusBy (noteFor b q (b .entries q) number .entries q) (isDecided (v .party)) ≡ looking (e .operation) (e .key)
       own = let k = noted-own b q e entry number in rw (then, k .is, k .operation=, k .key=) refl
@@ -169,7 +169,7 @@ module _ (m : Memory) (b : Book) (i : Inv m b) (q : ℕ) (in-row : q < m .root .
       (ap (statusOf now) same-book
       ∙ states b (fixed (e .operation) (e .key) (noteOr (e .note))) (λ p d. refl) own
       ∙ changed-back (statusOf m b) q (fixed (e .operation) (e .key) (noteOr (e .note))) (was-fixed was))
-      (ap setOf same-book)
+      (ap mapOf same-book)
     where
       own : statusBy (b .entries q) (isDecided (v .party)) ≡ fixed (e .operation) (e .key) (noteOr (e .note))
       own = rw (entry, then) refl
@@ -185,7 +185,7 @@ module _ (m : Memory) (b : Book) (i : Inv m b) (q : ℕ) (in-row : q < m .root .
       ends q (e .operation) (e .key) a number r refl (was-fixed was ∙ ap (λ (x : Option OperationAnswer). fixed (e .operation) (e .key) (noteOr x)) note)
       (ap (λ (c : Book). statusOf now (withEntry c q none)) same-book
       ∙ states (withEntry b q none) away (λ p d. changed-elsewhere (b .entries) q none p d) (ap (λ (x : Option Entered). statusBy x (isDecided (v .party))) (changed-here (b .entries) q none q refl)))
-      (ap (λ (c : Book). setOf c) same-book)
+      (ap (λ (c : Book). mapOf c) same-book)
 
   -- ---- It moves by its decisive step
 
@@ -196,16 +196,15 @@ module _ (m : Memory) (b : Book) (i : Inv m b) (q : ℕ) (in-row : q < m .root .
   pub six-turn : number ≡ 6 → e .operation ≡ Operation.Find → v .party .step ≡ 9 → StepTurn m b q (called StepAnswer.Moved now)
   unfolding afterReply decisiveStep isBehind
   six-turn k find then =
-      let there = isIn (b .contents (e .key)) in
-      let a = cond there OperationAnswer.Found OperationAnswer.Absent in
+      let a = foundOrAbsent (b .contents (e .key)) in
       let book = ap (noteFor b q (b .entries q)) k ∙ after-six b q e entry find in
       let c = withEntry b q (some (noted e a)) in
       decides q Operation.Find (e .key) a (ap (λ (n : ℕ). record { call = stepFor q; number = n; reply = toStep StepAnswer.Moved }) k)
-      (was-looking (ap isBehind k) ∙ ap (λ (o : Operation). looking o (e .key)) find) (six-plain (setOf b) (e .key) there refl)
+      (was-looking (ap isBehind k) ∙ ap (λ (o : Operation). looking o (e .key)) find) (six-plain (mapOf b) (e .key))
       (ap (statusOf now) book
       ∙ states c (fixed Operation.Find (e .key) a) (λ p d. changed-elsewhere (b .entries) q _ p d)
       (decided-then a c (changed-here (b .entries) q _ q refl) (ap isBehind then) ∙ ap (λ (o : Operation). fixed o (e .key) a) find))
-      (ap setOf book ∙ sym (six-left (setOf b) (e .key) there))
+      (ap mapOf book ∙ sym (six-left (mapOf b) (e .key) (b .contents (e .key))))
 
   pub ten-turn : number ≡ 10 → e .operation ≢ Operation.Find → v .party .step ≡ 12 → StepTurn m b q (called StepAnswer.Moved now)
   unfolding afterReply isBehind
@@ -216,11 +215,11 @@ module _ (m : Memory) (b : Book) (i : Inv m b) (q : ℕ) (in-row : q < m .root .
       let c = withEntry b q (some (noted e a)) in
       decides q (e .operation) (e .key) a
       (ap (λ (n : ℕ). record { call = stepFor q; number = n; reply = toStep StepAnswer.Moved }) (k ∙ sym (ten-decides (e .operation) there change)))
-      (was-looking (ap isBehind k)) (ten-plain (setOf b) (e .operation) (e .key) there change refl)
+      (was-looking (ap isBehind k)) (ten-plain (mapOf b) (e .operation) (e .key) there change refl)
       (ap (statusOf now) book
       ∙ states c (fixed (e .operation) (e .key) a) (λ p d. changed-elsewhere (b .entries) q _ p d)
       (decided-then a c (changed-here (b .entries) q _ q refl) (ap isBehind then)))
-      (ap setOf book ∙ fun-ext (λ j. ten-left (setOf b) (e .operation) (e .key) there change refl j))
+      (ap mapOf book ∙ fun-ext (λ j. ten-left (mapOf b) (e .operation) (e .key) there change refl j))
 
   pub eleven-turn : number ≡ 11 → e .operation ≢ Operation.Find → isChange (answerNumber (noteAtEleven (e .operation) (isIn (b .contents (e .key))))) ≡ true
       → v .party .step ≡ 12 → StepTurn m b q (called StepAnswer.Moved now)
@@ -232,8 +231,8 @@ module _ (m : Memory) (b : Book) (i : Inv m b) (q : ℕ) (in-row : q < m .root .
       let c = withContent (withEntry b q (some (noted e a))) (e .key) (contentAtEleven (e .operation) (b .contents (e .key))) in
       decides q (e .operation) (e .key) a
       (ap (λ (n : ℕ). record { call = stepFor q; number = n; reply = toStep StepAnswer.Moved }) (k ∙ sym (eleven-decides (e .operation) a change made)))
-      (was-looking (ap isBehind k)) (eleven-plain (setOf b) (e .operation) (e .key) there change refl)
+      (was-looking (ap isBehind k)) (eleven-plain (mapOf b) (e .operation) (e .key) there change refl)
       (ap (statusOf now) book
       ∙ states c (fixed (e .operation) (e .key) a) (λ p d. changed-elsewhere (b .entries) q _ p d)
       (decided-then a c (changed-here (b .entries) q _ q refl) (ap isBehind then)))
-      (ap setOf book ∙ fun-ext (λ j. eleven-left (b .contents) (e .key) (e .operation) there change j))
+      (ap mapOf book ∙ fun-ext (λ j. eleven-left (b .contents) (e .key) (e .operation) there change j))

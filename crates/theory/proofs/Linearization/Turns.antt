@@ -15,20 +15,20 @@ use Rattle.model.specs.declared.StepAnswer.the-variants as StepAnswer
 use Rattle.model.specs.declared.BeginAnswer.the-variants as BeginAnswer
 use Rattle.model.specs.Runs.{beginFor, stepFor, toBegin, toStep, Event}
 use Rattle.model.specs.Book.{changedAt}
-use Rattle.theory.specs.PlainSet.{PlainSet, answersAsSet, setLeftBy}
+use Rattle.theory.specs.PlainMap.{PlainMap, answersAsMap, mapLeftBy}
 use Rattle.theory.specs.Linearization.{Operated, answerTo, entering, decisiveStep, marks}
 use Rattle.model.proofs.Laws.Lists.{Cmp, same, diff, cmp}
 use Rattle.model.proofs.Invariant.Facts.{changed-here, changed-elsewhere}
 use Rattle.theory.proofs.Linearization.Ordering.{Status, away, looking, fixed, away-not-looking, Begun, Suffix, still-on, begins-on, decides-on, ends-on}
 
--- What an event makes of what the parties are doing and of the set.
-pub data Turn (st : ℕ → Status) (s : PlainSet) (e : Event) (st′ : ℕ → Status) (s′ : PlainSet) : Type 0 where
+-- What an event makes of what the parties are doing and of the map.
+pub data Turn (st : ℕ → Status) (s : PlainMap) (e : Event) (st′ : ℕ → Status) (s′ : PlainMap) : Type 0 where
   still : ((n : ℕ) (es : List Event) (rest : List Operated) → entering n (e .call) (e .reply) es rest ≡ rest) → ((p : ℕ) → answerTo p (e .call) (e .reply) ≡ none)
       → ((p : ℕ) (o : Operation) (k : ℕ) (a : OperationAnswer) → st p ≡ fixed o k a → marks p (some e) ≡ false) → st′ ≡ st → s′ ≡ s → Turn st s e st′ s′
   begins : (q : ℕ) (o : Operation) (k number : ℕ) → e ≡ record { call = beginFor q o k; number = number; reply = toBegin BeginAnswer.Begun } → st q ≡ away
       → st′ ≡ changedAt st q (looking o k) → s′ ≡ s → Turn st s e st′ s′
   decides : (q : ℕ) (o : Operation) (k : ℕ) (a : OperationAnswer) → e ≡ record { call = stepFor q; number = decisiveStep o a; reply = toStep StepAnswer.Moved } → st q ≡ looking o k
-      → answersAsSet s o k a ≡ true → st′ ≡ changedAt st q (fixed o k a) → s′ ≡ setLeftBy s o k a → Turn st s e st′ s′
+      → answersAsMap s o k a ≡ true → st′ ≡ changedAt st q (fixed o k a) → s′ ≡ mapLeftBy s o k a → Turn st s e st′ s′
   ends : (q : ℕ) (o : Operation) (k : ℕ) (a : OperationAnswer) (number : ℕ) (r : Restructuring)
       → e ≡ record { call = stepFor q; number = number; reply = toStep (StepAnswer.Done a r) } → st q ≡ fixed o k a → st′ ≡ changedAt st q away → s′ ≡ s → Turn st s e st′ s′
 
@@ -64,12 +64,12 @@ module _ (n : ℕ) (begun : ℕ → ℕ) (st : ℕ → Status) (b : Begun n begu
 
 -- ---- A turn in front
 
-module _ (n : ℕ) (begun : ℕ → ℕ) (st : ℕ → Status) (s : PlainSet) (e : Event) (st′ : ℕ → Status) (s′ : PlainSet) (es : List Event) (stₑ : ℕ → Status) (sₑ : PlainSet)
+module _ (n : ℕ) (begun : ℕ → ℕ) (st : ℕ → Status) (s : PlainMap) (e : Event) (st′ : ℕ → Status) (s′ : PlainMap) (es : List Event) (stₑ : ℕ → Status) (sₑ : PlainMap)
     (b : Begun n begun st) (rest : (begun′ : ℕ → ℕ) → Begun (n + 1) begun′ st′ → Suffix (n + 1) begun′ st′ s′ es stₑ sₑ) where
-  -- The rest, with what the event made of states and set.
-  rest-by : (t : ℕ → Status) (z : PlainSet) → st′ ≡ t → s′ ≡ z → (begun′ : ℕ → ℕ) → Begun (n + 1) begun′ t → Suffix (n + 1) begun′ t z es stₑ sₑ
+  -- The rest, with what the event made of states and map.
+  rest-by : (t : ℕ → Status) (z : PlainMap) → st′ ≡ t → s′ ≡ z → (begun′ : ℕ → ℕ) → Begun (n + 1) begun′ t → Suffix (n + 1) begun′ t z es stₑ sₑ
   rest-by t z h i begun′ c =
-      subst (λ (y : PlainSet). Suffix (n + 1) begun′ t y es stₑ sₑ) i
+      subst (λ (y : PlainMap). Suffix (n + 1) begun′ t y es stₑ sₑ) i
       (subst (λ (y : ℕ → Status). Suffix (n + 1) begun′ y s′ es stₑ sₑ) h (rest begun′ (subst (Begun (n + 1) begun′) (sym h) c)))
 
   abbrev Whole : Event → Type 0
@@ -84,7 +84,7 @@ module _ (n : ℕ) (begun : ℕ → ℕ) (st : ℕ → Status) (s : PlainSet) (e
   turn-on (decides q o k a x was plain h i) =
       subst Whole (sym x)
       (decides-on n begun st s q o k a es stₑ sₑ b was plain
-      (rest-by (changedAt st q (fixed o k a)) (setLeftBy s o k a) h i begun (begun-kept n begun st b q (fixed o k a) (λ z. absurd (away-not-looking o k (sym z ∙ was))))))
+      (rest-by (changedAt st q (fixed o k a)) (mapLeftBy s o k a) h i begun (begun-kept n begun st b q (fixed o k a) (λ z. absurd (away-not-looking o k (sym z ∙ was))))))
   turn-on (ends q o k a number r x was h i) =
       subst Whole (sym x)
       (ends-on n begun st s q o k a number r es stₑ sₑ was (rest-by (changedAt st q away) s h i begun (begun-kept n begun st b q away (λ z. refl))))

@@ -4,7 +4,7 @@
 -- written-linked (the overflow pages of live chains); alone-after, alone-moves and alone-on (the next step); Ends (a run that ends as the yardstick does), goes-on, comes-to-end.
 use mathlib.Core.Path.{_≡_, refl, sym, ap, _∙_, subst}
 use mathlib.Core.Logic.{_≢_, _⊎_, inl, inr}
-use mathlib.Core.Bool.{Bool, true, false, cond, not, _||_}
+use mathlib.Core.Bool.{Bool, true, false, not, _||_}
 use mathlib.Core.List.{List, [], _∷_}
 use mathlib.Core.Option.{Option, none, some}
 use Prim.Native.Nat.{ℕ, zero, suc, _+_, _<_}
@@ -15,13 +15,12 @@ use Rattle.model.specs.declared.Root.{Root}
 use Rattle.model.specs.declared.Party.{Party}
 use Rattle.model.specs.declared.Mode.{Mode}
 use Rattle.model.specs.declared.OperationAnswer.{OperationAnswer}
-use Rattle.model.specs.declared.OperationAnswer.the-variants as OperationAnswer
 use Rattle.model.specs.declared.Restructuring.{Restructuring}
 use Rattle.model.specs.declared.StepAnswer.{StepAnswer}
 use Rattle.model.specs.declared.StepAnswer.the-variants as StepAnswer
 use Rattle.model.specs.Sizes.{pageWords, lockWords, within}
 use Rattle.model.specs.Records.{idle, withFreeList}
-use Rattle.model.specs.Answers.{refusalNumber, answerNumber, answerOf}
+use Rattle.model.specs.Answers.{refusalNumber}
 use Rattle.model.specs.LockWords.{Claim}
 use Rattle.model.specs.Pages.{pageOf, withPage, primaryPage, scratchPage}
 use Rattle.model.specs.Filling.{pagesFor}
@@ -32,7 +31,7 @@ use Rattle.model.specs.LockRequests.{isGranted, withHold, request, heldAll, giv
 use Rattle.model.specs.Memory.{Memory, partyAt, viewOf, afterStep}
 use Rattle.model.specs.Calls.{Called, called, stepCall, stepped}
 use Rattle.model.specs.Runs.{Reply, toStep, replyTo, afterCall, eventOf, events, finalMemory}
-use Rattle.model.specs.Book.{Book, Entered, Value, isIn, withEntry, noteFor, noteStep, noteAtSix, notedIfFind, afterReply, agreesWith, isNote, isNoteOf}
+use Rattle.model.specs.Book.{Book, Entered, Value, withEntry, noteFor, noteStep, noteAtSix, notedIfFind, afterReply, agreesWith, isNote, isNoteOf}
 use Rattle.model.specs.Ready.{viewing}
 use Rattle.theory.specs.Sequential.{File, Finished, finishes, recordsAt, pagesInUse, fileOf}
 use Rattle.theory.specs.Singly.{stepsOf, repliesOf, movesThen, doneBy}
@@ -54,6 +53,7 @@ use Rattle.model.proofs.Effects.ScratchPage.{has-scratch}
 use Rattle.model.proofs.Effects.GiveUps.{given-up-rest}
 use Rattle.model.proofs.Theorems.RefusalOrder.{step-order}
 use Rattle.model.proofs.Theorems.Calls.{StepsKept, within-limits, operation-some, record-sound, lengths-fit, root-sound, party-sound}
+use Rattle.model.proofs.Laws.Answers.{answers-same}
 use Rattle.theory.proofs.Singly.Files.{extentOf, Holding, same-file}
 use Rattle.theory.proofs.Singly.AtRest.{liveFile, live-holding, live-records, live-pages, file-read, Whole}
 
@@ -66,7 +66,7 @@ pub record Alone (m : Memory) (b : Book) (q : ℕ) (p : Party) (f : File) (out :
   pub mine : partyAt (m .parties) q ≡ p
   pub others : (j : ℕ) → j ≢ q → partyAt (m .parties) j ≡ idle
   pub extent-is : extentOf f ≡ liveFor (m .root) p
-  pub holding : Holding (m .root .originals) f (λ k. isIn (b .contents k))
+  pub holding : Holding (m .root .originals) f (b .contents)
   pub whole : m .root .free + out + pagesInUse (m .root .capacity) (f .chains) ≡ m .root .overflow
 
 -- The memory after a step of party q: root, record, lock words and page words. The book after a step of the record p that goes on.
@@ -229,13 +229,13 @@ unfolding notedIfFind
 six-kept b q e none = refl
 six-kept b q e (some x) = refl
 
--- Only step 11 changes the book's set.
+-- Only step 11 changes the book's map.
 pub contents-kept : (b : Book) (q : ℕ) (x : Option Entered) (n : ℕ) → n ≢ 11 → noteFor b q x n .contents ≡ b .contents
 unfolding noteFor noteStep
 contents-kept b q none n d = refl
 contents-kept b q (some e) n d =
     rw (eqb-diff n 11 d)
-    (cond-ind (λ (c : Book). c .contents ≡ b .contents) (eqb n 6) _ _ (λ _. six-kept b q e (noteAtSix (e .operation) (isIn (b .contents (e .key)))))
+    (cond-ind (λ (c : Book). c .contents ≡ b .contents) (eqb n 6) _ _ (λ _. six-kept b q e (noteAtSix (e .operation) (b .contents (e .key))))
     (λ _. cond-ind (λ (c : Book). c .contents ≡ b .contents) (eqb n 10) _ _ (λ _. refl) (λ _. refl)))
 
 module _ (m : Memory) (b : Book) (q : ℕ) (p : Party) (f : File) (out : ℕ) (a : Alone m b q p f out) where
@@ -248,7 +248,7 @@ module _ (m : Memory) (b : Book) (q : ℕ) (p : Party) (f : File) (out : ℕ) (a
   -- From this memory to one with root t, record x, locks ls and pages ps, with the live file g and the pages out then.
   module _ (t : Root) (x : Party) (ls ps : List ℕ) (g : File) (out-then : ℕ) (z : SameLimits (m .root) t) where
     pub alone-after : (c : Book) → Inv (leftAt m q t x ls ps) c → extentOf g ≡ liveFor t x
-        → Holding (m .root .originals) g (λ k. isIn (c .contents k)) → t .free + out-then + pagesInUse (m .root .capacity) (g .chains) ≡ m .root .overflow
+        → Holding (m .root .originals) g (c .contents) → t .free + out-then + pagesInUse (m .root .capacity) (g .chains) ≡ m .root .overflow
         → Alone (leftAt m q t x ls ps) c q x g out-then
     alone-after c i e h w = record {
       inv = i;
@@ -260,15 +260,15 @@ module _ (m : Memory) (b : Book) (q : ℕ) (p : Party) (f : File) (out : ℕ) (a
       whole = rw (z .capacity=, z .overflow=) w;
     }
 
-    -- The same after a step that goes on; the book's set is as it was.
+    -- The same after a step that goes on; the book's map is as it was.
     pub alone-moves : Performed m b q (moved (viewing t x q ls ps)) → p .step ≢ 11 → extentOf g ≡ liveFor t x
-        → Holding (m .root .originals) g (λ k. isIn (b .contents k)) → t .free + out-then + pagesInUse (m .root .capacity) (g .chains) ≡ m .root .overflow
+        → Holding (m .root .originals) g (b .contents) → t .free + out-then + pagesInUse (m .root .capacity) (g .chains) ≡ m .root .overflow
         → Alone (leftAt m q t x ls ps) (bookOn b q p) q x g out-then
     unfolding afterReply
     alone-moves k d e h w =
         alone-after (bookOn b q p)
         (subst (λ (y : Party). Inv (leftAt m q t x ls ps) (bookOn b q y)) (a .mine) (k .kept .inv)) e
-        (subst (λ (y : ℕ → Option Value). Holding (m .root .originals) g (λ j. isIn (y j))) (sym (contents-kept b q (b .entries q) (p .step) d)) h) w
+        (subst (λ (y : ℕ → Option Value). Holding (m .root .originals) g y) (sym (contents-kept b q (b .entries q) (p .step) d)) h) w
 
   -- The same where the root stays too, and with it the file.
   pub alone-on : (x : Party) (ls ps : List ℕ) → Performed m b q (moved (viewing (m .root) x q ls ps)) → p .step ≢ 11 → liveFor (m .root) x ≡ liveFor (m .root) p
@@ -313,9 +313,9 @@ last m t q x e l r w = record {
   whole = subst (λ (c : Called StepAnswer). Whole (c .memory)) (sym e) w;
 }
 
--- Where everybody is idle the file read is the one that holds the book's set.
+-- Where everybody is idle the file read is the one that holds the book's map.
 rests-with : (m : Memory) (b : Book) (f : File) → Inv m b → ((q : ℕ) → partyAt (m .parties) q ≡ idle) → extentOf f ≡ rootExtent (m .root)
-    → Holding (m .root .originals) f (λ k. isIn (b .contents k)) → fileOf (m .root) m ≡ f
+    → Holding (m .root .originals) f (b .contents) → fileOf (m .root) m ≡ f
 unfolding liveFile
 rests-with m b f i idles e h =
     file-read m b i live ∙ same-file (m .root .originals) (liveFile (m .root .originals) (i .ghost)) f _ (live-holding m b i) h (live ∙ sym e)
@@ -326,7 +326,7 @@ rests-with m b f i idles e h =
 module _ (m : Memory) (b : Book) (q : ℕ) (p : Party) (f : File) (out : ℕ) (a : Alone m b q p f out) where
   -- A step that ends the operation, with the root t; the file is g.
   pub comes-to-end : (t : Root) (x : Party) (ls ps : List ℕ) (g : File) (y : OperationAnswer) (s : Restructuring) → SameLimits (m .root) t
-      → Performed m b q (done y s (viewing t x q ls ps)) → p .step ≢ 11 → extentOf g ≡ rootExtent t → Holding (m .root .originals) g (λ k. isIn (b .contents k))
+      → Performed m b q (done y s (viewing t x q ls ps)) → p .step ≢ 11 → extentOf g ≡ rootExtent t → Holding (m .root .originals) g (b .contents)
       → t .free + pagesInUse (m .root .capacity) (g .chains) ≡ m .root .overflow → Ends m q (finishes y s g)
   unfolding afterReply
   comes-to-end t x ls ps g y s z k d e h w =
@@ -352,33 +352,16 @@ module _ (m : Memory) (b : Book) (q : ℕ) (p : Party) (f : File) (out : ℕ) (a
       file-then : fileOf t m-then ≡ g
       file-then =
           rests-with m-then b-then g inv-then (λ j. idles j (cmp j q)) e
-          (rw (z .originals=) (subst (λ (u : ℕ → Option Value). Holding (m .root .originals) g (λ j. isIn (u j))) (sym (contents-kept b q (b .entries q) (p .step) d)) h))
+          (rw (z .originals=) (subst (λ (u : ℕ → Option Value). Holding (m .root .originals) g u) (sym (contents-kept b q (b .entries q) (p .step) d)) h))
 
 -- ---- What a step that ends answers
-
--- Answers are told apart by their numbers.
-answerNamed : ℕ → OperationAnswer
-answerNamed n = cond (eqb n 6) OperationAnswer.Found (answerOf n)
-
-named-back : (x : OperationAnswer) → answerNamed (answerNumber x) ≡ x
-unfolding answerNamed answerNumber answerOf
-named-back OperationAnswer.Found = refl
-named-back OperationAnswer.Absent = refl
-named-back OperationAnswer.Inserted = refl
-named-back OperationAnswer.Present = refl
-named-back OperationAnswer.Deleted = refl
-named-back OperationAnswer.NoPage = refl
-
-pub answer-same : (x y : OperationAnswer) → answerNumber x ≡ answerNumber y → x ≡ y
-answer-same x y e = sym (named-back x) ∙ ap answerNamed e ∙ named-back y
 
 -- It is the book's note.
 pub answers-note : (m : Memory) (b : Book) (q : ℕ) (y : OperationAnswer) (s : Restructuring) (v : View) (e : Entered) (n : OperationAnswer) → Performed m b q (done y s v)
     → b .entries q ≡ some e → e .note ≡ some n → partyAt (m .parties) q .step ≢ 6 → partyAt (m .parties) q .step ≢ 10 → partyAt (m .parties) q .step ≢ 11 → y ≡ n
 unfolding agreesWith isNoteOf isNote
 answers-note m b q y s v e n k h w x6 x10 x11 =
-    answer-same y n
-    (eqb-true (answerNumber y) (answerNumber n) (rw (still-noted b q (b .entries q) (partyAt (m .parties) q .step) x6 x10 x11, h, w) at (k .kept .right)))
+    answers-same y n (rw (still-noted b q (b .entries q) (partyAt (m .parties) q .step) x6 x10 x11, h, w) at (k .kept .right))
 
 -- ---- Steps at which the live file extends as the root says
 

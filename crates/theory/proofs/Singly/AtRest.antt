@@ -1,18 +1,20 @@
 -- The file that a memory holds under the invariant: the live chains' records are the yardstick's file.
--- Main statements: liveFile; live-holding (it holds exactly the keys of the book's set); file-read (it is the file read, where the live file extends as the root says);
+-- Main statements: liveFile; live-holding (it holds exactly the book's map); file-read (it is the file read, where the live file extends as the root says);
 -- Whole (every overflow page is free or counted by the file); use-set, use-append, use-front (the pages counted, as chains change); live-pages.
 use mathlib.Core.Path.{_≡_, refl, sym, ap, _∙_}
-use mathlib.Core.Bool.{Bool, true, false, _&&_, and-true, and-false}
+use mathlib.Core.Bool.{Bool, true, false, cond}
 use mathlib.Core.List.{List, [], _∷_, _++_}
+use mathlib.Core.Option.{none}
 use Prim.Native.Nat.{ℕ, zero, suc, _+_, _≤_, _<_}
 use native.Mathlib.Omega.{arith}
 use lib.ListN.{length, getD, set, take, List·getD-eq-default}
 use lib.Dec.{eqb}
 use Rattle.model.specs.Addresses.{chainCount}
-use Rattle.model.specs.Entries.{Entry, hasKey, ascending}
+use Rattle.model.specs.declared.Entry.{Entry}
+use Rattle.model.specs.Entries.{hasKey, ascending, settingIn}
 use Rattle.model.specs.Filling.{pagesFor}
 use Rattle.model.specs.Memory.{Memory}
-use Rattle.model.specs.Book.{Book, isIn}
+use Rattle.model.specs.Book.{Book}
 use Rattle.theory.specs.Sequential.{File, recordsAt, recordsRead, chainsFrom, fileOf, pagesInUse}
 use Rattle.model.proofs.Laws.Lists.{Told, holds, fails, tell, Cmp, same, diff, cmp, Ord, lt, ge, ord, eqb-same, eqb-diff}
 use Rattle.model.proofs.Invariant.Ghost.{inChain, Extent, rootExtent, size, localLevel, Ghost}
@@ -21,6 +23,7 @@ use Rattle.model.proofs.Invariant.Extents.{home-is}
 use Rattle.model.proofs.Laws.Reading.{overflow-length}
 use Rattle.model.proofs.Invariant.Statement.{Inv}
 use Rattle.model.proofs.Effects.BuiltChain.{chain-found}
+use Rattle.model.proofs.Laws.Entries.{setting-absent}
 use Rattle.theory.proofs.Singly.Files.{home, Holding}
 
 -- ---- The records of a run of chains
@@ -67,35 +70,34 @@ module _ (m : Memory) (b : Book) (i : Inv m b) where
       home-is n e c (localLevel n e c) k (i .limits .some-original) (omega (arith, i .extents-ok .live-next))
       (record { inside = l; there = i .pages-ok .homed c l k h; reach = omega arith }) refl
 
-  keys-live : (c k : ℕ) → c < size n e → Cmp (home n e k) c → hasKey k (i .ghost .records c) ≡ (isIn (b .contents k) && eqb (home n e k) c)
-  keys-live c k l (same x) = rw (eqb-same (home n e k) c x, and-true (isIn (b .contents k))) (ap (λ (d : ℕ). hasKey k (i .ghost .records d)) (sym x) ∙ sym (i .book-ok .same k))
-  keys-live c k l (diff x) = rw (eqb-diff (home n e k) c x, and-false (isIn (b .contents k))) (go (tell (hasKey k (i .ghost .records c))))
+  settings-live : (c k : ℕ) → c < size n e → Cmp (home n e k) c → settingIn k (i .ghost .records c) ≡ cond (eqb (home n e k) c) (b .contents k) none
+  settings-live c k l (same x) = rw (eqb-same (home n e k) c x) (ap (λ (d : ℕ). settingIn k (i .ghost .records d)) (sym x) ∙ sym (i .book-ok .same k))
+  settings-live c k l (diff x) = rw (eqb-diff (home n e k) c x) (setting-absent k (i .ghost .records c) (go (tell (hasKey k (i .ghost .records c)))))
     where
       go : Told (hasKey k (i .ghost .records c)) → hasKey k (i .ghost .records c) ≡ false
       go (holds h) = absurd (x (has-home c k l h))
       go (fails h) = h
 
-  keys-at : (c k : ℕ) → Ord c (size n e) → hasKey k (recordsAt (liveFile n (i .ghost)) c) ≡ (isIn (b .contents k) && eqb (home n e k) c)
-  unfolding hasKey size
-  keys-at c k (lt l _) = ap (hasKey k) (live-records c l) ∙ keys-live c k l (cmp (home n e k) c)
-  keys-at c k (ge l _) =
-      ap (hasKey k) (beyond-live c l)
-      ∙ sym (ap (λ (t : Bool). isIn (b .contents k) && t) (eqb-diff (home n e k) c (omega (arith, address-lt n (e .level) (e .next) k (i .limits .some-original))))
-      ∙ and-false (isIn (b .contents k)))
+  settings-at : (c k : ℕ) → Ord c (size n e) → settingIn k (recordsAt (liveFile n (i .ghost)) c) ≡ cond (eqb (home n e k) c) (b .contents k) none
+  unfolding settingIn size
+  settings-at c k (lt l _) = ap (settingIn k) (live-records c l) ∙ settings-live c k l (cmp (home n e k) c)
+  settings-at c k (ge l _) =
+      ap (settingIn k) (beyond-live c l)
+      ∙ sym (ap (λ (t : Bool). cond t (b .contents k) none) (eqb-diff (home n e k) c (omega (arith, address-lt n (e .level) (e .next) k (i .limits .some-original)))))
 
   ascends-at : (c : ℕ) → Ord c (size n e) → ascending (recordsAt (liveFile n (i .ghost)) c) ≡ true
   unfolding ascending
   ascends-at c (lt l _) = rw (live-records c l) (i .pages-ok .ascends c l)
   ascends-at c (ge l _) = rw (beyond-live c l) refl
 
-  -- It holds exactly the keys of the book's set.
-  pub live-holding : Holding (m .root .originals) (liveFile (m .root .originals) (i .ghost)) (λ k. isIn (b .contents k))
+  -- It holds exactly the book's map.
+  pub live-holding : Holding (m .root .originals) (liveFile (m .root .originals) (i .ghost)) (b .contents)
   unfolding liveFile
   live-holding = record {
     as-many = length-listed (i .ghost .records) (size n e) 0;
     next-fits = i .extents-ok .live-next;
     ascends = λ c. ascends-at c (ord c (size n e));
-    keys = λ c k. keys-at c k (ord c (size n e));
+    settings = λ c k. settings-at c k (ord c (size n e));
   }
 
   -- ---- The file read

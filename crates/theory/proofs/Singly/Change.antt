@@ -17,7 +17,8 @@ use Rattle.model.specs.declared.OperationAnswer.the-variants as OperationAnswer
 use Rattle.model.specs.declared.Restructuring.the-variants as Restructuring
 use Rattle.model.specs.Records.{atStep, withOld, withAnswer, withFreeList}
 use Rattle.model.specs.Answers.{operationNumber, answerNumber, answerOf, restructuringOf}
-use Rattle.model.specs.Entries.{Entry, hasKey, insertedInto, removedFrom, entryOf}
+use Rattle.model.specs.declared.Entry.{Entry}
+use Rattle.model.specs.Entries.{hasKey, insertedInto, removedFrom, entryOf, settingIn}
 use Rattle.model.specs.Pages.{pageOf, withPage, pageSound, primaryPage, scratchPage, linkToFirst}
 use Rattle.model.specs.Chains.{Chain, sound, listFrom}
 use Rattle.model.specs.Filling.{pagesFor}
@@ -26,7 +27,7 @@ use Rattle.model.specs.Outcome.{View, Outcome, withParty, withPages, moved, che
 use Rattle.model.specs.ScratchPages.{scratchOf, primaryWritten}
 use Rattle.model.specs.LockRequests.{heldAll, givenUp, chainSelective}
 use Rattle.model.specs.Memory.{Memory}
-use Rattle.model.specs.Book.{Book, Value, Entered, isIn, changedAt, contentAtEleven, noteFor, noteStep, afterReply}
+use Rattle.model.specs.Book.{Book, Value, Entered, changedAt, contentAtEleven, noteFor, noteStep, afterReply}
 use Rattle.model.specs.Ready.{viewing}
 use Rattle.theory.specs.Sequential.{File, Finished, finishes, recordsAt, withRecords, pagesInUse, freeIn, shortOf, chainsIn, parted, rejoined, homeIn, splitFile, mergeFile, added, insertIn, removed, deleteIn}
 use Rattle.model.specs.Steps.Rebuild.{Change, kept, changed, changeOf, splitOwed, mergeOwed, owedBy, changesNothing, changing, rebuilt, rebuildWith, step10}
@@ -47,7 +48,7 @@ use Rattle.model.proofs.Effects.Operations.{Decided, decided}
 use Rattle.model.proofs.Effects.GiveUps.{given-up-rest}
 use Rattle.model.proofs.Effects.BuiltChain.{chain-found}
 use Rattle.model.proofs.Theorems.Calls.{StepsKept}
-use Rattle.theory.proofs.Singly.Files.{extentOf, home, Holding, holding-keys, holding-changed}
+use Rattle.theory.proofs.Singly.Files.{extentOf, home, Holding, held-home, holding-changed}
 use Rattle.theory.proofs.SizesStay.{sizes-same}
 use Rattle.theory.proofs.Singly.AtRest.{use-set}
 use Rattle.theory.proofs.Singly.Alone.{Alone, leftAt, bookOn, live-alone, records-alone, limits-free, scratch-long, many-alone, written-linked, at-alone, Performed, performs-as, performed, guarded-open, checked-open, alone-after, alone-moves, Ends, goes-on, plain, live-plain, root-extent, moves-on, ends-there}
@@ -69,15 +70,15 @@ changedFile r f o c (changed n es) =
     cond (shortOf r f (pagesFor (r .capacity) es)) (finishes OperationAnswer.NoPage Restructuring.None f)
     (onwardFile r (withRecords f c es) (answerOf n) (owedBy o (pagesFor (r .capacity) (recordsAt f c)) (pagesFor (r .capacity) es) es))
 
-pub insert-is : (r : Root) (f : File) (k : ℕ) → changedFile r f 2 (homeIn r f k) (changeOf 2 k (recordsAt f (homeIn r f k))) ≡ insertIn r f k
+pub insert-is : (r : Root) (f : File) (k x : ℕ) → changedFile r f 2 (homeIn r f k) (changeOf 2 k x (recordsAt f (homeIn r f k))) ≡ insertIn r f k x
 unfolding changedFile changeOf insertIn added owedBy onwardFile answerNumber answerOf restructuringOf
-insert-is r f k = go (hasKey k es)
+insert-is r f k x = go (hasKey k es)
   where
     es : List Entry
     es = recordsAt f (homeIn r f k)
 
     new : List Entry
-    new = insertedInto (entryOf k) es
+    new = insertedInto (entryOf k x) es
 
     owes : (t : Bool) → onwardFile r (withRecords f (homeIn r f k) new) OperationAnswer.Inserted (cond t 1 0)
         ≡ cond t (splitFile r (withRecords f (homeIn r f k) new) OperationAnswer.Inserted) (finishes OperationAnswer.Inserted Restructuring.None (withRecords f (homeIn r f k) new))
@@ -89,9 +90,9 @@ insert-is r f k = go (hasKey k es)
     go false =
         ap (cond (shortOf r f (pagesFor (r .capacity) new)) (finishes OperationAnswer.NoPage Restructuring.None f)) (owes (splitOwed (pagesFor (r .capacity) es) (pagesFor (r .capacity) new)))
 
-pub delete-is : (r : Root) (f : File) (k : ℕ) → changedFile r f 3 (homeIn r f k) (changeOf 3 k (recordsAt f (homeIn r f k))) ≡ deleteIn r f k
+pub delete-is : (r : Root) (f : File) (k x : ℕ) → changedFile r f 3 (homeIn r f k) (changeOf 3 k x (recordsAt f (homeIn r f k))) ≡ deleteIn r f k
 unfolding changedFile changeOf deleteIn removed owedBy onwardFile answerNumber answerOf restructuringOf
-delete-is r f k = go (hasKey k es)
+delete-is r f k x = go (hasKey k es)
   where
     es : List Entry
     es = recordsAt f (homeIn r f k)
@@ -186,23 +187,14 @@ module _ (steps : StepsKept) (q : ℕ) where
 
 -- ---- 11
 
--- Whether a key is in, after one key's content changed.
-in-changed : (f : ℕ → Option Value) (k : ℕ) (x : Option Value) (j : ℕ) → isIn (changedAt f k x j) ≡ cond (eqb j k) (isIn x) (isIn (f j))
-unfolding changedAt
-in-changed f k x j = go (eqb j k)
-  where
-    go : (t : Bool) → isIn (cond t x (f j)) ≡ cond t (isIn x) (isIn (f j))
-    go true = refl
-    go false = refl
-
--- What the book's set is after step 11.
+-- What the book's map is after step 11.
 contents-eleven : (b : Book) (q : ℕ) (e : Entered) → b .entries q ≡ some e → noteFor b q (b .entries q) 11 .contents ≡ changedAt (b .contents) (e .key) (contentAtEleven (e .operation) (b .contents (e .key)))
 unfolding noteFor noteStep
 contents-eleven b q e h = ap (λ (z : Option Entered). noteFor b q z 11 .contents) h
 
 module _ (steps : StepsKept) (m : Memory) (b : Book) (q : ℕ) (p : Party) (f : File) (out : ℕ) (a : Alone m b q p f out) (is-11 : p .step ≡ 11)
     (at-home : p .chain ≡ home (m .root .originals) (extentOf f) (p .key)) (new : List Entry)
-    (change : changeOf (p .operation) (p .key) (recordsAt f (p .chain)) ≡ changed (p .answer) new) (out-is : out ≡ pagesFor (m .root .capacity) new) where
+    (change : changeOf (p .operation) (p .key) (p .setting) (recordsAt f (p .chain)) ≡ changed (p .answer) new) (out-is : out ≡ pagesFor (m .root .capacity) new) where
   abbrev r : Root
   r = m .root
 
@@ -238,7 +230,7 @@ module _ (steps : StepsKept) (m : Memory) (b : Book) (q : ℕ) (p : Party) (f : 
 
   made : ChangeMade o (p .key) (recordsAt f (p .chain)) (p .answer) new
   made =
-      change-made (p .key) (recordsAt f (p .chain)) (p .answer) new o (p .operation) (at-11 .busy .same-operation)
+      change-made (p .key) (p .setting) (recordsAt f (p .chain)) (p .answer) new o (p .operation) (at-11 .busy .same-operation) (at-11 .busy .same-setting)
       (ap (hasStep (p .operation)) (sym is-11) ∙ at-11 .busy .step-fits) change
 
   abbrev g : File
@@ -252,13 +244,18 @@ module _ (steps : StepsKept) (m : Memory) (b : Book) (q : ℕ) (p : Party) (f : 
       ap (λ (n : ℕ). noteFor b q (b .entries q) n .contents) is-11 ∙ contents-eleven b q (at-11 .entered) (at-11 .busy .entry)
       ∙ ap (λ (k : ℕ). changedAt (b .contents) k (contentAtEleven o (b .contents k))) (at-11 .busy .same-key)
 
-  holding-then : Holding (r .originals) g (λ j. isIn (bookOn b q p .contents j))
+  -- The chain has of the key what the book has.
+  was-there : settingIn (p .key) (recordsAt f (p .chain)) ≡ b .contents (p .key)
+  was-there = ap (λ (c : ℕ). settingIn (p .key) (recordsAt f c)) at-home ∙ held-home (r .originals) f (b .contents) (a .holding) (p .key)
+
+  holding-then : Holding (r .originals) g (bookOn b q p .contents)
+  unfolding changedAt
   holding-then =
-      holding-keys (r .originals) g (λ j. cond (eqb j (p .key)) (isIn then-in) (isIn (b .contents j))) (λ j. isIn (bookOn b q p .contents j))
-      (λ j. ap (λ (h : ℕ → Option Value). isIn (h j)) contents-then ∙ in-changed (b .contents) (p .key) then-in j)
-      (subst (λ (c : ℕ). Holding (r .originals) (withRecords f c new) (λ j. cond (eqb j (p .key)) (isIn then-in) (isIn (b .contents j)))) (sym at-home)
-      (holding-changed (r .originals) f (λ j. isIn (b .contents j)) (a .holding) some-original (p .key) new (isIn then-in) (made .ascends (a .holding .ascends (p .chain)))
-      (λ j. made .keys (b .contents (p .key)) j ∙ ap (λ (c : ℕ). cond (eqb j (p .key)) (isIn then-in) (hasKey j (recordsAt f c))) at-home)))
+      subst (Holding (r .originals) g) (sym contents-then)
+      (subst (λ (c : ℕ). Holding (r .originals) (withRecords f c new) (changedAt (b .contents) (p .key) then-in)) (sym at-home)
+      (holding-changed (r .originals) f (b .contents) (a .holding) some-original (p .key) new then-in (made .ascends (a .holding .ascends (p .chain)))
+      (λ j. made .settings j ∙ ap (λ (x : Option Value). cond (eqb j (p .key)) (contentAtEleven o x) (settingIn j (recordsAt f (p .chain)))) was-there
+      ∙ ap (λ (c : ℕ). cond (eqb j (p .key)) then-in (settingIn j (recordsAt f c))) at-home)))
 
   whole-then : r .free + length xs + pagesInUse (r .capacity) (g .chains) ≡ r .overflow
   unfolding withRecords recordsAt
@@ -320,11 +317,11 @@ module _ (steps : StepsKept) (m : Memory) (b : Book) (q : ℕ) (p : Party) (f : 
   abbrev whole : Chain
   whole = chainWith (recordsAt f (p .chain))
 
-  looked-through : Performed m b q (rebuildWith lent₀ whole (changeOf (p .operation) (p .key) es))
+  looked-through : Performed m b q (rebuildWith lent₀ whole (changeOf (p .operation) (p .key) (p .setting) es))
   unfolding stepOf stepTable step10
   looked-through =
       performs-as
-      (ap (λ c. checked lent₀ c (λ d. rebuildWith lent₀ d (changeOf (p .operation) (p .key) (d .entries))))
+      (ap (λ c. checked lent₀ c (λ d. rebuildWith lent₀ d (changeOf (p .operation) (p .key) (p .setting) (d .entries))))
       (chain-found m b (a .inv) (p .chain) chain-live₀ ∙ ap (λ (l : List Entry). sound (chainWith l)) (records-alone m b q p f 0 a (p .chain) chain-live₀)))
       (performed steps m b q p f 0 a 9 step10 is-10 refl)
 
@@ -336,7 +333,7 @@ module _ (steps : StepsKept) (m : Memory) (b : Book) (q : ℕ) (p : Party) (f : 
       moves-on m b q p f 0 a 10 12 x (m .locks) (m .pages) (finishes (answerOf n) Restructuring.None f) is-10 refl refl refl (omega arith) w
       (λ c. unchanged-ends steps q (leftAt m q r₀ x (m .locks) (m .pages)) (bookOn b q p) x f c refl h (at-10 .facts .0 .nothing-owed))
 
-  module _ (n : ℕ) (new : List Entry) (change : changeOf (p .operation) (p .key) (recordsAt f (p .chain)) ≡ changed n new) where
+  module _ (n : ℕ) (new : List Entry) (change : changeOf (p .operation) (p .key) (p .setting) (recordsAt f (p .chain)) ≡ changed n new) where
     abbrev need : ℕ
     need = pagesFor (r₀ .capacity) new
 
@@ -383,34 +380,34 @@ module _ (steps : StepsKept) (m : Memory) (b : Book) (q : ℕ) (p : Party) (f : 
             subst (Ends m q) (sym (cond-false (shortOf r₀ f need) short goal-then (short-alone m b q p f a need ∙ h)))
             (rebuilds (ltb-false (r₀ .free) need h) (performs-as (cond-false (tooFew r₀ need) (changesNothing lent₀ 5) takes h) w))
 
-  pub from-10 : Ends m q (changedFile (m .root) f (p .operation) (p .chain) (changeOf (p .operation) (p .key) (recordsAt f (p .chain))))
+  pub from-10 : Ends m q (changedFile (m .root) f (p .operation) (p .chain) (changeOf (p .operation) (p .key) (p .setting) (recordsAt f (p .chain))))
   unfolding rebuildWith changedFile
-  from-10 = go (changeOf (p .operation) (p .key) es) refl looked-through
+  from-10 = go (changeOf (p .operation) (p .key) (p .setting) es) refl looked-through
     where
-      chosen : Decided (at-10 .entered .operation) (hasKey (p .key) es) (changeOf (p .operation) (p .key) es)
-      chosen = decided (at-10 .entered .operation) (p .operation) (p .key) es (at-10 .busy .same-operation) (ap (hasStep (p .operation)) (sym is-10) ∙ at-10 .busy .step-fits)
+      chosen : Decided (at-10 .entered .operation) (hasKey (p .key) es) (changeOf (p .operation) (p .key) (p .setting) es)
+      chosen = decided (at-10 .entered .operation) (p .operation) (p .key) (p .setting) es (at-10 .busy .same-operation) (ap (hasStep (p .operation)) (sym is-10) ∙ at-10 .busy .step-fits)
 
-      go : (c : Change) → changeOf (p .operation) (p .key) es ≡ c → Performed m b q (rebuildWith lent₀ whole c) → Ends m q (changedFile r₀ f (p .operation) (p .chain) c)
+      go : (c : Change) → changeOf (p .operation) (p .key) (p .setting) es ≡ c → Performed m b q (rebuildWith lent₀ whole c) → Ends m q (changedFile r₀ f (p .operation) (p .chain) c)
       go (kept n) s w = keeps n (subst (Decided (at-10 .entered .operation) (hasKey (p .key) es)) s chosen .no-change) w
       go (changed n new) s w = changes n new s w
 
 -- ---- Insert and delete
 
 -- An operation that has come to its key's home, and changes what it finds there.
-change-ends : StepsKept → (r : Root) (q o k : ℕ) (f : File) (x : Arrival r q o k f 10) → Ends (x .memory) q (changedFile r f o (homeIn r f k) (changeOf o k (recordsAt f (homeIn r f k))))
+change-ends : StepsKept → (r : Root) (q o k x : ℕ) (f : File) (t : Arrival r q o k x f 10) → Ends (t .memory) q (changedFile r f o (homeIn r f k) (changeOf o k x (recordsAt f (homeIn r f k))))
 unfolding homeIn
-change-ends steps r q o k f x =
-    let p = x .party in
-    let by : Root → ℕ → ℕ → ℕ → Finished = λ t n j c. changedFile t f n c (changeOf n j (recordsAt f c)) in
-    let there : p .chain ≡ home (x .memory .root .originals) (extentOf f) (p .key) =
-    x .chain= ∙ ap (λ (t : Root). home (t .originals) (extentOf f) k) (sym (x .root=)) ∙ ap (home (x .memory .root .originals) (extentOf f)) (sym (x .key=)) in
-    subst (Ends (x .memory) q)
-    (ap (λ (t : Root). by t (p .operation) (p .key) (p .chain)) (x .root=) ∙ ap (λ (n : ℕ). by r n (p .key) (p .chain)) (x .operation=)
-    ∙ ap (λ (j : ℕ). by r o j (p .chain)) (x .key=) ∙ ap (by r o k) (x .chain=))
-    (from-10 steps (x .memory) (x .book) q p f (x .alone) (x .step=) there)
+change-ends steps r q o k x f t =
+    let p = t .party in
+    let by : Root → ℕ → ℕ → ℕ → ℕ → Finished = λ u n j y c. changedFile u f n c (changeOf n j y (recordsAt f c)) in
+    let there : p .chain ≡ home (t .memory .root .originals) (extentOf f) (p .key) =
+    t .chain= ∙ ap (λ (u : Root). home (u .originals) (extentOf f) k) (sym (t .root=)) ∙ ap (home (t .memory .root .originals) (extentOf f)) (sym (t .key=)) in
+    subst (Ends (t .memory) q)
+    (ap (λ (u : Root). by u (p .operation) (p .key) (p .setting) (p .chain)) (t .root=) ∙ ap (λ (n : ℕ). by r n (p .key) (p .setting) (p .chain)) (t .operation=)
+    ∙ ap (λ (j : ℕ). by r o j (p .setting) (p .chain)) (t .key=) ∙ ap (λ (y : ℕ). by r o k y (p .chain)) (t .setting=) ∙ ap (by r o k x) (t .chain=))
+    (from-10 steps (t .memory) (t .book) q p f (t .alone) (t .step=) there)
 
-pub insert-ends : StepsKept → (r : Root) (q k : ℕ) (f : File) (x : Arrival r q 2 k f 10) → Ends (x .memory) q (insertIn r f k)
-insert-ends steps r q k f x = subst (Ends (x .memory) q) (insert-is r f k) (change-ends steps r q 2 k f x)
+pub insert-ends : StepsKept → (r : Root) (q k x : ℕ) (f : File) (t : Arrival r q 2 k x f 10) → Ends (t .memory) q (insertIn r f k x)
+insert-ends steps r q k x f t = subst (Ends (t .memory) q) (insert-is r f k x) (change-ends steps r q 2 k x f t)
 
-pub delete-ends : StepsKept → (r : Root) (q k : ℕ) (f : File) (x : Arrival r q 3 k f 10) → Ends (x .memory) q (deleteIn r f k)
-delete-ends steps r q k f x = subst (Ends (x .memory) q) (delete-is r f k) (change-ends steps r q 3 k f x)
+pub delete-ends : StepsKept → (r : Root) (q k : ℕ) (f : File) (t : Arrival r q 3 k 0 f 10) → Ends (t .memory) q (deleteIn r f k)
+delete-ends steps r q k f t = subst (Ends (t .memory) q) (delete-is r f k 0) (change-ends steps r q 3 k 0 f t)

@@ -1,10 +1,11 @@
--- The yardstick's files by the keys that they hold, and what the yardstick's changes make of a file.
--- Main statements: Holding (a file that holds exactly these keys, each at its home), same-file (level, next and the keys determine a file); Rehomed, rehomed (a key's home after one split more);
+-- The yardstick's files by the keys and settings that they hold, and what the yardstick's changes make of a file.
+-- Main statements: Holding (a file that holds exactly this map, each key at its home), same-file (level, next and the map determine a file), held-home (a key's home has of it what the map has); Rehomed, rehomed (a key's home after one split more);
 -- holding-changed, holding-parted, holding-rejoined.
 use mathlib.Core.Path.{_≡_, refl, sym, ap, _∙_, subst}
 use mathlib.Core.Logic.{_≢_}
-use mathlib.Core.Bool.{Bool, true, false, cond, not, _&&_, _||_, and-true, and-false, or-false}
+use mathlib.Core.Bool.{Bool, true, false, cond, not, false≢true}
 use mathlib.Core.List.{List, [], _∷_, _++_}
+use mathlib.Core.Option.{Option, none, some}
 use Prim.Native.Nat.{ℕ, suc, _+_, _≤_, _<_}
 use native.Mathlib.Omega.{arith}
 use lib.ListN.{length, getD, set, take, length-append, length-set, List·getD-append, List·getD-eq-default}
@@ -12,20 +13,24 @@ use lib.Seq.{getD-set-same, getD-set-other, getD-take, getD-at, length-take-le, 
 use lib.Dec.{eqb}
 use Rattle.model.specs.declared.Root.{Root}
 use Rattle.model.specs.Addresses.{span, hash, addressOf, splitNext, mergeTarget, mergePartner, mergeLevel, mergeBarred, chainCount}
-use Rattle.model.specs.Entries.{Entry, hasKey, ascending, joined, staying, going}
+use Rattle.model.specs.declared.Entry.{Entry}
+use Rattle.model.specs.Entries.{hasKey, ascending, joined, staying, going, settingIn}
+use Rattle.theory.specs.PlainMap.{PlainMap}
 use Rattle.theory.specs.Sequential.{File, recordsAt, withRecords, parted, rejoined}
-use Rattle.model.proofs.Laws.Lists.{Cmp, same, diff, cmp, Ord, lt, ge, ord, and-both, eqb-same, eqb-diff, eqb-true}
+use Rattle.model.proofs.Laws.Lists.{Cmp, same, diff, cmp, Ord, lt, ge, ord, eqb-same, eqb-diff}
 use Rattle.model.proofs.Invariant.Ghost.{Extent, extent, size, advance}
 use Rattle.model.proofs.Invariant.Extents.{size-is}
 use Rattle.model.proofs.Laws.Addresses.{address-lt}
 use Rattle.model.proofs.Invariant.Advance.{advance-size, advance-fits, split-hash, home-splits, home-inside, home-other, home-split, home-made}
 use Rattle.model.proofs.Laws.Retreat.{Retreat, merge-retreats, merge-partner, target-before}
-use Rattle.model.proofs.Laws.Halves.{has-staying, has-going, ascends-staying, ascends-going}
-use Rattle.model.proofs.Laws.Joins.{has-joined, ascends-joined}
+use Rattle.model.proofs.Laws.Halves.{ascends-staying, ascends-going, setting-staying, setting-going}
+use Rattle.model.proofs.Laws.Joins.{ascends-joined, setting-joined}
 use Rattle.model.proofs.Laws.Ascending.{same-ascending}
 use Rattle.model.proofs.Steps.SplitWrite.Root.{split-advances, level-raised}
+use Rattle.model.specs.Book.{Value, isIn}
+use Rattle.model.proofs.Laws.Entries.{has-setting}
 
--- ---- A file that holds exactly these keys
+-- ---- A file that holds exactly this map
 
 -- How far a file extends.
 abbrev pub extentOf : File → Extent
@@ -35,45 +40,50 @@ extentOf f = extent (f .level) (f .next)
 abbrev pub home : ℕ → Extent → ℕ → ℕ
 home n e k = addressOf n (e .level) (e .next) k
 
-pub record Holding (n : ℕ) (f : File) (s : ℕ → Bool) : Type 0 where
+pub record Holding (n : ℕ) (f : File) (s : PlainMap) : Type 0 where
   pub as-many : length (f .chains) ≡ size n (extentOf f)
   pub next-fits : f .next < span n (f .level)
   pub ascends : (c : ℕ) → ascending (recordsAt f c) ≡ true
-  pub keys : (c k : ℕ) → hasKey k (recordsAt f c) ≡ (s k && eqb (home n (extentOf f) k) c)
+  pub settings : (c k : ℕ) → settingIn k (recordsAt f c) ≡ cond (eqb (home n (extentOf f) k) c) (s k) none
 
--- It is determined by how far it extends and by its keys.
-pub same-file : (n : ℕ) (f g : File) (s : ℕ → Bool) → Holding n f s → Holding n g s → extentOf f ≡ extentOf g → f ≡ g
+-- It is determined by how far it extends and by its map.
+pub same-file : (n : ℕ) (f g : File) (s : PlainMap) → Holding n f s → Holding n g s → extentOf f ≡ extentOf g → f ≡ g
 unfolding recordsAt
 same-file n f g s a b e = λ i. record { level = ap (λ (x : Extent). x .level) e i; next = ap (λ (x : Extent). x .next) e i; chains = lists i }
   where
     lists : f .chains ≡ g .chains
     lists = ext-getD [] (f .chains) (g .chains) (a .as-many ∙ ap (size n) e ∙ sym (b .as-many))
         (λ c l. same-ascending (recordsAt f c) (recordsAt g c) (a .ascends c) (b .ascends c)
-        (λ k. a .keys c k ∙ ap (λ (x : Extent). s k && eqb (home n x k) c) e ∙ sym (b .keys c k)))
+        (λ k. a .settings c k ∙ ap (λ (x : Extent). cond (eqb (home n x k) c) (s k) none) e ∙ sym (b .settings c k)))
 
--- The same keys.
-pub holding-keys : (n : ℕ) (f : File) (s t : ℕ → Bool) → ((k : ℕ) → t k ≡ s k) → Holding n f s → Holding n f t
-holding-keys n f s t e h = record {
+-- What the map has of a key is what its home has.
+pub held-home : (n : ℕ) (f : File) (s : PlainMap) → Holding n f s → (k : ℕ) → settingIn k (recordsAt f (home n (extentOf f) k)) ≡ s k
+held-home n f s h k =
+    h .settings (home n (extentOf f) k) k ∙ ap (λ (t : Bool). cond t (s k) none) (eqb-same (home n (extentOf f) k) (home n (extentOf f) k) refl)
+
+-- The same map.
+pub holding-same : (n : ℕ) (f : File) (s t : PlainMap) → ((k : ℕ) → t k ≡ s k) → Holding n f s → Holding n f t
+holding-same n f s t e h = record {
   as-many = h .as-many;
   next-fits = h .next-fits;
   ascends = h .ascends;
-  keys = λ c k. h .keys c k ∙ ap (λ (x : Bool). x && eqb (home n (extentOf f) k) c) (sym (e k));
+  settings = λ c k. h .settings c k ∙ ap (λ (x : Option Value). cond (eqb (home n (extentOf f) k) c) x none) (sym (e k));
 }
 
 -- ---- Other records in one chain
 
-at-home : (n : ℕ) (f : File) (s : ℕ → Bool) → Holding n f s → 0 < n → (k : ℕ) → home n (extentOf f) k < length (f .chains)
+at-home : (n : ℕ) (f : File) (s : PlainMap) → Holding n f s → 0 < n → (k : ℕ) → home n (extentOf f) k < length (f .chains)
 unfolding size
-at-home n f s h some k = omega (arith, h .as-many, address-lt n (f .level) (f .next) k some)
+at-home n f s h positive k = omega (arith, h .as-many, address-lt n (f .level) (f .next) k positive)
 
-module _ (n : ℕ) (f : File) (s : ℕ → Bool) (h : Holding n f s) (some : 0 < n) (k : ℕ) (es : List Entry) (t : Bool) (up : ascending es ≡ true)
-    (keys-then : (j : ℕ) → hasKey j es ≡ cond (eqb j k) t (hasKey j (recordsAt f (home n (extentOf f) k)))) where
+module _ (n : ℕ) (f : File) (s : PlainMap) (h : Holding n f s) (positive : 0 < n) (k : ℕ) (es : List Entry) (t : Option Value) (up : ascending es ≡ true)
+    (settings-then : (j : ℕ) → settingIn j es ≡ cond (eqb j k) t (settingIn j (recordsAt f (home n (extentOf f) k)))) where
   abbrev at : ℕ
   at = home n (extentOf f) k
 
   records-here : recordsAt (withRecords f at es) at ≡ es
   unfolding recordsAt withRecords
-  records-here = getD-set-same (f .chains) at es [] (at-home n f s h some k)
+  records-here = getD-set-same (f .chains) at es [] (at-home n f s h positive k)
 
   records-there : (c : ℕ) → c ≢ at → recordsAt (withRecords f at es) c ≡ recordsAt f c
   unfolding recordsAt withRecords
@@ -83,23 +93,21 @@ module _ (n : ℕ) (f : File) (s : ℕ → Bool) (h : Holding n f s) (some : 0 <
   ascends-each c (same e) = rw (e, records-here) up
   ascends-each c (diff d) = rw (records-there c d) (h .ascends c)
 
-  keys-each : (c j : ℕ) → Cmp c at → Cmp j k → hasKey j (recordsAt (withRecords f at es) c) ≡ (cond (eqb j k) t (s j) && eqb (home n (extentOf f) j) c)
-  keys-each c j (same e) (same i) =
-      rw (e, records-here, keys-then j, i, eqb-same k k refl, eqb-same at at refl) (sym (and-true t))
-  keys-each c j (same e) (diff x) = rw (e, records-here, keys-then j, eqb-diff j k x) (h .keys at j)
-  keys-each c j (diff d) (same i) =
-      rw (records-there c d, i, eqb-same k k refl, eqb-diff at c (λ e. d (sym e)), and-false t)
-      (h .keys c k ∙ ap (λ (x : Bool). s k && x) (eqb-diff at c (λ e. d (sym e))) ∙ and-false (s k))
-  keys-each c j (diff d) (diff x) = rw (records-there c d, eqb-diff j k x) (h .keys c j)
+  settings-each : (c j : ℕ) → Cmp c at → Cmp j k → settingIn j (recordsAt (withRecords f at es) c) ≡ cond (eqb (home n (extentOf f) j) c) (cond (eqb j k) t (s j)) none
+  settings-each c j (same e) (same i) = rw (e, records-here, settings-then j, i, eqb-same k k refl, eqb-same at at refl) refl
+  settings-each c j (same e) (diff x) = rw (e, records-here, settings-then j, eqb-diff j k x) (h .settings at j)
+  settings-each c j (diff d) (same i) =
+      rw (records-there c d, i, eqb-same k k refl, eqb-diff at c (λ e. d (sym e))) (h .settings c k ∙ ap (λ (x : Bool). cond x (s k) none) (eqb-diff at c (λ e. d (sym e))))
+  settings-each c j (diff d) (diff x) = rw (records-there c d, eqb-diff j k x) (h .settings c j)
 
-  -- Key k is in where t says, every other key where it was.
+  -- Key k has what t says, every other key what it had.
   pub holding-changed : Holding n (withRecords f (home n (extentOf f) k) es) (λ j. cond (eqb j k) t (s j))
   unfolding withRecords
   holding-changed = record {
     as-many = length-set (f .chains) at es ∙ h .as-many;
     next-fits = h .next-fits;
     ascends = λ c. ascends-each c (cmp c at);
-    keys = λ c j. keys-each c j (cmp c at) (cmp j k);
+    settings = λ c j. settings-each c j (cmp c at) (cmp j k);
   }
 
 -- ---- A key's home after one split more
@@ -110,12 +118,22 @@ pub data Rehomed (n : ℕ) (e : Extent) (k : ℕ) : Type 0 where
   goes : home n e k ≡ e .next → hash n (e .level + 1) k ≢ e .next → home n (advance n e) k ≡ size n e → Rehomed n e k
 
 pub rehomed : (n : ℕ) (e : Extent) → e .next < span n (e .level) → 0 < n → (k : ℕ) → Rehomed n e k
-rehomed n e fits some k = go (cmp (home n e k) (e .next)) (cmp (hash n (e .level + 1) k) (e .next))
+rehomed n e fits positive k = go (cmp (home n e k) (e .next)) (cmp (hash n (e .level + 1) k) (e .next))
   where
     go : Cmp (home n e k) (e .next) → Cmp (hash n (e .level + 1) k) (e .next) → Rehomed n e k
-    go (diff d) x = elsewhere d (home-other n e fits some k d)
-    go (same s) (same x) = stays-there s x (home-split n e fits some k x)
-    go (same s) (diff x) = goes s x (home-made n e fits some k (split-hash n e fits some k (home-splits n e fits some k s) x))
+    go (diff d) x = elsewhere d (home-other n e fits positive k d)
+    go (same s) (same x) = stays-there s x (home-split n e fits positive k x)
+    go (same s) (diff x) = goes s x (home-made n e fits positive k (split-hash n e fits positive k (home-splits n e fits positive k s) x))
+
+-- ---- What a key has in one of two lists
+
+pub none-either : (t : Bool) → cond {A = Option Value} t none none ≡ none
+none-either true = refl
+none-either false = refl
+
+in-or-none : (x : Option Value) → cond (isIn x) x none ≡ x
+in-or-none none = refl
+in-or-none (some y) = refl
 
 -- ---- Chain next parted in two
 
@@ -129,7 +147,7 @@ last-other xs y c d = go (ord c (length xs))
         List·getD-eq-default (xs ++ (y ∷ [])) [] (omega (arith, length-append xs (y ∷ [])))
         ∙ sym (List·getD-eq-default xs [] l)
 
-module _ (r : Root) (f : File) (s : ℕ → Bool) (h : Holding (r .originals) f s) (some : 0 < r .originals) where
+module _ (r : Root) (f : File) (s : PlainMap) (h : Holding (r .originals) f s) (positive : 0 < r .originals) where
   abbrev n : ℕ
   n = r .originals
 
@@ -177,35 +195,35 @@ module _ (r : Root) (f : File) (s : ℕ → Bool) (h : Holding (r .originals) f 
   parted-ascends c (diff x) (diff y) = rw (parted-other c x y) (h .ascends c)
 
   -- Which keys stay, which go, and which are elsewhere, by their homes.
-  stay-keys : (k : ℕ) → Rehomed n e k → ((s k && eqb (home n e k) (f .next)) && eqb (hash n (f .level + 1) k) (f .next)) ≡ (s k && eqb (home n (advance n e) k) (f .next))
-  stay-keys k (elsewhere d x) = rw (x, eqb-diff (home n e k) (f .next) d, and-false (s k)) refl
-  stay-keys k (stays-there a b x) = rw (x, a, b, eqb-same (f .next) (f .next) refl, and-true (s k)) (and-true (s k))
-  stay-keys k (goes a b x) =
-      rw (x, a, eqb-diff (hash n (f .level + 1) k) (f .next) b, eqb-diff (size n e) (f .next) (omega (arith, next-inside)), and-false (s k)) (and-false (s k && eqb (f .next) (f .next)))
+  stay-settings : (k : ℕ) → Rehomed n e k
+      → cond (eqb (hash n (f .level + 1) k) (f .next)) (cond (eqb (home n e k) (f .next)) (s k) none) none ≡ cond (eqb (home n (advance n e) k) (f .next)) (s k) none
+  stay-settings k (elsewhere d x) = rw (x, eqb-diff (home n e k) (f .next) d) (none-either (eqb (hash n (f .level + 1) k) (f .next)))
+  stay-settings k (stays-there a b x) = rw (x, a, b, eqb-same (f .next) (f .next) refl) refl
+  stay-settings k (goes a b x) = rw (x, eqb-diff (hash n (f .level + 1) k) (f .next) b, eqb-diff (size n e) (f .next) (omega (arith, next-inside))) refl
 
-  go-keys : (k : ℕ) → Rehomed n e k → ((s k && eqb (home n e k) (f .next)) && not (eqb (hash n (f .level + 1) k) (f .next))) ≡ (s k && eqb (home n (advance n e) k) (size n e))
-  go-keys k (elsewhere d x) =
-      rw (x, eqb-diff (home n e k) (f .next) d, eqb-diff (home n e k) (size n e) (omega (arith, home-inside n e (h .next-fits) some k)), and-false (s k)) refl
-  go-keys k (stays-there a b x) =
-      rw (x, b, eqb-same (f .next) (f .next) refl, eqb-diff (f .next) (size n e) (omega (arith, next-inside)), and-false (s k)) (and-false (s k && eqb (home n e k) (f .next)))
-  go-keys k (goes a b x) =
-      rw (x, a, eqb-diff (hash n (f .level + 1) k) (f .next) b, eqb-same (f .next) (f .next) refl, eqb-same (size n e) (size n e) refl, and-true (s k)) (and-true (s k))
+  go-settings : (k : ℕ) → Rehomed n e k
+      → cond (not (eqb (hash n (f .level + 1) k) (f .next))) (cond (eqb (home n e k) (f .next)) (s k) none) none ≡ cond (eqb (home n (advance n e) k) (size n e)) (s k) none
+  go-settings k (elsewhere d x) =
+      rw (x, eqb-diff (home n e k) (f .next) d, eqb-diff (home n e k) (size n e) (omega (arith, home-inside n e (h .next-fits) positive k)))
+      (none-either (not (eqb (hash n (f .level + 1) k) (f .next))))
+  go-settings k (stays-there a b x) = rw (x, b, eqb-same (f .next) (f .next) refl, eqb-diff (f .next) (size n e) (omega (arith, next-inside))) refl
+  go-settings k (goes a b x) = rw (x, a, eqb-diff (hash n (f .level + 1) k) (f .next) b, eqb-same (f .next) (f .next) refl, eqb-same (size n e) (size n e) refl) refl
 
-  other-keys : (c k : ℕ) → c ≢ f .next → c ≢ size n e → Rehomed n e k → (s k && eqb (home n e k) c) ≡ (s k && eqb (home n (advance n e) k) c)
-  other-keys c k d z (elsewhere _ x) = rw x refl
-  other-keys c k d z (stays-there a b x) = rw (x, a) refl
-  other-keys c k d z (goes a b x) = rw (x, a, eqb-diff (f .next) c (λ y. d (sym y)), eqb-diff (size n e) c (λ y. z (sym y))) refl
+  other-settings : (c k : ℕ) → c ≢ f .next → c ≢ size n e → Rehomed n e k → cond (eqb (home n e k) c) (s k) none ≡ cond (eqb (home n (advance n e) k) c) (s k) none
+  other-settings c k d z (elsewhere _ x) = rw x refl
+  other-settings c k d z (stays-there a b x) = rw (x, a) refl
+  other-settings c k d z (goes a b x) = rw (x, a, eqb-diff (f .next) c (λ y. d (sym y)), eqb-diff (size n e) c (λ y. z (sym y))) refl
 
-  parted-keys : (c k : ℕ) → Cmp c (f .next) → Cmp c (size n e) → hasKey k (recordsAt (parted r f stay go) c) ≡ (s k && eqb (home n (advance n e) k) c)
-  parted-keys c k (same x) y =
+  parted-settings : (c k : ℕ) → Cmp c (f .next) → Cmp c (size n e) → settingIn k (recordsAt (parted r f stay go) c) ≡ cond (eqb (home n (advance n e) k) c) (s k) none
+  parted-settings c k (same x) y =
       rw (x, parted-next)
-      (has-staying n (f .level + 1) (f .next) k (recordsAt f (f .next)) ∙ ap (λ (t : Bool). t && eqb (hash n (f .level + 1) k) (f .next)) (h .keys (f .next) k)
-      ∙ stay-keys k (rehomed n e (h .next-fits) some k))
-  parted-keys c k (diff x) (same y) =
+      (setting-staying n (f .level + 1) (f .next) k (recordsAt f (f .next)) ∙ ap (λ (t : Option Value). cond (eqb (hash n (f .level + 1) k) (f .next)) t none) (h .settings (f .next) k)
+      ∙ stay-settings k (rehomed n e (h .next-fits) positive k))
+  parted-settings c k (diff x) (same y) =
       rw (y, parted-new)
-      (has-going n (f .level + 1) (f .next) k (recordsAt f (f .next)) ∙ ap (λ (t : Bool). t && not (eqb (hash n (f .level + 1) k) (f .next))) (h .keys (f .next) k)
-      ∙ go-keys k (rehomed n e (h .next-fits) some k))
-  parted-keys c k (diff x) (diff y) = rw (parted-other c x y) (h .keys c k ∙ other-keys c k x y (rehomed n e (h .next-fits) some k))
+      (setting-going n (f .level + 1) (f .next) k (recordsAt f (f .next)) ∙ ap (λ (t : Option Value). cond (not (eqb (hash n (f .level + 1) k) (f .next))) t none) (h .settings (f .next) k)
+      ∙ go-settings k (rehomed n e (h .next-fits) positive k))
+  parted-settings c k (diff x) (diff y) = rw (parted-other c x y) (h .settings c k ∙ other-settings c k x y (rehomed n e (h .next-fits) positive k))
 
   pub holding-parted : Holding (r .originals) (parted r f (staying (r .originals) (f .level + 1) (f .next) (recordsAt f (f .next))) (going (r .originals) (f .level + 1) (f .next) (recordsAt f (f .next)))) s
   unfolding parted
@@ -213,12 +231,12 @@ module _ (r : Root) (f : File) (s : ℕ → Bool) (h : Holding (r .originals) f 
     as-many = length-append (set (f .chains) (f .next) stay) (go ∷ []) ∙ omega (arith, set-many, advance-size n e (h .next-fits)) ∙ ap (size n) (sym parted-extent);
     next-fits = subst (λ (x : Extent). x .next < span n (x .level)) (sym parted-extent) (advance-fits n e (h .next-fits));
     ascends = λ c. parted-ascends c (cmp c (f .next)) (cmp c (size n e));
-    keys = λ c k. parted-keys c k (cmp c (f .next)) (cmp c (size n e)) ∙ ap (λ (x : Extent). s k && eqb (home n x k) c) (sym parted-extent);
+    settings = λ c k. parted-settings c k (cmp c (f .next)) (cmp c (size n e)) ∙ ap (λ (x : Extent). cond (eqb (home n x k) c) (s k) none) (sym parted-extent);
   }
 
 -- ---- The last chain joined to its target
 
-module _ (r : Root) (f : File) (s : ℕ → Bool) (h : Holding (r .originals) f s) (some : 0 < r .originals)
+module _ (r : Root) (f : File) (s : PlainMap) (h : Holding (r .originals) f s) (positive : 0 < r .originals)
     (goes-on : mergeBarred (chainCount (r .originals) (f .level) (f .next)) (r .originals) ≡ false) where
   abbrev originals : ℕ
   originals = r .originals
@@ -234,13 +252,13 @@ module _ (r : Root) (f : File) (s : ℕ → Bool) (h : Holding (r .originals) f 
   d = extent (mergeLevel (f .level) (f .next)) target
 
   retreat : Retreat originals (extentOf f) d
-  retreat = merge-retreats originals (f .level) (f .next) some (h .next-fits) goes-on
+  retreat = merge-retreats originals (f .level) (f .next) positive (h .next-fits) goes-on
 
   partner-is : partner ≡ size originals d
-  partner-is = merge-partner originals (f .level) (f .next) some (h .next-fits) goes-on
+  partner-is = merge-partner originals (f .level) (f .next) positive (h .next-fits) goes-on
 
   before : target < partner
-  before = target-before originals (f .level) (f .next) some (h .next-fits) goes-on
+  before = target-before originals (f .level) (f .next) positive (h .next-fits) goes-on
 
   both-many : length (f .chains) ≡ suc partner
   both-many = h .as-many ∙ retreat .one-less ∙ ap suc (sym partner-is)
@@ -264,32 +282,38 @@ module _ (r : Root) (f : File) (s : ℕ → Bool) (h : Holding (r .originals) f 
   joined-beyond c l = List·getD-eq-default (take partner (set (f .chains) target both)) [] (omega (arith, few))
 
   -- Homes in the file as it is are those one split further than in the file then.
-  keys-now : (c k : ℕ) → hasKey k (recordsAt f c) ≡ (s k && eqb (home originals (advance originals d) k) c)
-  keys-now c k = h .keys c k ∙ ap (λ (x : Extent). s k && eqb (home originals x k) c) (sym (retreat .advances))
+  settings-now : (c k : ℕ) → settingIn k (recordsAt f c) ≡ cond (eqb (home originals (advance originals d) k) c) (s k) none
+  settings-now c k = h .settings c k ∙ ap (λ (x : Extent). cond (eqb (home originals x k) c) (s k) none) (sym (retreat .advances))
+
+  -- A key is on no chain but its home.
+  off-home : (c k : ℕ) → home originals (advance originals d) k ≢ c → hasKey k (recordsAt f c) ≡ false
+  off-home c k x = sym (has-setting k (recordsAt f c)) ∙ ap isIn (settings-now c k ∙ ap (λ (t : Bool). cond t (s k) none) (eqb-diff (home originals (advance originals d) k) c x))
 
   key-once : (k : ℕ) → hasKey k (recordsAt f target) ≡ true → hasKey k (recordsAt f partner) ≡ false
-  key-once k x =
-      let there = eqb-true (home originals (advance originals d) k) target (and-both (s k) (eqb (home originals (advance originals d) k) target) (sym (keys-now target k) ∙ x) .1) in
-      keys-now partner k ∙ rw (there, eqb-diff target partner (omega (arith, before))) (and-false (s k))
+  key-once k x = go (cmp (home originals (advance originals d) k) target)
+    where
+      go : Cmp (home originals (advance originals d) k) target → hasKey k (recordsAt f partner) ≡ false
+      go (same y) = off-home partner k (omega (arith, y, before))
+      go (diff y) = absurd (false≢true (sym (off-home target k y) ∙ x))
 
-  both-keys : (k : ℕ) → Rehomed originals d k
-      → ((s k && eqb (home originals (advance originals d) k) target) || (s k && eqb (home originals (advance originals d) k) partner)) ≡ (s k && eqb (home originals d k) target)
-  both-keys k (elsewhere y x) =
+  abbrev heldIn : ℕ → ℕ → Option Value
+  heldIn k c = cond (eqb (home originals (advance originals d) k) c) (s k) none
+
+  both-settings : (k : ℕ) → Rehomed originals d k → cond (isIn (heldIn k target)) (heldIn k target) (heldIn k partner) ≡ cond (eqb (home originals d k) target) (s k) none
+  both-settings k (elsewhere y x) =
       rw (
         x,
         eqb-diff (home originals d k) target y,
-        eqb-diff (home originals d k) partner (omega (arith, partner-is, home-inside originals d (retreat .next-fits) some k)),
-        and-false (s k),
+        eqb-diff (home originals d k) partner (omega (arith, partner-is, home-inside originals d (retreat .next-fits) positive k)),
       ) refl
-  both-keys k (stays-there a b x) =
-      rw (x, a, eqb-same target target refl, eqb-diff target partner (omega (arith, before)), and-false (s k), and-true (s k)) (or-false (s k))
-  both-keys k (goes a b x) =
-      rw (x, a, eqb-same target target refl, ← partner-is, eqb-same partner partner refl, eqb-diff partner target (omega (arith, before)), and-false (s k)) refl
+  both-settings k (stays-there a b x) = rw (x, a, eqb-same target target refl, eqb-diff target partner (omega (arith, before))) (in-or-none (s k))
+  both-settings k (goes a b x) =
+      rw (x, a, eqb-same target target refl, ← partner-is, eqb-same partner partner refl, eqb-diff partner target (omega (arith, before))) refl
 
-  rest-keys : (c k : ℕ) → c ≢ target → c < partner → Rehomed originals d k → (s k && eqb (home originals (advance originals d) k) c) ≡ (s k && eqb (home originals d k) c)
-  rest-keys c k y l (elsewhere _ x) = rw x refl
-  rest-keys c k y l (stays-there a b x) = rw (x, a) refl
-  rest-keys c k y l (goes a b x) = rw (x, a, eqb-diff target c (λ z. y (sym z)), eqb-diff (size originals d) c (omega (arith, partner-is))) refl
+  rest-settings : (c k : ℕ) → c ≢ target → c < partner → Rehomed originals d k → heldIn k c ≡ cond (eqb (home originals d k) c) (s k) none
+  rest-settings c k y l (elsewhere _ x) = rw x refl
+  rest-settings c k y l (stays-there a b x) = rw (x, a) refl
+  rest-settings c k y l (goes a b x) = rw (x, a, eqb-diff target c (λ z. y (sym z)), eqb-diff (size originals d) c (omega (arith, partner-is))) refl
 
   rejoined-ascends : (c : ℕ) → Cmp c target → Ord c partner → ascending (recordsAt (rejoined r f target both) c) ≡ true
   unfolding ascending
@@ -297,17 +321,17 @@ module _ (r : Root) (f : File) (s : ℕ → Bool) (h : Holding (r .originals) f 
   rejoined-ascends c (diff x) (lt l _) = rw (joined-other c x l) (h .ascends c)
   rejoined-ascends c (diff x) (ge l _) = rw (joined-beyond c l) refl
 
-  rejoined-keys : (c k : ℕ) → Cmp c target → Ord c partner → hasKey k (recordsAt (rejoined r f target both) c) ≡ (s k && eqb (home originals d k) c)
-  unfolding hasKey
-  rejoined-keys c k (same x) l =
+  rejoined-settings : (c k : ℕ) → Cmp c target → Ord c partner → settingIn k (recordsAt (rejoined r f target both) c) ≡ cond (eqb (home originals d k) c) (s k) none
+  unfolding settingIn
+  rejoined-settings c k (same x) l =
       rw (x, joined-target)
-      (has-joined k (recordsAt f target) (recordsAt f partner)
-      ∙ ap (λ (t : Bool). t || hasKey k (recordsAt f partner)) (keys-now target k)
-      ∙ ap (λ (t : Bool). (s k && eqb (home originals (advance originals d) k) target) || t) (keys-now partner k)
-      ∙ both-keys k (rehomed originals d (retreat .next-fits) some k))
-  rejoined-keys c k (diff x) (lt l _) = rw (joined-other c x l) (keys-now c k ∙ rest-keys c k x l (rehomed originals d (retreat .next-fits) some k))
-  rejoined-keys c k (diff x) (ge l _) =
-      rw (joined-beyond c l, eqb-diff (home originals d k) c (omega (arith, partner-is, home-inside originals d (retreat .next-fits) some k)), and-false (s k)) refl
+      (setting-joined k (recordsAt f target) (recordsAt f partner) (h .ascends target) key-once
+      ∙ ap (λ (t : Bool). cond t (settingIn k (recordsAt f target)) (settingIn k (recordsAt f partner))) (sym (has-setting k (recordsAt f target)))
+      ∙ ap (λ (t : Option Value). cond (isIn t) t (settingIn k (recordsAt f partner))) (settings-now target k)
+      ∙ ap (cond (isIn (heldIn k target)) (heldIn k target)) (settings-now partner k)
+      ∙ both-settings k (rehomed originals d (retreat .next-fits) positive k))
+  rejoined-settings c k (diff x) (lt l _) = rw (joined-other c x l) (settings-now c k ∙ rest-settings c k x l (rehomed originals d (retreat .next-fits) positive k))
+  rejoined-settings c k (diff x) (ge l _) = rw (joined-beyond c l, eqb-diff (home originals d k) c (omega (arith, partner-is, home-inside originals d (retreat .next-fits) positive k))) refl
 
   pub holding-rejoined : Holding (r .originals) (rejoined r f (mergeTarget (r .originals) (f .level) (f .next))
       (joined (recordsAt f (mergeTarget (r .originals) (f .level) (f .next))) (recordsAt f (mergePartner (r .originals) (f .level) (f .next))))) s
@@ -316,5 +340,5 @@ module _ (r : Root) (f : File) (s : ℕ → Bool) (h : Holding (r .originals) f 
     as-many = few ∙ partner-is;
     next-fits = retreat .next-fits;
     ascends = λ c. rejoined-ascends c (cmp c target) (ord c partner);
-    keys = λ c k. rejoined-keys c k (cmp c target) (ord c partner);
+    settings = λ c k. rejoined-settings c k (cmp c target) (ord c partner);
   }

@@ -1,9 +1,9 @@
 -- Find, alone: step 9 walks the home chain to its end at most, and answers what the yardstick answers.
--- Main statements: holds-home (the yardstick finds a key where the book's set has it); walks (a find at 9 ends with the book's note); find-ends.
+-- Main statements: walks (a find at 9 ends with the book's note); find-ends.
 use mathlib.Core.Path.{_≡_, refl, sym, ap, _∙_, subst}
-use mathlib.Core.Bool.{Bool, cond, _&&_, and-true}
+use mathlib.Core.Bool.{cond}
 use mathlib.Core.List.{List, [], _∷_}
-use mathlib.Core.Option.{some}
+use mathlib.Core.Option.{some, Option}
 use Prim.Native.Nat.{ℕ, _-_}
 use native.Mathlib.Omega.{arith}
 use lib.Dec.{eqb}
@@ -12,14 +12,14 @@ use Rattle.model.specs.declared.Party.{Party}
 use Rattle.model.specs.declared.OperationAnswer.{OperationAnswer}
 use Rattle.model.specs.declared.OperationAnswer.the-variants as OperationAnswer
 use Rattle.model.specs.declared.Restructuring.the-variants as Restructuring
-use Rattle.model.specs.Entries.{hasKey}
+use Rattle.model.specs.Entries.{hasKey, settingIn}
 use Rattle.model.specs.Pages.{pageOf, withPage, linkOf, linkToFirst, entriesOf, pageSound, scratchPage, linkedPage}
 use Rattle.model.specs.Outcome.{View, Outcome, moved}
 use Rattle.model.specs.Endings.{done}
 use Rattle.model.specs.ScratchPages.{withScratch}
 use Rattle.model.specs.LockRequests.{heldAll, givenUp, chainLock}
 use Rattle.model.specs.Memory.{Memory}
-use Rattle.model.specs.Book.{Book, Entered, isIn}
+use Rattle.model.specs.Book.{Book, Entered, Value}
 use Rattle.model.specs.Ready.{viewing}
 use Rattle.theory.specs.Sequential.{File, finishes, recordsAt, homeIn, findIn}
 use Rattle.model.specs.Steps.Find.{answered, lookedOn, step09}
@@ -33,14 +33,10 @@ use Rattle.model.proofs.Effects.ScratchPage.{scratch-same, scratch-off, protect
 use Rattle.model.proofs.Invariant.Facts.{still-noted}
 use Rattle.model.proofs.Effects.GiveUps.{given-up-rest}
 use Rattle.model.proofs.Theorems.Calls.{StepsKept}
-use Rattle.theory.proofs.Singly.Files.{extentOf, home, Holding}
+use Rattle.model.specs.Answers.{foundOrAbsent}
+use Rattle.theory.proofs.Singly.Files.{extentOf, home, held-home}
 use Rattle.theory.proofs.Singly.Alone.{Alone, leftAt, bookOn, at-alone, Performed, performs-as, performed, guarded-open, linked-off, answers-note, Ends, plain, moves-on, ends-there}
 use Rattle.theory.proofs.Singly.Locate.{Arrival}
-
--- The yardstick finds a key where the book's set has it.
-pub holds-home : (n : ℕ) (f : File) (s : ℕ → Bool) → Holding n f s → (k : ℕ) → hasKey k (recordsAt f (home n (extentOf f) k)) ≡ s k
-holds-home n f s h k =
-    h .keys (home n (extentOf f) k) k ∙ ap (λ (t : Bool). s k && t) (eqb-same (home n (extentOf f) k) (home n (extentOf f) k) refl) ∙ and-true (s k)
 
 -- ---- 9
 
@@ -78,14 +74,18 @@ module _ (kept : StepsKept) (q : ℕ) (f : File) (n : OperationAnswer) where
       by-link : Outcome
       by-link = cond (eqb (linkOf scratch) 0) (answered lent OperationAnswer.Absent) (lookedOn lent)
 
-      looked : Performed m b q (cond (hasKey (p .key) (entriesOf scratch)) (answered lent OperationAnswer.Found) by-link)
+      -- What is answered where the key is on the scratch page.
+      there : OperationAnswer
+      there = foundOrAbsent (settingIn (p .key) (entriesOf scratch))
+
+      looked : Performed m b q (cond (hasKey (p .key) (entriesOf scratch)) (answered lent there) by-link)
       looked =
           let w = performed kept m b q p f 0 a 8 step09 is-nine refl in
-          performs-as (guarded-open lent (pageSound (m .root) scratch) (cond (hasKey (p .key) (entriesOf scratch)) (answered lent OperationAnswer.Found) by-link) (w .kept .allowed)) w
+          performs-as (guarded-open lent (pageSound (m .root) scratch) (cond (hasKey (p .key) (entriesOf scratch)) (answered lent there) by-link) (w .kept .allowed)) w
 
       go : Told (hasKey (p .key) (entriesOf scratch)) → Ends m q (finishes n Restructuring.None f)
-      go (holds h) = answers m b p a is-nine e entry note OperationAnswer.Found (performs-as (cond-true (hasKey (p .key) (entriesOf scratch)) (answered lent OperationAnswer.Found) by-link h) looked)
-      go (fails h) = next (performs-as (cond-false (hasKey (p .key) (entriesOf scratch)) (answered lent OperationAnswer.Found) by-link h) looked)
+      go (holds h) = answers m b p a is-nine e entry note there (performs-as (cond-true (hasKey (p .key) (entriesOf scratch)) (answered lent there) by-link h) looked)
+      go (fails h) = next (performs-as (cond-false (hasKey (p .key) (entriesOf scratch)) (answered lent there) by-link h) looked)
 
   -- What is left to walk: the pages xs.
   pub walks : (xs : List ℕ) (m : Memory) (b : Book) (p : Party) → Alone m b q p f 0 → p .step ≡ 9 → (e : Entered) → b .entries q ≡ some e → e .note ≡ some n
@@ -119,16 +119,16 @@ module _ (kept : StepsKept) (q : ℕ) (f : File) (n : OperationAnswer) where
 -- ---- Find
 
 -- A find that has come to its key's home ends as the yardstick says.
-pub find-ends : StepsKept → (r : Root) (q k : ℕ) (f : File) (x : Arrival r q 1 k f 9) → Ends (x .memory) q (findIn r f k)
+pub find-ends : StepsKept → (r : Root) (q k : ℕ) (f : File) (x : Arrival r q 1 k 0 f 9) → Ends (x .memory) q (findIn r f k)
 unfolding findIn homeIn
 find-ends kept r q k f x =
     let a = x .alone in
     let w = at-alone (x .memory) (x .book) q (x .party) f 0 a 8 (x .step=) .facts in
     let note = x .noted refl in
-    let same-home : hasKey k (recordsAt f (home (r .originals) (extentOf f) k)) ≡ isIn (x .book .contents k) =
-    ap (λ (t : Root). hasKey k (recordsAt f (home (t .originals) (extentOf f) k))) (sym (x .root=)) ∙ holds-home (x .memory .root .originals) f (λ j. isIn (x .book .contents j)) (a .holding) k in
-    subst (λ (t : Bool). Ends (x .memory) q (finishes (cond t OperationAnswer.Found OperationAnswer.Absent) Restructuring.None f)) (sym same-home)
-    (walks kept q f (cond (isIn (x .book .contents k)) OperationAnswer.Found OperationAnswer.Absent) (w .rest) (x .memory) (x .book) (x .party) a (x .step=) (note .entered) (note .entry)
+    let same-home : settingIn k (recordsAt f (home (r .originals) (extentOf f) k)) ≡ x .book .contents k =
+    ap (λ (t : Root). settingIn k (recordsAt f (home (t .originals) (extentOf f) k))) (sym (x .root=)) ∙ held-home (x .memory .root .originals) f (x .book .contents) (a .holding) k in
+    subst (λ (t : Option Value). Ends (x .memory) q (finishes (foundOrAbsent t) Restructuring.None f)) (sym same-home)
+    (walks kept q f (foundOrAbsent (x .book .contents k)) (w .rest) (x .memory) (x .book) (x .party) a (x .step=) (note .entered) (note .entry)
     (note .note-is)
     (all-from (IsOverflow (x .memory .root)) (w .rest)
     (λ z h. let o = protected-bounds (x .memory) (x .book) (a .inv) q (a .in-row) (x .party .chain) z (w .protected z h) in record { above = o .0; below = o .1 }))

@@ -10,14 +10,13 @@ use lib.Dec.{eqb, ltb, leb}
 use Rattle.model.specs.declared.Root.{Root}
 use Rattle.model.specs.declared.Party.{Party}
 use Rattle.model.specs.declared.Mode.{Mode}
-use Rattle.model.specs.declared.OperationAnswer.the-variants as OperationAnswer
 use Rattle.model.specs.Records.{atStep, withLev}
 use Rattle.model.specs.Addresses.{addressLevel, addressOf}
 use Rattle.model.specs.Pages.{pageOf, withPage, levelOf, pageSound, primaryPage, scratchPage}
 use Rattle.model.specs.Outcome.{View, moved, withParty}
 use Rattle.model.specs.ScratchPages.{withScratch}
 use Rattle.model.specs.Memory.{Memory}
-use Rattle.model.specs.Book.{Book, Value, Entered, isIn, noteFor, noteStep}
+use Rattle.model.specs.Book.{Book, Value, Entered, noteFor, noteStep}
 use Rattle.model.specs.Ready.{viewing}
 use Rattle.theory.specs.Sequential.{File, Finished}
 use Rattle.model.specs.LockRequests.{rootRead, chainLock}
@@ -33,16 +32,17 @@ use Rattle.model.proofs.Invariant.Advance.{address-local, home-inside}
 use Rattle.model.proofs.Theorems.Calls.{StepsKept}
 use Rattle.theory.proofs.Singly.Files.{extentOf, home}
 use Rattle.model.proofs.Steps.Chase.Copy.{noted-six}
+use Rattle.model.specs.Answers.{foundOrAbsent}
 use Rattle.theory.proofs.Singly.Alone.{Alone, leftAt, bookOn, none-claimed, live-alone, at-alone, performs-as, performed, guarded-open, Ends, plain, root-extent, moves-on, requests-on, releases-on}
 
--- The book's note for party q says whether key k is in.
+-- The book's note for party q says what the book has of key k.
 pub record Noted (c : Book) (q k : ℕ) : Type 0 where
   pub entered : Entered
   pub entry : c .entries q ≡ some entered
-  pub note-is : entered .note ≡ some (cond (isIn (c .contents k)) OperationAnswer.Found OperationAnswer.Absent)
+  pub note-is : entered .note ≡ some (foundOrAbsent (c .contents k))
 
--- Party q, with operation o and key k, has come to step n on its key's home chain in the file f; the root is r.
-pub record Arrival (r : Root) (q o k : ℕ) (f : File) (n : ℕ) : Type 0 where
+-- Party q, with operation o, key k and setting x, has come to step n on its key's home chain in the file f; the root is r.
+pub record Arrival (r : Root) (q o k x : ℕ) (f : File) (n : ℕ) : Type 0 where
   pub memory : Memory
   pub book : Book
   pub party : Party
@@ -51,6 +51,7 @@ pub record Arrival (r : Root) (q o k : ℕ) (f : File) (n : ℕ) : Type 0 where
   pub step= : party .step ≡ n
   pub operation= : party .operation ≡ o
   pub key= : party .key ≡ k
+  pub setting= : party .setting ≡ x
   pub chain= : party .chain ≡ home (r .originals) (extentOf f) k
   pub noted : o ≡ 1 → Noted book q k
 
@@ -114,12 +115,12 @@ module _ (kept : StepsKept) (m : Memory) (b : Book) (q : ℕ) (p : Party) (f : F
         entered = s .after;
         entry = s .entry;
         note-is = s .found (x .busy .same-operation ∙ find)
-            ∙ ap (λ (j : ℕ). some (cond (isIn (b .contents j)) OperationAnswer.Found OperationAnswer.Absent)) (x .busy .same-key)
-            ∙ ap (λ (h : ℕ → Option Value). some (cond (isIn (h (p .key))) OperationAnswer.Found OperationAnswer.Absent)) (sym (s .contents=));
+            ∙ ap (λ (j : ℕ). some (foundOrAbsent (b .contents j))) (x .busy .same-key)
+            ∙ ap (λ (h : ℕ → Option Value). some (foundOrAbsent (h (p .key)))) (sym (s .contents=));
       })
 
   from-six : (k : ℕ) → cond (eqb (p .operation) 1) 9 10 ≡ k → plain k ≡ true
-      → ((x : Arrival (m .root) q (p .operation) (p .key) f k) → Ends (x .memory) q y) → Ends m q y
+      → ((x : Arrival (m .root) q (p .operation) (p .key) (p .setting) f k) → Ends (x .memory) q y) → Ends m q y
   unfolding stepOf stepTable step06 plain
   from-six k e h next =
       let w = performed kept m b q p f 0 a 5 step06 is-six refl in
@@ -136,6 +137,7 @@ module _ (kept : StepsKept) (m : Memory) (b : Book) (q : ℕ) (p : Party) (f : F
         step= = refl;
         operation= = refl;
         key= = refl;
+        setting= = refl;
         chain= = at-home;
         noted = note-then;
       }))
@@ -145,7 +147,7 @@ module _ (kept : StepsKept) (m : Memory) (b : Book) (q : ℕ) (p : Party) (f : F
 module _ (kept : StepsKept) (q : ℕ) (f : File) (y : Finished) (k : ℕ) (arrives-plain : plain k ≡ true) where
   from-five : (m : Memory) (b : Book) (p : Party) → Alone m b q p f 0 → cond (eqb (p .operation) 1) 9 10 ≡ k → p .step ≡ 5
       → p .chain ≡ home (m .root .originals) (extentOf f) (p .key) → p .lev ≡ addressLevel (m .root .originals) (f .level) (f .next) (p .key)
-      → ((x : Arrival (m .root) q (p .operation) (p .key) f k) → Ends (x .memory) q y) → Ends m q y
+      → ((x : Arrival (m .root) q (p .operation) (p .key) (p .setting) f k) → Ends (x .memory) q y) → Ends m q y
   unfolding stepOf stepTable step05 plain
   from-five m b p a o e h l next =
       releases-on kept m b q p f 0 a y 4 6 step05 (rootRead ∷ []) (atStep 6 p) e refl refl refl refl refl (omega arith)
@@ -158,7 +160,7 @@ module _ (kept : StepsKept) (q : ℕ) (f : File) (y : Finished) (k : ℕ) (arriv
 
   from-four : (m : Memory) (b : Book) (p : Party) → Alone m b q p f 0 → cond (eqb (p .operation) 1) 9 10 ≡ k → p .step ≡ 4
       → p .chain ≡ home (m .root .originals) (extentOf f) (p .key) → p .lev ≡ addressLevel (m .root .originals) (f .level) (f .next) (p .key)
-      → ((x : Arrival (m .root) q (p .operation) (p .key) f k) → Ends (x .memory) q y) → Ends m q y
+      → ((x : Arrival (m .root) q (p .operation) (p .key) (p .setting) f k) → Ends (x .memory) q y) → Ends m q y
   unfolding stepOf stepTable step04 plain
   from-four m b p a o e h l next =
       requests-on kept m b q p f 0 a y 3 5 step04 (chainLock p) (atStep 5 p) e refl refl refl refl refl (omega arith)
@@ -166,7 +168,7 @@ module _ (kept : StepsKept) (q : ℕ) (f : File) (y : Finished) (k : ℕ) (arriv
       (λ ls c. from-five (leftAt m q (m .root) (atStep 5 p) ls (m .pages)) (bookOn b q p) (atStep 5 p) c o refl h l next)
 
   from-three : (m : Memory) (b : Book) (p : Party) → Alone m b q p f 0 → cond (eqb (p .operation) 1) 9 10 ≡ k → p .step ≡ 3 → p .lev ≡ m .root .level
-      → ((x : Arrival (m .root) q (p .operation) (p .key) f k) → Ends (x .memory) q y) → Ends m q y
+      → ((x : Arrival (m .root) q (p .operation) (p .key) (p .setting) f k) → Ends (x .memory) q y) → Ends m q y
   unfolding stepOf stepTable step03 plain located
   from-three m b p a o e l next =
       let w = performed kept m b q p f 0 a 2 step03 e refl in
@@ -181,7 +183,7 @@ module _ (kept : StepsKept) (q : ℕ) (f : File) (y : Finished) (k : ℕ) (arriv
       ∙ ap (λ (x : Extent). addressLevel (m .root .originals) (x .level) (x .next) (p .key)) (sym s)) next)
 
   from-two : (m : Memory) (b : Book) (p : Party) → Alone m b q p f 0 → cond (eqb (p .operation) 1) 9 10 ≡ k → p .step ≡ 2
-      → ((x : Arrival (m .root) q (p .operation) (p .key) f k) → Ends (x .memory) q y) → Ends m q y
+      → ((x : Arrival (m .root) q (p .operation) (p .key) (p .setting) f k) → Ends (x .memory) q y) → Ends m q y
   unfolding stepOf stepTable step02 plain
   from-two m b p a o e next =
       let p-then = atStep 3 (withLev (m .root .level) p) in
@@ -190,7 +192,7 @@ module _ (kept : StepsKept) (q : ℕ) (f : File) (y : Finished) (k : ℕ) (arriv
 
   -- A run from step 1 ends as every run from its arrival does.
   pub locates : (m : Memory) (b : Book) (p : Party) → Alone m b q p f 0 → cond (eqb (p .operation) 1) 9 10 ≡ k → p .step ≡ 1
-      → ((x : Arrival (m .root) q (p .operation) (p .key) f k) → Ends (x .memory) q y) → Ends m q y
+      → ((x : Arrival (m .root) q (p .operation) (p .key) (p .setting) f k) → Ends (x .memory) q y) → Ends m q y
   unfolding stepOf stepTable step01 plain
   locates m b p a o e next =
       requests-on kept m b q p f 0 a y 0 2 step01 rootRead (atStep 2 p) e refl refl refl refl refl (omega arith) (omega arith) (none-claimed (m .root) p (claims-at (m .root) p 1 e) 0)

@@ -19,7 +19,8 @@ use Rattle.model.specs.Records.{atStep, withOld, withFreeList}
 use Rattle.model.specs.Answers.{answerOf, refusalNumber}
 use Rattle.model.specs.LockWords.{rootWord, turnedSelective}
 use Rattle.model.specs.Addresses.{chainCount, mergeTarget, mergePartner, mergeLevel, mergeBarred}
-use Rattle.model.specs.Entries.{Entry, joined, sharesKey}
+use Rattle.model.specs.declared.Entry.{Entry}
+use Rattle.model.specs.Entries.{joined, sharesKey}
 use Rattle.model.specs.Pages.{pageOf, withPage, levelOf, linkOf, pageSound, linkSound, primaryPage, linkToFirst, zeroPage, withLocalLevel}
 use Rattle.model.specs.Chains.{Checked, damaged, sound, soundIf, andThen, Chain, chainOf, listFrom}
 use Rattle.model.specs.Filling.{pagesFor}
@@ -28,7 +29,7 @@ use Rattle.model.specs.Outcome.{View, Outcome, withParty, withRoot, withLocks, 
 use Rattle.model.specs.ScratchPages.{scratchOf}
 use Rattle.model.specs.LockRequests.{lockWord, request, isHeld, rootSelective, rootExclusive, otherExclusive}
 use Rattle.model.specs.Memory.{Memory}
-use Rattle.model.specs.Book.{Book, isIn}
+use Rattle.model.specs.Book.{Book}
 use Rattle.model.specs.Ready.{viewing}
 use Rattle.theory.specs.Sequential.{File, Finished, finishes, recordsAt, pagesInUse, shortOf, chainsIn, rejoined, mergeFile}
 use Rattle.model.specs.Endings.{endedWith}
@@ -216,7 +217,7 @@ module _ (kept : StepsKept) (m : Memory) (b : Book) (q : ℕ) (p : Party) (f : F
         (from-29 kept q h xs ys (leftAt m q r (atStep 29 p) (m .locks) pages-then) (bookOn b q p) (atStep 29 p)
         (alone-moves m b q p f out a r (atStep 29 p) (m .locks) pages-then h (length xs + length ys)
         (same-limits r) w₁ (λ s. omega (arith, s, is-28))
-        (sym root-is ∙ sym (live-plain r (atStep 29 p) 29 refl refl)) (holding-rejoined r f (λ k. isIn (b .contents k)) (a .holding) some (g .goes-on))
+        (sym root-is ∙ sym (live-plain r (atStep 29 p) 29 refl refl)) (holding-rejoined r f (b .contents) (a .holding) some (g .goes-on))
         (omega (
           arith,
           a .whole,

@@ -1,8 +1,8 @@
--- Demand 2, run singly: after every list of calls that leaves nobody under way, an operation run from begin to done alone never waits, ends, answers as the sequential yardstick and as a plain set do
+-- Demand 2, run singly: after every list of calls that leaves nobody under way, an operation run from begin to done alone never waits, ends, answers as the sequential yardstick and as a plain map do
 -- and leaves level, next and every chain's records as one operation of the yardstick leaves them; and so a list of operations from formatted memory.
 -- Main statements: begins-alone; find-run, insert-run, delete-run, run-ends (under the invariant); run-singly (one operation), list-singly (a list of them).
 use mathlib.Core.Path.{_≡_, refl, sym, ap, _∙_, subst}
-use mathlib.Core.Bool.{true, false}
+use mathlib.Core.Bool.{true}
 use mathlib.Core.List.{List, [], _∷_, _++_, append-nil, append-assoc}
 use Prim.Native.Nat.{ℕ, suc, _<_}
 use native.Mathlib.Omega.{arith}
@@ -13,13 +13,13 @@ use Rattle.model.specs.declared.Operation.the-variants as Operation
 use Rattle.model.specs.declared.BeginAnswer.{BeginAnswer}
 use Rattle.model.specs.declared.BeginAnswer.the-variants as BeginAnswer
 use Rattle.model.specs.Records.{begun}
-use Rattle.model.specs.Answers.{operationNumber}
+use Rattle.model.specs.Answers.{operationNumber, settingGiven}
 use Rattle.model.specs.Memory.{Memory, partyAt}
 use Rattle.model.specs.Calls.{Called, called, withBegun, beginCall}
 use Rattle.model.specs.Runs.{Call, Reply, toBegin, replyTo, afterCall, eventOf, events, finalMemory}
-use Rattle.model.specs.Book.{Book, isIn, enter}
-use Rattle.theory.specs.PlainSet.{emptySet}
-use Rattle.theory.specs.Sequential.{File, fileOf, performedOn, setIn, startFile}
+use Rattle.model.specs.Book.{Book, enter}
+use Rattle.theory.specs.PlainMap.{emptyMap}
+use Rattle.theory.specs.Sequential.{File, fileOf, performedOn, mapIn, startFile}
 use Rattle.theory.specs.Singly.{Wanted, partiesFit, stepsOf, callsAlone, repliesOf, repliesAlone, doneBy, callsSingly, repliesSingly, performedAll}
 use Rattle.theory.specs.Demands.{Sizes, sizesOf, start, Reached, bookReached, AtRest, fileReached, yardstick, RunSingly, ListSingly}
 use Rattle.model.proofs.Laws.Lists.{and-both, ltb-true}
@@ -32,11 +32,11 @@ use Rattle.model.proofs.Theorems.AllSteps.{steps-kept}
 use Rattle.theory.proofs.Reached.{reached-inv}
 use Rattle.theory.proofs.SizesStay.{reached-limits}
 use Rattle.theory.proofs.UnderWay.{idle-unentered}
-use Rattle.theory.proofs.Singly.Files.{Holding, holding-keys}
+use Rattle.theory.proofs.Singly.Files.{Holding}
 use Rattle.theory.proofs.Singly.AtRest.{live-holding, file-read}
 use Rattle.theory.proofs.Singly.Whole.{idle-at-rest, no-pages-at-rest, live-at-rest, whole-at-rest}
-use Rattle.theory.proofs.Singly.Sets.{set-held, holding-set, AsSet, performed-as-set, all-as-set}
-use Rattle.theory.proofs.Singly.Given.{file-given, performed-given, reached-holding, reached-set, reached-reads, start-rests, some-original, start-held, start-file}
+use Rattle.theory.proofs.Singly.Maps.{map-held, holding-map, AsMap, performed-as-map, all-as-map}
+use Rattle.theory.proofs.Singly.Given.{file-given, performed-given, reached-holding, reached-map, reached-reads, start-rests, some-original, start-held, start-file}
 use Rattle.theory.proofs.Singly.Alone.{Alone, leftBy, Ends, plain, live-plain}
 use Rattle.theory.proofs.Singly.Locate.{locates}
 use Rattle.theory.proofs.Singly.Find.{find-ends}
@@ -51,17 +51,17 @@ module _ (m : Memory) (b : Book) (i : Inv m b) (rest : AtRest b) (q : ℕ) (in-r
   row-long : q < length (m .parties)
   row-long = omega (arith, i .parties-many)
 
-  holding-now : Holding (m .root .originals) (fileOf (m .root) m) (λ j. isIn (b .contents j))
-  holding-now = subst (λ (f : File). Holding (m .root .originals) f (λ j. isIn (b .contents j))) (sym (file-read m b i (live-at-rest m b i rest))) (live-holding m b i)
+  holding-now : Holding (m .root .originals) (fileOf (m .root) m) (b .contents)
+  holding-now = subst (λ (f : File). Holding (m .root .originals) f (b .contents)) (sym (file-read m b i (live-at-rest m b i rest))) (live-holding m b i)
 
-  pub begins-alone : Alone (withBegun m q o k) (enter b q o k) q (begun (operationNumber o) k) (fileOf (m .root) m) 0
+  pub begins-alone : Alone (withBegun m q o k) (enter b q o k) q (begun (operationNumber o) k (settingGiven o)) (fileOf (m .root) m) 0
   unfolding withBegun enter fileOf plain
   begins-alone = record {
     inv = begun-inv m b i q o k in-row (idle-at-rest m b i rest q) (no-pages-at-rest m b i rest q);
     in-row = in-row;
-    mine = row-same (m .parties) q (begun (operationNumber o) k) row-long;
-    others = λ j d. row-other (m .parties) q j (begun (operationNumber o) k) d ∙ idle-at-rest m b i rest j;
-    extent-is = sym (live-plain (m .root) (begun (operationNumber o) k) 1 refl refl);
+    mine = row-same (m .parties) q (begun (operationNumber o) k (settingGiven o)) row-long;
+    others = λ j d. row-other (m .parties) q j (begun (operationNumber o) k (settingGiven o)) d ∙ idle-at-rest m b i rest j;
+    extent-is = sym (live-plain (m .root) (begun (operationNumber o) k (settingGiven o)) 1 refl refl);
     holding = holding-now;
     whole = omega (arith, whole-at-rest m b i rest .all-pages);
   }
@@ -70,27 +70,28 @@ module _ (m : Memory) (b : Book) (i : Inv m b) (rest : AtRest b) (q : ℕ) (in-r
 
 module _ (steps : StepsKept) (m : Memory) (b : Book) (i : Inv m b) (rest : AtRest b) (q : ℕ) (in-row : q < m .root .parties) (k : ℕ) where
   find-run : Ends (withBegun m q Operation.Find k) q (performedOn (m .root) (fileOf (m .root) m) Operation.Find k)
-  unfolding performedOn operationNumber withBegun plain
+  unfolding performedOn operationNumber settingGiven withBegun plain
   find-run =
       let f = fileOf (m .root) m in
       let y = performedOn (m .root) f Operation.Find k in
-      locates steps q f y 9 refl (withBegun m q Operation.Find k) (enter b q Operation.Find k) (begun 1 k) (begins-alone m b i rest q in-row Operation.Find k) refl refl
+      locates steps q f y 9 refl (withBegun m q Operation.Find k) (enter b q Operation.Find k) (begun 1 k 0) (begins-alone m b i rest q in-row Operation.Find k) refl refl
       (λ x. find-ends steps (m .root) q k f x)
 
-  insert-run : Ends (withBegun m q Operation.Insert k) q (performedOn (m .root) (fileOf (m .root) m) Operation.Insert k)
-  unfolding performedOn operationNumber withBegun plain
-  insert-run =
+  insert-run : (x : ℕ) → Ends (withBegun m q (Operation.Insert x) k) q (performedOn (m .root) (fileOf (m .root) m) (Operation.Insert x) k)
+  unfolding performedOn operationNumber settingGiven withBegun plain
+  insert-run x =
       let f = fileOf (m .root) m in
-      let y = performedOn (m .root) f Operation.Insert k in
-      locates steps q f y 10 refl (withBegun m q Operation.Insert k) (enter b q Operation.Insert k) (begun 2 k) (begins-alone m b i rest q in-row Operation.Insert k) refl refl
-      (λ x. insert-ends steps (m .root) q k f x)
+      let o = Operation.Insert x in
+      let y = performedOn (m .root) f o k in
+      locates steps q f y 10 refl (withBegun m q o k) (enter b q o k) (begun 2 k x) (begins-alone m b i rest q in-row o k) refl refl
+      (λ t. insert-ends steps (m .root) q k x f t)
 
   delete-run : Ends (withBegun m q Operation.Delete k) q (performedOn (m .root) (fileOf (m .root) m) Operation.Delete k)
-  unfolding performedOn operationNumber withBegun plain
+  unfolding performedOn operationNumber settingGiven withBegun plain
   delete-run =
       let f = fileOf (m .root) m in
       let y = performedOn (m .root) f Operation.Delete k in
-      locates steps q f y 10 refl (withBegun m q Operation.Delete k) (enter b q Operation.Delete k) (begun 3 k) (begins-alone m b i rest q in-row Operation.Delete k) refl refl
+      locates steps q f y 10 refl (withBegun m q Operation.Delete k) (enter b q Operation.Delete k) (begun 3 k 0) (begins-alone m b i rest q in-row Operation.Delete k) refl refl
       (λ x. delete-ends steps (m .root) q k f x)
 
 -- ---- Lists of calls, one after the other
@@ -110,7 +111,7 @@ replies-append m (c ∷ cs) ds = ap (λ (l : List Reply). replyTo m c ∷ l) (re
 pub run-ends : StepsKept → (m : Memory) (b : Book) → Inv m b → AtRest b → (q : ℕ) → q < m .root .parties → (o : Operation) (k : ℕ)
     → Ends (withBegun m q o k) q (performedOn (m .root) (fileOf (m .root) m) o k)
 run-ends steps m b i rest q in-row Operation.Find k = find-run steps m b i rest q in-row k
-run-ends steps m b i rest q in-row Operation.Insert k = insert-run steps m b i rest q in-row k
+run-ends steps m b i rest q in-row (Operation.Insert x) k = insert-run steps m b i rest q in-row k x
 run-ends steps m b i rest q in-row Operation.Delete k = delete-run steps m b i rest q in-row k
 
 module _ (s : Sizes) (cs : List Call) (rest : AtRest (bookReached s cs)) (x : Wanted) (fits : x .party < s .parties) where
@@ -169,11 +170,11 @@ module _ (s : Sizes) (cs : List Call) (rest : AtRest (bookReached s cs)) (x : Wa
       idle-unentered (Reached s then) (bookReached s then) (reached-inv s then)
       (λ j. ap (λ (t : Memory). partyAt (t .parties) j) memory-is ∙ e .rests j)
 
-  -- The file that the yardstick takes holds the set that it holds.
-  as-set-is : AsSet (s .originals) (setIn (sizesOf s) (fileReached s cs)) (x .operation) (x .key) (yardstick s cs x)
-  as-set-is =
-      performed-as-set (sizesOf s) (some-original s) (fileReached s cs) (setIn (sizesOf s) (fileReached s cs))
-      (holding-set (sizesOf s) (fileReached s cs) (λ j. isIn (bookReached s cs .contents j)) (reached-holding s cs rest)) k o
+  -- The file that the yardstick takes holds the map that it holds.
+  as-map-is : AsMap (s .originals) (mapIn (sizesOf s) (fileReached s cs)) (x .operation) (x .key) (yardstick s cs x)
+  as-map-is =
+      performed-as-map (sizesOf s) (some-original s) (fileReached s cs) (mapIn (sizesOf s) (fileReached s cs))
+      (holding-map (sizesOf s) (fileReached s cs) (bookReached s cs .contents) (reached-holding s cs rest)) k o
 
   -- DEMAND 2, one operation run singly.
   pub run-singly : RunSingly s cs x
@@ -184,10 +185,10 @@ module _ (s : Sizes) (cs : List Call) (rest : AtRest (bookReached s cs)) (x : Wa
     rests = rests-then;
     reads = reached-reads s cs rest;
     reads-after = reached-reads s then rests-then;
-    set = reached-set s cs rest;
-    set-after = reached-set s then rests-then;
-    as-set = as-set-is .as-set;
-    leaves-set = λ j. ap (λ (f : File). setIn (sizesOf s) f j) leaves-file ∙ set-held (sizesOf s) (yardstick s cs x .file) _ (as-set-is .holding) j;
+    map = reached-map s cs rest;
+    map-after = reached-map s then rests-then;
+    as-map = as-map-is .as-map;
+    leaves-map = λ j. ap (λ (f : File). mapIn (sizesOf s) f j) leaves-file ∙ map-held (sizesOf s) (yardstick s cs x .file) _ (as-map-is .holding) j;
   }
 
 -- ---- A list of operations
@@ -229,7 +230,7 @@ list-from s cs rest (x ∷ xs) f =
 
 -- DEMAND 2, a list of operations run singly from formatted memory.
 pub list-singly : (s : Sizes) (xs : List Wanted) → partiesFit (s .parties) xs ≡ true → ListSingly s xs
-unfolding finalMemory emptySet
+unfolding finalMemory emptyMap
 list-singly s xs f =
     let all = list-from s [] (start-rests s) xs f in
     let z = sizesOf s in
@@ -239,5 +240,5 @@ list-singly s xs f =
       replies = all .replies ∙ ap (λ (t : File). repliesSingly (performedAll z t xs .answers) (all .moves)) (start-file s);
       leaves = all .leaves ∙ ap (λ (t : File). performedAll z t xs .file) (start-file s);
       rests = all .rests;
-      as-set = all-as-set z (some-original s) (startFile z) emptySet (holding-keys (s .originals) (startFile z) (λ k. false) emptySet (λ k. refl) (start-held s)) xs;
+      as-map = all-as-map z (some-original s) (startFile z) emptyMap (start-held s) xs;
     }

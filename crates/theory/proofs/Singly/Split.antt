@@ -18,7 +18,8 @@ use Rattle.model.specs.Records.{atStep, withOld, withOwed, withNext, withLevel,
 use Rattle.model.specs.Answers.{answerOf, restructuringOf}
 use Rattle.model.specs.LockWords.{Claim}
 use Rattle.model.specs.Addresses.{chainCount, splitNext, splitLevel, splitBarred, countOfChains}
-use Rattle.model.specs.Entries.{Entry, staying, going}
+use Rattle.model.specs.declared.Entry.{Entry}
+use Rattle.model.specs.Entries.{staying, going}
 use Rattle.model.specs.Pages.{pageOf, withPage, pageSound, primaryPage, scratchPage, linkToFirst}
 use Rattle.model.specs.Chains.{Chain, chainOf, listFrom}
 use Rattle.model.specs.Filling.{pagesFor}
@@ -28,7 +29,7 @@ use Rattle.model.specs.ScratchPages.{scratchOf, primaryWritten}
 use Rattle.model.specs.Endings.{done, finished, oldPagesFirst, endedWith}
 use Rattle.model.specs.LockRequests.{request, heldAll, givenUp, release, chainSelective, rootSelective}
 use Rattle.model.specs.Memory.{Memory}
-use Rattle.model.specs.Book.{Book, isIn}
+use Rattle.model.specs.Book.{Book}
 use Rattle.model.specs.Ready.{viewing}
 use Rattle.theory.specs.Sequential.{File, Finished, finishes, recordsAt, pagesInUse, freeIn, shortOf, chainsIn, parted, splitFile}
 use Rattle.model.specs.Steps.SplitLocks.{nextSelective, splitting, step15, step16, step19, step22}
@@ -204,8 +205,8 @@ module _ (kept : StepsKept) (m : Memory) (b : Book) (q : ℕ) (p : Party) (f : F
       goes-on m _ q (finishes (answerOf (p .answer)) Restructuring.Split g) (w₁ .call)
       (from-19 kept q g xs (leftAt m q r (atStep 19 p) (m .locks) pages-then) (bookOn b q p) (atStep 19 p)
       (alone-moves m b q p f out a r (atStep 19 p) (m .locks) pages-then g (length xs) (same-limits r) w₁
-      (λ s. omega (arith, s, is-18)) (parted-extent r f (λ k. isIn (b .contents k)) (a .holding) some ∙ ap (advance (r .originals)) says)
-      (holding-parted r f (λ k. isIn (b .contents k)) (a .holding) some)
+      (λ s. omega (arith, s, is-18)) (parted-extent r f (b .contents) (a .holding) some ∙ ap (advance (r .originals)) says)
+      (holding-parted r f (b .contents) (a .holding) some)
       (omega (arith, a .whole, out-is, many, use-parted r f (omega (arith, a .holding .as-many, next-live))))) refl
       (at-18 .facts .keeps-link, linked-then))
 

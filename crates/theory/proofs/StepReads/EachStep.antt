@@ -12,7 +12,7 @@ use Rattle.model.specs.declared.OperationAnswer.the-variants as OperationAnswer
 use Rattle.model.specs.declared.Restructuring.the-variants as Restructuring
 use Rattle.model.specs.Records.{withOwed}
 use Rattle.model.specs.Addresses.{splitBarred, countOfChains}
-use Rattle.model.specs.Entries.{hasKey, sharesKey}
+use Rattle.model.specs.Entries.{hasKey, sharesKey, settingIn}
 use Rattle.model.specs.Pages.{pageOf, levelOf, linkOf, entriesOf, zeroPage, withLocalLevel, pageSound, linkSound, namesOverflow, primaryPage, scratchPage, linkedPage}
 use Rattle.model.specs.Chains.{damaged, sound, Chain, chainOf, listFrom}
 use Rattle.model.specs.Filling.{pagesFor, primaryOf}
@@ -21,7 +21,7 @@ use Rattle.model.specs.Outcome.{View, Outcome, withParty, withPages}
 use Rattle.model.specs.ScratchPages.{scratchOf}
 use Rattle.model.specs.LockRequests.{isHeld, heldAll, withoutHold, givenUp, chainLock, chainSelective, chainExclusive, rootSelective, rootExclusive}
 use Rattle.theory.specs.Links.{Follow, chainPages, listPages, readNow, walkedFrom, traceNine, traceFourteen, traceTwentyNine, traceOf}
-use Rattle.model.specs.Answers.{isMoved, performs}
+use Rattle.model.specs.Answers.{isMoved, performs, foundOrAbsent}
 use Rattle.theory.specs.Reads.{pagesFollowed}
 use Rattle.model.specs.Steps.Locate.{located, step01, step02, step03, step04, step05}
 use Rattle.model.specs.Steps.Chase.{chaseOf, step06, step07, step08}
@@ -129,7 +129,7 @@ reads-09 v ps′ opens b =
     let s = scratchOf v in
     rw (scratch-same 9 v ps′ opens b)
     (tested-reads 9 v ps′ opens (pageSound (v .root) s) _ _
-    (λ t. cond-reads 9 v ps′ opens (hasKey (v .party .key) (entriesOf s)) _ _ _ _ (λ _. answered-reads v ps′ opens b OperationAnswer.Found)
+    (λ t. cond-reads 9 v ps′ opens (hasKey (v .party .key) (entriesOf s)) _ _ _ _ (λ _. answered-reads v ps′ opens b (foundOrAbsent (settingIn (v .party .key) (entriesOf s))))
     (λ _. cond-reads 9 v ps′ opens (eqb (linkOf s) 0) _ _ _ _ (λ _. answered-reads v ps′ opens b OperationAnswer.Absent) (λ d. on-reads v ps′ opens b t d))))
 
 -- ---- 10 to 14
@@ -155,7 +155,7 @@ unfolding step10 traceOf
 reads-10 v ps′ opens b =
     checked-reads 10 v ps′ opens (chainOf (v .root) (v .pages) (v .party .chain)) (chainOf (v .root) ps′ (v .party .chain)) _ _
     (λ c e l. chain-read v ps′ opens b c e (rw (now-pages 0 (chainPages v (v .party .chain))) at (l .follows)))
-    (λ c e. rebuild-reads v ps′ opens b c (changeOf (v .party .operation) (v .party .key) (c .entries)))
+    (λ c e. rebuild-reads v ps′ opens b c (changeOf (v .party .operation) (v .party .key) (v .party .setting) (c .entries)))
 
 reads-11 : ReadsAt 11 step11
 unfolding step11

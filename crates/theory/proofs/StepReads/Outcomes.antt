@@ -14,7 +14,7 @@ use Rattle.model.specs.declared.Restructuring.{Restructuring}
 use Rattle.model.specs.Records.{atStep}
 use Rattle.model.specs.Answers.{answerOf, restructuringOf, performs}
 use Rattle.model.specs.LockWords.{Claim}
-use Rattle.model.specs.Entries.{Entry}
+use Rattle.model.specs.declared.Entry.{Entry}
 use Rattle.model.specs.Pages.{pageOf, withPage, zeroPage, pageSound, primaryPage, scratchPage}
 use Rattle.model.specs.Chains.{Checked, damaged, sound}
 use Rattle.model.specs.Filling.{primaryOf, overflowWritten}

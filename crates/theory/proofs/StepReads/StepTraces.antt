@@ -15,10 +15,10 @@ use Rattle.model.specs.declared.Restructuring.{Restructuring}
 use Rattle.model.specs.declared.StepAnswer.{StepAnswer}
 use Rattle.model.specs.declared.StepAnswer.the-variants as StepAnswer
 use Rattle.model.specs.Records.{idle, atStep, withOwed}
-use Rattle.model.specs.Answers.{answerOf, restructuringOf, isMoved, performs}
+use Rattle.model.specs.Answers.{answerOf, restructuringOf, isMoved, performs, foundOrAbsent}
 use Rattle.model.specs.LockWords.{Claim}
 use Rattle.model.specs.Addresses.{splitBarred, countOfChains}
-use Rattle.model.specs.Entries.{hasKey, sharesKey}
+use Rattle.model.specs.Entries.{hasKey, sharesKey, settingIn}
 use Rattle.model.specs.Filling.{pagesFor}
 use Rattle.model.specs.Steps.Find.{answered, lookedOn, step09}
 use Rattle.model.specs.Pages.{pageOf, withPage, levelOf, linkOf, entriesOf, zeroPage, namesOverflow, linkSound, pageSound, primaryPage, scratchPage, linkedPage}
@@ -265,7 +265,7 @@ tells-09 : TellsAt 9 step09
 unfolding step09
 tells-09 t s w v ready =
     guarded-tells t s w v 9 (pageSound (v .root) (scratchOf v)) _
-    (λ e. cond-ind (Tells t s w 9 v) (hasKey (v .party .key) (entriesOf (scratchOf v))) _ _ (λ _. tells-answered t s w v OperationAnswer.Found)
+    (λ e. cond-ind (Tells t s w 9 v) (hasKey (v .party .key) (entriesOf (scratchOf v))) _ _ (λ _. tells-answered t s w v (foundOrAbsent (settingIn (v .party .key) (entriesOf (scratchOf v)))))
     (λ _. cond-ind (Tells t s w 9 v) (eqb (linkOf (scratchOf v)) 0) _ _ (λ _. tells-answered t s w v OperationAnswer.Absent) (λ d. tells-on t s w v ready e d)))
 
 -- A chain looked through, nothing read into the record.

@@ -8,7 +8,7 @@ use Prim.Native.Nat.{ℕ, _+_, _≤_, _<_}
 use native.Mathlib.Omega.{arith}
 use lib.ListN.{length, take, drop, length-take}
 use Rattle.model.specs.Sizes.{pageWords}
-use Rattle.model.specs.Entries.{Entry}
+use Rattle.model.specs.declared.Entry.{Entry}
 use Rattle.model.specs.Pages.{pageOf, withPage, filledPage, freePage, linkToFirst, linkTo}
 use Rattle.model.specs.Filling.{filled, overflowWritten}
 use Rattle.model.specs.FreeList.{givenBack}

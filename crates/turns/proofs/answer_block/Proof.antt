@@ -1,6 +1,6 @@
 -- `turns::answer_block` is safe and ends: each turn that goes on has answered at least one line.
 use mathlib.Core.Path.{_≡_, refl, _∙_}
-use Prim.Native.Nat.{ℕ, _-_, _≤_}
+use Prim.Native.Nat.{_-_, _≤_}
 use native.Mathlib.Omega.{arith}
 use lib.ListN.{length}
 use Rattle.turns.proofs.answer_block.Statement.{statement}

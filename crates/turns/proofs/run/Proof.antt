@@ -1,6 +1,6 @@
 -- `turns::run` is safe and ends: the turns left are counted down, and no more than 64 bytes of an unfinished line are kept.
 use mathlib.Core.Path.{_≡_, refl, _∙_}
-use Prim.Native.Nat.{ℕ, _≤_}
+use Prim.Native.Nat.{_≤_}
 use native.Mathlib.Omega.{arith}
 use lib.ListN.{length}
 use Rattle.turns.proofs.run.Statement.{statement}

@@ -1,12 +1,13 @@
-//! Random schedules of up to sixteen parties against the set book: every answer is the book's note, calls are refused where they must be and nowhere else, some operation
-//! under way can always move, and at rest the keys in the chains are the book's set.
+//! Random schedules of up to sixteen parties against the book: every answer is the book's note, calls are refused where they must be and nowhere else, some operation
+//! under way can always move, and at rest the records in the chains are the book's map.
 
 mod book;
 mod pace;
+mod replaced;
 
 use crate::at_rest;
 use crate::callee::{Call, Callee, Reply, REQUESTING};
-use crate::habits::Habits;
+use crate::habits::{Choice, Habits};
 use crate::image::Image;
 use crate::part::{Outcome, Part, Row, Tally};
 use crate::random::Random;
@@ -37,7 +38,7 @@ pub struct Schedules {
 }
 
 /// What must be met beside a wait at each requesting step.
-const NAMES: [&str; 16] = [
+const NAMES: [&str; 17] = [
     "found",
     "absent",
     "inserted",
@@ -50,12 +51,14 @@ const NAMES: [&str; 16] = [
     "merged",
     "merge-skipped",
     STALE,
+    STALE_SETTING,
     FULL,
     "refused 3",
     "refused 4",
     "refused 5",
 ];
 const STALE: &str = "answers of a find no longer true when given";
+const STALE_SETTING: &str = "settings found that were replaced by then";
 const FULL: &str = "begins with fifteen others under way";
 
 impl Schedules {
@@ -99,10 +102,12 @@ impl Schedules {
             self.test_progress()?;
         }
         match (call, self.call(call)) {
-            (Call::Format(sizes), [0, 0, 0, 0]) => self.book = Book::new(sizes[4]),
-            (Call::Begin(party, operation, key), [0, 0, 0, 0]) => self.begun(party, operation, key),
-            (Call::Step(_), [0, 0, 0, 0]) => return self.waited(number),
-            (Call::Step(party), [0, 1, 0, 0]) => self.book.performed(party, number),
+            (Call::Format(sizes), [0, 0, 0, 0, 0]) => self.book = Book::new(sizes[4]),
+            (Call::Begin(party, operation, key, setting), [0, 0, 0, 0, 0]) => {
+                self.begun(party, operation, key, setting)
+            }
+            (Call::Step(_), [0, 0, 0, 0, 0]) => return self.waited(number),
+            (Call::Step(party), [0, 1, 0, 0, 0]) => self.book.performed(party, number),
             (Call::Step(party), reply @ [0, 2, ..]) => return self.ended(party, number, reply),
             (_, reply) => return Err(format!("{call:?}: {reply:?} at step {number}")),
         }
@@ -112,36 +117,41 @@ impl Schedules {
     fn test_refused(&mut self, call: Call, due: u32) -> Outcome<()> {
         self.met.add(&format!("refused {due}"));
         match self.call(call) {
-            [code, 0, 0, 0] if code == due => Ok(()),
+            [code, 0, 0, 0, 0] if code == due => Ok(()),
             reply => Err(format!("{call:?}: {reply:?}, not refused {due}")),
         }
     }
 
-    fn begun(&mut self, party: u32, operation: u32, key: u32) {
+    fn begun(&mut self, party: u32, operation: u32, key: u32, setting: u32) {
         if self.book.under_way().len() == 15 {
             self.met.add(FULL);
         }
-        self.book.begun(party, operation, key);
+        self.book.begun(party, operation, key, setting);
     }
 
-    /// Only a step that requests a lock may wait, and somebody else then can move.
+    /// Somebody under way can move, and only a step that requests a lock may wait.
     fn waited(&mut self, step: u32) -> Outcome<()> {
+        self.test_progress()?;
         if !REQUESTING.contains(&(step as usize)) {
             return Err(format!("step {step} waits"));
         }
         self.met.add(&format!("waits at {step}"));
-        self.test_progress()
+        Ok(())
     }
 
     fn ended(&mut self, party: u32, step: u32, reply: Reply) -> Outcome<()> {
         self.book.performed(party, step);
-        let entry = self.book.ended(party, reply[2])?;
+        let entry = self.book.ended(party, reply[2], reply[4])?;
         self.operations += 1;
         let [answer, restructuring] = forms::report(reply);
         self.met.add(answer);
         self.met.add(restructuring);
-        if entry.operation == FIND && (reply[2] == FOUND) != self.book.keys().contains(&entry.key) {
+        let there = self.book.settings().get(&entry.key);
+        if entry.operation == FIND && (reply[2] == FOUND) != there.is_some() {
             self.met.add(STALE);
+        }
+        if reply[2] == FOUND && there.map_or(false, |setting| *setting != reply[4]) {
+            self.met.add(STALE_SETTING);
         }
         Ok(())
     }
@@ -169,14 +179,15 @@ impl Schedules {
         ))
     }
 
-    /// An operation and its key; every other find or delete is of a key that is in the book's set.
-    fn choose(&self, habits: &mut Habits, random: &mut Random) -> (u32, u32) {
-        let (operation, key) = habits.choose(random);
-        if operation == INSERT || random.one_in(2) {
-            return (operation, key);
+    /// What to begin; every other find or delete is of a key that is in the book's map.
+    fn choose(&self, habits: &mut Habits, random: &mut Random) -> Choice {
+        let choice = habits.choose(random);
+        if choice.operation == INSERT || random.one_in(2) {
+            return choice;
         }
-        let near = self.book.keys().range(key..).next();
-        (operation, near.copied().unwrap_or(key))
+        let near = self.book.settings().range(choice.key..).next();
+        let key = near.map_or(choice.key, |(key, _)| *key);
+        Choice { key, ..choice }
     }
 
     /// Calls in random order; idle parties begin.
@@ -188,40 +199,41 @@ impl Schedules {
                 let party = random.between(0, self.sizes[4]);
                 let odd = [
                     Call::Step(party),
-                    Call::Begin(party, FIND, habits.key(random)),
+                    Call::Begin(party, FIND, habits.key(random), random.word()),
                 ];
                 self.perform(random.pick(&odd))?;
             } else if self.book.entry(party).is_some() {
                 self.perform(Call::Step(party))?;
             } else if random.one_in(pace.eager) {
-                let (operation, key) = self.choose(habits, random);
-                self.perform(Call::Begin(party, operation, key))?;
+                let choice = self.choose(habits, random);
+                self.perform(choice.begin(party))?;
             }
         }
         Ok(())
     }
 
-    /// Steps until every operation has ended; then the keys in the chains are the book's.
+    /// Steps until every operation has ended; then the records in the chains are the book's.
     fn come_to_rest(&mut self, random: &mut Random) -> Outcome<()> {
         for _ in 0..MOST_CALLS_TO_REST {
             let under_way = self.book.under_way();
             if under_way.is_empty() {
-                return self.test_keys();
+                return self.test_map();
             }
             self.perform(Call::Step(random.pick(&under_way)))?;
         }
         Err(format!("no rest after {MOST_CALLS_TO_REST} calls"))
     }
 
-    fn test_keys(&self) -> Outcome<()> {
-        let mut keys = at_rest::read(&self.image, self.sizes)?.chains.concat();
-        keys.sort_unstable();
-        if keys.iter().eq(self.book.keys()) {
+    fn test_map(&self) -> Outcome<()> {
+        let mut records = at_rest::read(&self.image, self.sizes)?.chains.concat();
+        records.sort_unstable_by_key(|record| record.key);
+        let pairs = records.iter().map(|record| (&record.key, &record.setting));
+        if pairs.eq(self.book.settings()) {
             return Ok(());
         }
         Err(format!(
-            "at rest the keys are {keys:?}, the book's {:?}",
-            self.book.keys()
+            "at rest the records are {records:?}, the book's {:?}",
+            self.book.settings()
         ))
     }
 }
@@ -246,6 +258,8 @@ impl Part for Schedules {
             (random.pick(&[5, 20, 60]), random.between(100, 1500))
         };
         let mut habits = Habits::new(self.sizes, turn, random);
+        self.replace_setting(habits.key(random), random)
+            .map_err(|error| format!("sizes {:?}: {error}", self.sizes))?;
         for _ in 0..3 {
             self.round(calls, &mut habits, random)
                 .and_then(|()| self.come_to_rest(random))

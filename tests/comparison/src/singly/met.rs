@@ -31,7 +31,7 @@ pub struct Met {
     operations: u64,
     tally: Tally,
     /// Files by b.
-    capacities: [u64; 12],
+    capacities: [u64; 6],
 }
 
 impl Met {
@@ -39,7 +39,7 @@ impl Met {
         Met {
             operations: 0,
             tally: Tally::new(NAMES.map(String::from)),
-            capacities: [0; 12],
+            capacities: [0; 6],
         }
     }
 
@@ -101,7 +101,7 @@ impl Met {
 
     pub fn told(&self) -> String {
         format!(
-            "{} operations as the model, b from 1 to 12: {}",
+            "{} operations as the model, b from 1 to 6: {}",
             self.operations,
             self.tally.told()
         )
@@ -112,7 +112,7 @@ fn answer_name(answer: Answer, operation: u32) -> &'static str {
     match answer {
         Answer::NoPage if operation == INSERT => "no page for an insert",
         Answer::NoPage => "no page for a delete",
-        Answer::Found => "found",
+        Answer::Found(_) => "found",
         Answer::Absent => "absent",
         Answer::Inserted => "inserted",
         Answer::Present => "present",

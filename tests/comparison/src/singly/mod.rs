@@ -4,7 +4,7 @@ mod met;
 
 use crate::at_rest;
 use crate::callee::{Call, Callee, Reply};
-use crate::habits::Habits;
+use crate::habits::{Choice, Habits};
 use crate::image::Image;
 use crate::part::{Outcome, Part, Row};
 use crate::random::Random;
@@ -46,20 +46,20 @@ impl Singly {
             part.fill(random.word());
         }
         match self.call(Call::Format(sizes)) {
-            [0, 0, 0, 0] => Ok(()),
+            [0, 0, 0, 0, 0] => Ok(()),
             reply => Err(format!("format {sizes:?}: {reply:?}")),
         }
     }
 
     /// Begins an operation and makes its steps until it ends: each but the last moves.
-    fn run_alone(&mut self, party: u32, operation: u32, key: u32) -> Outcome<Reply> {
-        let begun = self.call(Call::Begin(party, operation, key));
-        if begun != [0; 4] {
+    fn run_alone(&mut self, party: u32, choice: Choice) -> Outcome<Reply> {
+        let begun = self.call(choice.begin(party));
+        if begun != [0; 5] {
             return Err(format!("begin: {begun:?}"));
         }
         for _ in 0..MOST_STEPS {
             match self.call(Call::Step(party)) {
-                [0, 1, 0, 0] => {}
+                [0, 1, 0, 0, 0] => {}
                 reply @ [0, 2, ..] => return Ok(reply),
                 reply => return Err(format!("a step of an operation alone: {reply:?}")),
             }
@@ -68,15 +68,10 @@ impl Singly {
     }
 
     /// One operation in the library and in the model.
-    fn operation(
-        &mut self,
-        model: &mut HashFile,
-        party: u32,
-        (operation, key): (u32, u32),
-    ) -> Outcome<()> {
+    fn operation(&mut self, model: &mut HashFile, party: u32, choice: Choice) -> Outcome<()> {
         let before = model.space();
-        let due = model.perform(operation_of(operation, key));
-        let reply = self.run_alone(party, operation, key)?;
+        let due = model.perform(operation_of(choice));
+        let reply = self.run_alone(party, choice)?;
         let (got, due_words) = (
             forms::answer(Call::Step(party), reply),
             format!("(step {party} {due})"),
@@ -84,7 +79,7 @@ impl Singly {
         if got != due_words {
             return Err(format!("{got}, the model {due_words}"));
         }
-        self.met.count(model, before, operation, due);
+        self.met.count(model, before, choice.operation, due);
         self.compare(model)
     }
 
@@ -95,7 +90,7 @@ impl Singly {
             &self.image,
             [
                 sizes.originals,
-                sizes.keys_a_page,
+                sizes.records_a_page,
                 sizes.most_chains,
                 sizes.overflow_pages,
                 sizes.parties,
@@ -127,10 +122,11 @@ impl Singly {
     }
 }
 
-fn operation_of(operation: u32, key: u32) -> Operation {
-    match operation {
+fn operation_of(choice: Choice) -> Operation {
+    let key = choice.key;
+    match choice.operation {
         FIND => Operation::Find(key),
-        INSERT => Operation::Insert(key),
+        INSERT => Operation::Insert(key, choice.setting),
         _ => Operation::Delete(key),
     }
 }
@@ -149,7 +145,7 @@ fn plan(number: u64, random: &mut Random) -> ([u32; 5], u32) {
         }
         8..=13 => (sizes::allowed(random), 300),
         14 => {
-            let (p, b) = (random.between(1, 256), 1 + turn as u32 % 12);
+            let (p, b) = (random.between(1, 256), 1 + turn as u32 % 6);
             let n = random.between(1, p);
             (
                 [n, b, p, random.between(0, 752), random.between(1, 16)],
@@ -161,13 +157,14 @@ fn plan(number: u64, random: &mut Random) -> ([u32; 5], u32) {
 }
 
 /// The operation and key chosen; every other find or delete is of a key that is there.
-fn choose(habits: &mut Habits, model: &HashFile, random: &mut Random) -> (u32, u32) {
-    let (operation, key) = habits.choose(random);
+fn choose(habits: &mut Habits, model: &HashFile, random: &mut Random) -> Choice {
+    let choice = habits.choose(random);
     let chain = &model.chains()[random.below(model.space().chains()) as usize];
-    if operation == INSERT || chain.is_empty() || random.one_in(2) {
-        return (operation, key);
+    if choice.operation == INSERT || chain.is_empty() || random.one_in(2) {
+        return choice;
     }
-    (operation, random.pick(chain))
+    let key = random.pick(chain).key;
+    Choice { key, ..choice }
 }
 
 impl Part for Singly {
@@ -177,10 +174,10 @@ impl Part for Singly {
 
     fn session(&mut self, number: u64, random: &mut Random) -> Outcome<()> {
         let (sizes, operations) = plan(number, random);
-        let [originals, keys_a_page, most_chains, overflow_pages, parties] = sizes;
+        let [originals, records_a_page, most_chains, overflow_pages, parties] = sizes;
         let mut model = HashFile::format(Sizes {
             originals,
-            keys_a_page,
+            records_a_page,
             most_chains,
             overflow_pages,
             parties,
@@ -198,7 +195,7 @@ impl Part for Singly {
             self.operation(&mut model, party, choice).map_err(|error| {
                 format!(
                     "sizes {sizes:?}, operation {place} (party {party}: {:?}): {error}",
-                    operation_of(choice.0, choice.1)
+                    operation_of(choice)
                 )
             })?;
         }

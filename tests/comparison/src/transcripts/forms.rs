@@ -1,6 +1,8 @@
 //! The bracketed forms of the turns program: reading a line, and printing the answer to a call.
 
 use crate::callee::{Call, Reply};
+use bead_port::memory::INSERT;
+use bead_port::reply::FOUND;
 
 const OPERATIONS: [&str; 3] = ["find", "insert", "delete"];
 const ANSWERS: [&str; 7] = [
@@ -19,12 +21,21 @@ pub fn read(line: &str) -> Option<Call> {
         }
         "begin" => {
             let (party, operation) = rest.split_once(' ')?;
-            let (name, key) = operation
-                .strip_prefix('(')?
-                .strip_suffix(')')?
-                .split_once(' ')?;
+            let inside = operation.strip_prefix('(')?.strip_suffix(')')?;
+            let (name, words) = inside.split_once(' ')?;
             let operation = OPERATIONS.iter().position(|known| *known == name)? as u32 + 1;
-            Some(Call::Begin(number(party)?, operation, number(key)?))
+            let (key, setting) = if operation == INSERT {
+                words.split_once(' ')?
+            } else {
+                (words, "0")
+            };
+            let party = number(party)?;
+            Some(Call::Begin(
+                party,
+                operation,
+                number(key)?,
+                number(setting)?,
+            ))
         }
         "step" => Some(Call::Step(number(rest)?)),
         _ => None,
@@ -45,7 +56,7 @@ fn number(text: &str) -> Option<u32> {
 pub fn answer(call: Call, reply: Reply) -> String {
     match call {
         Call::Format(_) => format!("(format {})", code(reply[0], "ok")),
-        Call::Begin(party, _, _) => format!("(begin {party} {})", code(reply[0], "ok")),
+        Call::Begin(party, ..) => format!("(begin {party} {})", code(reply[0], "ok")),
         Call::Step(party) => format!("(step {party} {})", code(reply[0], &outcome(reply))),
     }
 }
@@ -62,13 +73,23 @@ fn outcome(reply: Reply) -> String {
     match reply[1] {
         0 => "waiting".to_string(),
         1 => "moved".to_string(),
-        2 => format!("(done {})", report(reply).join(" ")),
+        2 => done(reply),
         _ => "?".to_string(),
     }
 }
 
-/// The answer and the restructuring that a done reply carries.
-pub fn report([_, _, answer, restructuring]: Reply) -> [&'static str; 2] {
+/// Found carries its setting; a setting beside another answer is wrong.
+fn done(reply: Reply) -> String {
+    let [answer, restructuring] = report(reply);
+    match (reply[2], reply[4]) {
+        (FOUND, setting) => format!("(done (found {setting}) {restructuring})"),
+        (_, 0) => format!("(done {answer} {restructuring})"),
+        (_, setting) => format!("(done {answer} {restructuring}), setting {setting}"),
+    }
+}
+
+/// The names of the answer and of the restructuring that a done reply carries.
+pub fn report([_, _, answer, restructuring, _]: Reply) -> [&'static str; 2] {
     let word =
         |words: &[&'static str], place: u32| words.get(place as usize).copied().unwrap_or("?");
     [word(&ANSWERS, answer), word(&RESTRUCTURINGS, restructuring)]
@@ -84,12 +105,27 @@ mod tests {
             read("(format 1 1 2 0 1)"),
             Some(Call::Format([1, 1, 2, 0, 1]))
         );
-        assert_eq!(read("(begin 0 (find 7))"), Some(Call::Begin(0, 1, 7)));
+        assert_eq!(read("(begin 0 (find 7))"), Some(Call::Begin(0, 1, 7, 0)));
         assert_eq!(
             read("(begin 3 (delete 4294967295))"),
-            Some(Call::Begin(3, 3, u32::MAX))
+            Some(Call::Begin(3, 3, u32::MAX, 0))
+        );
+        assert_eq!(
+            read("(begin 0 (insert 7 5))"),
+            Some(Call::Begin(0, 2, 7, 5))
         );
         assert_eq!(read("(step 007)"), Some(Call::Step(7)));
+    }
+
+    #[test]
+    fn settings_are_printed() {
+        let printed = |reply| answer(Call::Step(1), reply);
+        assert_eq!(
+            printed([0, 2, FOUND, 0, 5]),
+            "(step 1 (done (found 5) none))"
+        );
+        assert_eq!(printed([0, 2, 1, 1, 0]), "(step 1 (done inserted split))");
+        assert_ne!(printed([0, 2, 1, 1, 5]), printed([0, 2, 1, 1, 0]));
     }
 
     #[test]
@@ -120,6 +156,10 @@ mod tests {
             "(begin 0 (look 7))",
             "(begin (find 7))",
             "(begin 0 (find 7)) ",
+            "(begin 0 (find 7 5))",
+            "(begin 0 (insert 7))",
+            "(begin 0 (insert 7 5 3))",
+            "(begin 0 (delete 7 5))",
         ];
         assert!(lines.iter().all(|line| read(line).is_none()));
     }

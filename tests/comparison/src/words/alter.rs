@@ -2,7 +2,7 @@
 
 use crate::image::Image;
 use crate::random::Random;
-use bead_port::memory::{Root, FIRST_KEY, KEY_COUNT, LINK, LOCAL_LEVEL, RECORD_WORDS};
+use bead_port::memory::{Root, FIRST_RECORD, LINK, LOCAL_LEVEL, PARTY_WORDS, RECORD_COUNT};
 
 /// Alters one word; the root record's sizes are allowed and the lengths fit.
 pub fn alter(image: &mut Image, party: u32, random: &mut Random) {
@@ -65,7 +65,7 @@ fn alter_record(image: &mut Image, number: u32, random: &mut Random) {
             }
         }
         _ => {
-            let place = RECORD_WORDS * number as usize + random.below(RECORD_WORDS as u32) as usize;
+            let place = PARTY_WORDS * number as usize + random.below(PARTY_WORDS as u32) as usize;
             image.parties[place] = random.word();
             return;
         }
@@ -121,14 +121,14 @@ fn alter_page(image: &mut Image, party: u32, random: &mut Random) {
     let number = near_page(image, party, random);
     let link = any_link(&root, random);
     let page = image.page_mut(number);
-    let place = FIRST_KEY + random.below(12) as usize;
+    let place = FIRST_RECORD + random.below(12) as usize;
     match random.below(10) {
         0..=1 => page[LOCAL_LEVEL] = random.between(0, 11),
-        2 => page[KEY_COUNT] = random.between(0, root.page_keys + 1),
-        3 => page[KEY_COUNT] = random.between(0, 14),
+        2 => page[RECORD_COUNT] = random.between(0, root.page_records + 1),
+        3 => page[RECORD_COUNT] = random.between(0, 8),
         4..=5 => page[LINK] = link,
         6 => page[LINK] = number + 1,
-        7 => page[place] = page[FIRST_KEY + random.below(12) as usize],
+        7 => page[place] = page[FIRST_RECORD + random.below(12) as usize],
         8 => page[place] = random.below(64),
         _ => page[random.below(16) as usize] = random.word(),
     }

@@ -4,7 +4,7 @@ use super::coverage::Coverage;
 use crate::callee::{Call, Callee, Port, Reply};
 use crate::image::{Image, PART_NAMES};
 use crate::part::Outcome;
-use bead_port::memory::RECORD_WORDS;
+use bead_port::memory::PARTY_WORDS;
 
 /// The two sides, their memory, and what was met.
 pub struct Comparison {
@@ -102,7 +102,7 @@ impl Comparison {
 
     /// "Left as it was: all lent memory" where refused; "waiting (no word changes)".
     fn test_unchanged(&self, call: Call, reply: Reply) -> Outcome<Reply> {
-        let waiting = matches!(call, Call::Step(_)) && reply == [0, 0, 0, 0];
+        let waiting = matches!(call, Call::Step(_)) && reply == [0, 0, 0, 0, 0];
         if (reply[0] != 0 || waiting) && self.ours != self.before {
             return Err(format!(
                 "{call:?}: memory changed by a call refused or waiting{}",
@@ -114,7 +114,7 @@ impl Comparison {
 
     /// The records before the call.
     fn told(&self) -> String {
-        let records: Vec<&[u32]> = self.before.parties.chunks(RECORD_WORDS).collect();
+        let records: Vec<&[u32]> = self.before.parties.chunks(PARTY_WORDS).collect();
         format!(
             "\n  before: root {:?}, parties {records:?}",
             &self.before.root[..]

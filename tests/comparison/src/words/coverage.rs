@@ -56,7 +56,7 @@ impl Coverage {
         match (call, reply) {
             (Call::Format(_), [code, ..]) => self.refusals[0][place(code)] += 1,
             (Call::Begin(..), [code, ..]) => self.refusals[1][place(code)] += 1,
-            (Call::Step(_), [0, outcome, answer, restructuring]) => {
+            (Call::Step(_), [0, outcome, answer, restructuring, _]) => {
                 self.refusals[2][0] += 1;
                 self.count_outcome(step, outcome, answer as usize, restructuring as usize);
             }

@@ -6,7 +6,7 @@ use crate::image::Image;
 use crate::part::Outcome;
 use crate::random::Random;
 use crate::sizes;
-use bead_port::memory::{Root, FIRST_KEY, KEY_COUNT, LINK, LOCAL_LEVEL};
+use bead_port::memory::{Root, FIRST_RECORD, LINK, LOCAL_LEVEL, RECORD_COUNT, RECORD_WORDS};
 
 /// One session: crafts a file and forces steps on it.
 pub fn session(comparison: &mut Comparison, random: &mut Random) -> Outcome<()> {
@@ -33,7 +33,7 @@ fn crafted_sizes(random: &mut Random) -> [u32; 5] {
     let v = random.pick(&choices);
     [
         random.between(1, p),
-        random.between(1, 12),
+        random.between(1, 6),
         p,
         v,
         random.between(1, 4),
@@ -100,10 +100,10 @@ fn craft_chain(image: &mut Image, chain: u32, overflow: &[u32], random: &mut Ran
     let numbers = [&[chain], overflow].concat();
     for (place, number) in numbers.iter().enumerate() {
         let last = place + 1 == numbers.len();
-        let full =
-            root.page_keys - u32::from(last && random.one_in(2)) * random.below(root.page_keys);
+        let full = root.page_records
+            - u32::from(last && random.one_in(2)) * random.below(root.page_records);
         let count = if loose > 0 && random.one_in(loose) {
-            random.between(0, root.page_keys)
+            random.between(0, root.page_records)
         } else {
             full
         };
@@ -114,7 +114,7 @@ fn craft_chain(image: &mut Image, chain: u32, overflow: &[u32], random: &mut Ran
     }
 }
 
-/// Writes so many ascending keys, fewer where no number is left; answers the first for the next page.
+/// Writes so many records of ascending keys, fewer where no number is left; answers the first for the next page.
 fn fill_page(
     page: &mut [u32; 16],
     count: u32,
@@ -124,11 +124,13 @@ fn fill_page(
 ) -> u32 {
     let (mut key, mut used) = (first, 0);
     while used < count && key < u32::MAX {
-        page[FIRST_KEY + used as usize] = key;
+        let place = FIRST_RECORD + RECORD_WORDS * used as usize;
+        page[place] = key;
+        page[place + 1] = random.word();
         key = key.saturating_add(stride * random.between(1, 3));
         used += 1;
     }
-    page[KEY_COUNT] = used;
+    page[RECORD_COUNT] = used;
     key
 }
 
@@ -208,7 +210,7 @@ fn empty_cycle(image: &mut Image, chain: u32, random: &mut Random) {
     for links in 1..=length {
         let page = image.follow(chain, links);
         if page != chain {
-            image.page_mut(page)[KEY_COUNT] = 0;
+            image.page_mut(page)[RECORD_COUNT] = 0;
         }
     }
     let last = image.follow(chain, length);

@@ -7,7 +7,7 @@ use crate::image::Image;
 use crate::part::Outcome;
 use crate::random::Random;
 use bead_port::memory::{
-    Party, Root, DELETE, FIND, FIRST_KEY, INSERT, KEY_COUNT, LINK, LOCAL_LEVEL,
+    Party, Root, DELETE, FIND, FIRST_RECORD, INSERT, LINK, LOCAL_LEVEL, RECORD_COUNT, RECORD_WORDS,
 };
 
 /// Forces a step on a copy of the memory, alters some words, makes some calls, and puts the memory back.
@@ -82,6 +82,7 @@ fn fitting_record(image: &Image, step: u32, random: &mut Random) -> Party {
         old_link,
         owed,
         answer,
+        setting: random.word(),
     }
 }
 
@@ -108,7 +109,7 @@ fn fitting_chains(root: &Root, step: u32, random: &mut Random) -> (u32, u32) {
 /// A key of the chain, one beside it, or any.
 fn fitting_key(image: &Image, chain: u32, random: &mut Random) -> u32 {
     let page = image.page(image.follow(chain, random.pick(&[0, 1, 2, 100])));
-    let place = FIRST_KEY + random.below(page[KEY_COUNT].min(12)) as usize;
+    let place = FIRST_RECORD + RECORD_WORDS * random.below(page[RECORD_COUNT].min(6)) as usize;
     match random.below(4) {
         0 => random.below(100),
         1 => random.word(),

@@ -11,7 +11,7 @@ use crate::sizes::allowed;
 fn any(random: &mut Random) -> [u32; 5] {
     let limits = [
         [0, 1, 2, 256, 257],
-        [0, 1, 12, 13, 5],
+        [0, 1, 6, 7, 12],
         [0, 1, 256, 257, 9],
         [0, 1, 752, 753, 20],
         [0, 1, 16, 17, 3],
@@ -72,7 +72,7 @@ fn calls(comparison: &mut Comparison, sizes: [u32; 5], random: &mut Random) -> O
         let party = random.pick(&choices);
         let call = match random.below(8) {
             0 => Call::Format(any(random)),
-            1..=3 => Call::Begin(party, random.below(5), random.word()),
+            1..=3 => Call::Begin(party, random.below(5), random.word(), random.word()),
             _ => Call::Step(party),
         };
         comparison.call(call)?;

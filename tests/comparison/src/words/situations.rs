@@ -1,7 +1,7 @@
 //! Rare situations that the compared calls must have met, told from the memory before and after a step that was performed.
 
 use crate::image::Image;
-use bead_port::memory::{Party, KEY_COUNT, LINK};
+use bead_port::memory::{Party, LINK, RECORD_COUNT};
 
 /// How often each situation was met.
 pub struct Situations {
@@ -31,12 +31,12 @@ const WANTED: [(Situation, &[u32], &str); 9] = [
     (
         Situation::LooseChain,
         &[10, 17, 26],
-        "a page with fewer than b keys before another",
+        "a page with fewer than b records before another",
     ),
     (
         Situation::EmptyPageWithin,
         &[10, 17, 26],
-        "an overflow page without keys before another",
+        "an overflow page without records before another",
     ),
     (
         Situation::LongListSmallPages,
@@ -46,7 +46,7 @@ const WANTED: [(Situation, &[u32], &str); 9] = [
     (
         Situation::LongListLargePages,
         &[10, 14, 17, 26, 29],
-        "more than 200 overflow pages, b at least 10",
+        "more than 200 overflow pages, b at least 5",
     ),
     (Situation::PageOnBothLists, &[29], "a page on both lists"),
     (
@@ -105,7 +105,7 @@ fn is_met(what: Situation, before: &Image, after: &Image, party: &Party) -> bool
             .map_or(Vec::new(), |(_, within)| within.to_vec())
     };
     let long = || lists().iter().any(|list| list.len() > 200);
-    let count = |page: u32| before.page(page)[KEY_COUNT];
+    let count = |page: u32| before.page(page)[RECORD_COUNT];
     match what {
         Situation::TakenFromChain => lists()
             .concat()
@@ -114,13 +114,13 @@ fn is_met(what: Situation, before: &Image, after: &Image, party: &Party) -> bool
         Situation::LooseChain => lists().iter().any(|list| {
             within(list)
                 .iter()
-                .any(|page| count(*page) < root.page_keys)
+                .any(|page| count(*page) < root.page_records)
         }),
         Situation::EmptyPageWithin => lists()
             .iter()
             .any(|list| within(list).iter().skip(1).any(|page| count(*page) == 0)),
-        Situation::LongListSmallPages => root.page_keys <= 3 && long(),
-        Situation::LongListLargePages => root.page_keys >= 10 && long(),
+        Situation::LongListSmallPages => root.page_records <= 3 && long(),
+        Situation::LongListLargePages => root.page_records >= 5 && long(),
         Situation::PageOnBothLists => lists()[0].iter().any(|page| lists()[1].contains(page)),
         Situation::SameChains => party.chain == party.other,
         Situation::PastTheEnd => after.root_record().next == 0,

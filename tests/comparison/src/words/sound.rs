@@ -36,8 +36,7 @@ impl Plan {
         if image.party(party).operation != 0 {
             return Call::Step(party);
         }
-        let (operation, key) = self.habits.choose(random);
-        Call::Begin(party, operation, key)
+        self.habits.choose(random).begin(party)
     }
 
     /// A call that a careful caller would not make.
@@ -45,7 +44,12 @@ impl Plan {
         let [n, b, p, v, q] = self.sizes;
         let party = random.between(0, q + 1);
         match random.below(6) {
-            0 => Call::Begin(party, random.between(0, 4), self.habits.key(random)),
+            0 => Call::Begin(
+                party,
+                random.between(0, 4),
+                self.habits.key(random),
+                random.word(),
+            ),
             1 => Call::Format([n, b, p, v, q + 1]),
             2 => Call::Format([p + 1, b, p, v, q]),
             3 => Call::Step(random.word()),

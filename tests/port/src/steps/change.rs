@@ -5,33 +5,37 @@ use crate::calls::Lent;
 use crate::chains::overflow_needed;
 use crate::damage::{Cause, Damage};
 use crate::locks::Mode;
-use crate::memory::{INSERT, LINK, LOCAL_LEVEL, OWED_MERGE, OWED_NONE, OWED_SPLIT};
+use crate::memory::{Record, INSERT, LINK, LOCAL_LEVEL, OWED_MERGE, OWED_NONE, OWED_SPLIT};
 use crate::reply::{ABSENT, DELETED, INSERTED, NO_PAGE, PRESENT};
 
 /// "10 look through the whole chain in the file", then make the new chain but for its primary page, which scratch holds.
 #[inline(never)]
 pub(super) fn change<D: Damage>(lent: &mut Lent<D>) -> Result<D> {
-    let mut found = lent.chain_keys(lent.party.chain)?;
+    let mut found = lent.chain_records(lent.party.chain)?;
     let inserting = lent.party.operation == INSERT;
-    match (found.keys.binary_search(&lent.party.key), inserting) {
+    let (key, setting) = (lent.party.key, lent.party.setting);
+    let place = found
+        .records
+        .binary_search_by_key(&key, |record| record.key);
+    match (place, inserting) {
         (Ok(_), true) => return unchanged(lent, PRESENT),
         (Err(_), false) => return unchanged(lent, ABSENT),
-        (Err(place), true) => found.keys.insert(place, lent.party.key),
-        (Ok(place), false) => drop(found.keys.remove(place)),
+        (Err(place), true) => found.records.insert(place, Record { key, setting }),
+        (Ok(place), false) => drop(found.records.remove(place)),
     }
-    let wanted = overflow_needed(found.keys.len(), lent.root.page_keys);
+    let wanted = overflow_needed(found.records.len(), lent.root.page_records);
     if lent.root.free_count < wanted {
         return unchanged(lent, NO_PAGE);
     }
     lent.test_free_list(wanted)?;
     let primary = &lent.pages[lent.party.chain as usize];
     let (local_level, old_link) = (primary[LOCAL_LEVEL], primary[LINK]);
-    *lent.scratch() = lent.take_and_fill(&found.keys, local_level);
+    *lent.scratch() = lent.take_and_fill(&found.records, local_level);
     lent.party.old_link = old_link;
     lent.party.answer = if inserting { INSERTED } else { DELETED };
     lent.party.owed = match inserting {
         true if wanted > found.overflow => OWED_SPLIT,
-        false if found.keys.is_empty() => OWED_MERGE,
+        false if found.records.is_empty() => OWED_MERGE,
         _ => OWED_NONE,
     };
     lent.move_to(11)

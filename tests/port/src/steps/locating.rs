@@ -2,11 +2,11 @@
 
 use super::{chain_lock, Result, ROOT_LOCK};
 use crate::calls::Lent;
-use crate::chains::page_keys;
+use crate::chains::records_on;
 use crate::damage::{Cause, Damage};
 use crate::locks::Mode;
 use crate::memory::{Root, FIND, LINK, LOCAL_LEVEL};
-use crate::reply::{Outcome, Restructuring, ABSENT, FOUND};
+use crate::reply::{Answer, Outcome, Restructuring, ABSENT};
 
 /// "2 read level."
 #[inline]
@@ -92,8 +92,8 @@ pub(super) fn search_scratch<D: Damage>(lent: &mut Lent<D>) -> Result<D> {
     let key = lent.party.key;
     let page = *lent.scratch();
     lent.test_page(&page)?;
-    let found = page_keys(&page).contains(&key);
-    if !found && page[LINK] != 0 {
+    let found = records_on(&page).find(|record| record.key == key);
+    if found.is_none() && page[LINK] != 0 {
         let linked = *lent.linked(page[LINK]);
         lent.test_page(&linked)?;
         *lent.scratch() = linked;
@@ -102,5 +102,8 @@ pub(super) fn search_scratch<D: Damage>(lent: &mut Lent<D>) -> Result<D> {
     let lock = chain_lock(lent.party.chain);
     lent.test_held(lock, Mode::Read, Cause::ChainLockNotHeld)?;
     lent.give_up(lock, Mode::Read);
-    lent.done(if found { FOUND } else { ABSENT }, Restructuring::None)
+    let answer = found.map_or(Answer::plain(ABSENT), |record| {
+        Answer::found(record.setting)
+    });
+    lent.done(answer, Restructuring::None)
 }

@@ -5,7 +5,7 @@ use crate::calls::Lent;
 use crate::chains::overflow_needed;
 use crate::damage::{Cause, Damage};
 use crate::locks::{self, Mode};
-use crate::memory::{EMPTY_PAGE, LINK, LOCAL_LEVEL};
+use crate::memory::{Record, EMPTY_PAGE, LINK, LOCAL_LEVEL};
 use crate::reply::{Outcome, Restructuring};
 
 /// "24 if n = N give up root, done, merge skipped. The partner is chain n − 1; the target is next − 1, or
@@ -16,7 +16,7 @@ pub(super) fn request_target<D: Damage>(lent: &mut Lent<D>) -> Result<D> {
     if chains == lent.root.first_chains {
         lent.test_held(ROOT_LOCK, Mode::Exclusive, Cause::RootLockNotHeld)?;
         lent.give_up(ROOT_LOCK, Mode::Exclusive);
-        return lent.done(lent.party.answer, Restructuring::MergeSkipped);
+        return lent.done_changed(Restructuring::MergeSkipped);
     }
     let after_target = if lent.root.next == 0 {
         lent.root.level_chains() / 2
@@ -49,41 +49,41 @@ pub(super) fn join<D: Damage>(lent: &mut Lent<D>) -> Result<D> {
         lent.root.chains() == lent.root.first_chains,
         Cause::NothingToMergeAt26,
     )?;
-    let target = lent.chain_keys(lent.party.chain)?;
-    let partner = lent.chain_keys(lent.party.other)?;
-    let keys = joined(&target.keys, &partner.keys)?;
-    let wanted = overflow_needed(keys.len(), lent.root.page_keys);
+    let target = lent.chain_records(lent.party.chain)?;
+    let partner = lent.chain_records(lent.party.other)?;
+    let records = joined(&target.records, &partner.records)?;
+    let wanted = overflow_needed(records.len(), lent.root.page_records);
     if lent.root.free_count < wanted {
         give_up_three(lent, Mode::Exclusive)?;
-        return lent.done(lent.party.answer, Restructuring::MergeSkipped);
+        return lent.done_changed(Restructuring::MergeSkipped);
     }
     lent.test_free_list(wanted)?;
     let primary = &lent.pages[lent.party.chain as usize];
     let (local_level, old_link) = (primary[LOCAL_LEVEL], primary[LINK]);
-    *lent.scratch() = lent.take_and_fill(&keys, local_level);
+    *lent.scratch() = lent.take_and_fill(&records, local_level);
     lent.party.old_link = old_link;
     lent.move_to(27)
 }
 
-/// Two ascending key lists as one; "a key in both halves of a merge" is damage.
-fn joined<D: Damage>(target: &[u32], partner: &[u32]) -> std::result::Result<Vec<u32>, D> {
-    let mut keys = Vec::with_capacity(target.len() + partner.len());
+/// Two ascending lists of records as one; "a key in both halves of a merge" is damage.
+fn joined<D: Damage>(target: &[Record], partner: &[Record]) -> std::result::Result<Vec<Record>, D> {
+    let mut records = Vec::with_capacity(target.len() + partner.len());
     let (mut target, mut partner) = (target, partner);
     while let ([first, target_rest @ ..], [second, partner_rest @ ..]) = (target, partner) {
-        if first == second {
+        if first.key == second.key {
             return Err(D::of(Cause::KeyInBothHalves));
         }
-        if first < second {
-            keys.push(*first);
+        if first.key < second.key {
+            records.push(*first);
             target = target_rest;
         } else {
-            keys.push(*second);
+            records.push(*second);
             partner = partner_rest;
         }
     }
-    keys.extend_from_slice(target);
-    keys.extend_from_slice(partner);
-    Ok(keys)
+    records.extend_from_slice(target);
+    records.extend_from_slice(partner);
+    Ok(records)
 }
 
 /// Gives up the root, in the mode given, and both chains; every lock is tested before the first is given up.
@@ -153,5 +153,5 @@ pub(super) fn give_back_both<D: Damage>(lent: &mut Lent<D>) -> Result<D> {
 #[inline]
 pub(super) fn give_up_all<D: Damage>(lent: &mut Lent<D>) -> Result<D> {
     give_up_three(lent, Mode::Selective)?;
-    lent.done(lent.party.answer, Restructuring::Merged)
+    lent.done_changed(Restructuring::Merged)
 }

@@ -9,7 +9,7 @@ use crate::calls::Lent;
 use crate::damage::{Cause, Damage};
 use crate::locks::{self, Mode};
 use crate::memory::{Page, Party, EMPTY_PAGE, FIND, OWED_MERGE, OWED_SPLIT, SPLIT_MADE};
-use crate::reply::{Outcome, Restructuring};
+use crate::reply::{Answer, Outcome, Restructuring};
 
 type Result<D> = std::result::Result<Outcome, D>;
 
@@ -72,7 +72,7 @@ impl<D: Damage> Lent<'_, D> {
 
     /// "Done" "zeroes the party's record and scratch page".
     #[inline]
-    fn done(&mut self, answer: u32, made: Restructuring) -> Result<D> {
+    fn done(&mut self, answer: Answer, made: Restructuring) -> Result<D> {
         *self.party = Party::default();
         *self.scratch() = EMPTY_PAGE;
         Ok(Outcome::Done(answer, made))
@@ -96,7 +96,13 @@ impl<D: Damage> Lent<'_, D> {
         } else {
             Restructuring::None
         };
-        self.done(self.party.answer, made)
+        self.done_changed(made)
+    }
+
+    /// Done with the answer of the party's record.
+    #[inline]
+    fn done_changed(&mut self, made: Restructuring) -> Result<D> {
+        self.done(Answer::plain(self.party.answer), made)
     }
 
     #[inline(always)]

@@ -5,7 +5,7 @@ use crate::calls::Lent;
 use crate::chains::overflow_needed;
 use crate::damage::{Cause, Damage};
 use crate::locks::{self, Mode};
-use crate::memory::{LINK, SPLIT_MADE};
+use crate::memory::{Record, LINK, SPLIT_MADE};
 use crate::reply::{Outcome, Restructuring};
 
 /// "16 if n = P give up root, done, split skipped; else request selective on chain next."
@@ -15,7 +15,7 @@ pub(super) fn request_chain<D: Damage>(lent: &mut Lent<D>) -> Result<D> {
     if chains == lent.root.most_chains {
         lent.test_held(ROOT_LOCK, Mode::Selective, Cause::RootLockNotHeld)?;
         lent.give_up(ROOT_LOCK, Mode::Selective);
-        return lent.done(lent.party.answer, Restructuring::SplitSkipped);
+        return lent.done_changed(Restructuring::SplitSkipped);
     }
     if !locks::request(
         &mut lent.locks[chain_lock(next)],
@@ -37,12 +37,12 @@ pub(super) fn divide<D: Damage>(lent: &mut Lent<D>) -> Result<D> {
         Cause::NoChainLeftAt17,
     )?;
     let (chain, local_level) = (lent.party.chain, lent.root.level + 1);
-    let found = lent.chain_keys(chain)?;
-    let (staying, going): (Vec<u32>, Vec<u32>) = found
-        .keys
+    let found = lent.chain_records(chain)?;
+    let (staying, going): (Vec<Record>, Vec<Record>) = found
+        .records
         .iter()
-        .partition(|&&key| lent.root.hash(local_level, key) == chain);
-    let room = lent.root.page_keys;
+        .partition(|record| lent.root.hash(local_level, record.key) == chain);
+    let room = lent.root.page_records;
     let wanted = overflow_needed(staying.len(), room) + overflow_needed(going.len(), room);
     if lent.root.free_count < wanted {
         return skip(lent);
@@ -61,7 +61,7 @@ fn skip<D: Damage>(lent: &mut Lent<D>) -> Result<D> {
     lent.test_held(lock, Mode::Selective, Cause::ChainLockNotHeld)?;
     lent.give_up(ROOT_LOCK, Mode::Selective);
     lent.give_up(lock, Mode::Selective);
-    lent.done(lent.party.answer, Restructuring::SplitSkipped)
+    lent.done_changed(Restructuring::SplitSkipped)
 }
 
 /// "19 give up the chain."

@@ -4,15 +4,14 @@ use crate::forms::Form;
 use bead_port::calls;
 use bead_port::damage::Unnamed;
 use bead_port::memory::{Page, Party, Root, EMPTY_PAGE, PAGE_WORDS};
-use bead_port::reply::{Outcome, Refusal, Restructuring};
+use bead_port::reply::{Outcome, Refusal, Restructuring, FOUND};
 use std::io::{self, Write};
 
 const MOST_PARTIES: usize = 16;
 const MOST_LOCKS: usize = 257;
 const MOST_PAGES: usize = 1024;
-const ANSWERS: [&str; 7] = [
-    "", "inserted", "present", "deleted", "absent", "no-page", "found",
-];
+/// The answers by number; found is printed with its setting.
+const ANSWERS: [&str; 6] = ["", "inserted", "present", "deleted", "absent", "no-page"];
 
 pub struct File {
     root: Root,
@@ -66,7 +65,7 @@ impl File {
         let root = &self.root;
         [
             root.first_chains,
-            root.page_keys,
+            root.page_records,
             root.most_chains,
             root.overflow_pages,
             root.parties,
@@ -90,8 +89,11 @@ impl File {
                     Err(cause) => writeln!(out, "(format (refused {}))", cause.number()),
                 }
             }
-            Form::Begin(party, operation, key) => {
-                match calls::begin::<Unnamed>(root, parties, locks, words, party, operation, key) {
+            Form::Begin(party, operation, key, setting) => {
+                let result = calls::begin::<Unnamed>(
+                    root, parties, locks, words, party, operation, key, setting,
+                );
+                match result {
                     Ok(()) => writeln!(out, "(begin {party} ok)"),
                     Err(cause) => writeln!(out, "(begin {party} (refused {}))", cause.number()),
                 }
@@ -113,7 +115,6 @@ fn print_step(
         Ok(Outcome::Moved) => writeln!(out, "(step {party} moved)"),
         Ok(Outcome::Waiting) => writeln!(out, "(step {party} waiting)"),
         Ok(Outcome::Done(answer, made)) => {
-            let answer = ANSWERS[answer as usize];
             let made = match made {
                 Restructuring::None => "none",
                 Restructuring::Split => "split",
@@ -121,7 +122,13 @@ fn print_step(
                 Restructuring::Merged => "merged",
                 Restructuring::MergeSkipped => "merge-skipped",
             };
-            writeln!(out, "(step {party} (done {answer} {made}))")
+            if answer.number == FOUND {
+                let setting = answer.setting;
+                writeln!(out, "(step {party} (done (found {setting}) {made}))")
+            } else {
+                let name = ANSWERS[answer.number as usize];
+                writeln!(out, "(step {party} (done {name} {made}))")
+            }
         }
         Err(cause) => writeln!(out, "(step {party} (refused {}))", cause.number()),
     }

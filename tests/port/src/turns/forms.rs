@@ -1,11 +1,13 @@
 //! The forms that turns reads, and as they are printed.
 
+use bead_port::memory::{DELETE, FIND, INSERT};
 use std::fmt;
 
 #[derive(Clone, Copy)]
 pub enum Form {
     Format([u32; 5]),
-    Begin(u32, u32, u32),
+    /// Party, operation, key, and a setting, which an insert alone has.
+    Begin(u32, u32, u32, u32),
     Step(u32),
 }
 
@@ -13,8 +15,11 @@ impl fmt::Display for Form {
     fn fmt(&self, out: &mut fmt::Formatter<'_>) -> fmt::Result {
         match *self {
             Form::Format([n, b, p, v, q]) => write!(out, "(format {n} {b} {p} {v} {q})"),
-            Form::Begin(party, operation, key) => {
-                let name = ["", "find", "insert", "delete"][operation as usize];
+            Form::Begin(party, INSERT, key, setting) => {
+                write!(out, "(begin {party} (insert {key} {setting}))")
+            }
+            Form::Begin(party, operation, key, _) => {
+                let name = if operation == FIND { "find" } else { "delete" };
                 write!(out, "(begin {party} ({name} {key}))")
             }
             Form::Step(party) => write!(out, "(step {party})"),
@@ -29,14 +34,18 @@ pub fn read(line: &str) -> Option<Form> {
         "step" => Some(Form::Step(number(rest)?)),
         "begin" => {
             let (party, operation) = rest.split_once(" (")?;
-            let (name, key) = operation.strip_suffix(')')?.split_once(' ')?;
-            let operation = match name {
-                "find" => 1,
-                "insert" => 2,
-                "delete" => 3,
+            let (name, words) = operation.strip_suffix(')')?.split_once(' ')?;
+            let (operation, key, setting) = match name {
+                "find" => (FIND, words, "0"),
+                "insert" => {
+                    let (key, setting) = words.split_once(' ')?;
+                    (INSERT, key, setting)
+                }
+                "delete" => (DELETE, words, "0"),
                 _ => return None,
             };
-            Some(Form::Begin(number(party)?, operation, number(key)?))
+            let (party, key, setting) = (number(party)?, number(key)?, number(setting)?);
+            Some(Form::Begin(party, operation, key, setting))
         }
         "format" => {
             let mut sizes = [0; 5];

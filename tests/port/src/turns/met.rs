@@ -49,8 +49,8 @@ fn things(file: &mut File, line: &[u8]) -> io::Result<Vec<String>> {
     let mut met = Vec::new();
     match words[..] {
         [_, _, "waiting"] => met.push(format!("waits at {step:2}")),
-        [_, _, "(done", answer, made] => {
-            met.push(format!("done {answer}"));
+        [_, _, "(done", answer, .., made] => {
+            met.push(format!("done {}", answer.trim_start_matches('(')));
             met.push(format!("done {made}"));
             met.push(format!("done at {step:2}"));
         }

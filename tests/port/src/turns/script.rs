@@ -2,6 +2,7 @@
 
 use crate::file::File;
 use crate::forms::Form;
+use bead_port::memory::{DELETE, FIND, INSERT};
 use std::io::{self, Write};
 
 /// What a script is made from: how many lines, the seed, the sizes of the file, and how many keys there are.
@@ -39,6 +40,7 @@ impl Random {
 }
 
 /// Prints the script. Inserts and deletes are as many; they come in spells of mostly one kind, so that the file grows and shrinks.
+/// An insert's setting is its line's number, so that a setting found names the insert.
 pub fn print(plan: &Plan, out: &mut impl Write) -> io::Result<()> {
     let mut random = Random(0x9e37_79b9_7f4a_7c15 ^ u64::from(plan.seed));
     let mut file = File::default();
@@ -46,18 +48,23 @@ pub fn print(plan: &Plan, out: &mut impl Write) -> io::Result<()> {
     writeln!(out, "(format {n} {b} {p} {v} {q})")?;
     file.answer(Form::Format(plan.sizes), &mut io::sink())?;
     let mut grows = true;
-    for _ in 1..plan.lines {
+    for line in 2..=plan.lines {
         if random.below(16 * plan.keys) == 0 {
             grows = !grows;
         }
         let party = random.below(q);
         let form = if file.is_idle(party) {
-            let operation = match random.below(8) {
-                0..=2 => 1,
-                3 => 2 + u32::from(grows),
-                _ => 3 - u32::from(grows),
+            let (mostly, seldom) = if grows {
+                (INSERT, DELETE)
+            } else {
+                (DELETE, INSERT)
             };
-            Form::Begin(party, operation, random.below(plan.keys))
+            let operation = match random.below(8) {
+                0..=2 => FIND,
+                3 => seldom,
+                _ => mostly,
+            };
+            Form::Begin(party, operation, random.below(plan.keys), line)
         } else {
             Form::Step(party)
         };

@@ -1,9 +1,9 @@
 //! Where every key stands when a file has a given number of chains, worked out anew from the whole
-//! set of keys, without level and next.
+//! map, without level and next.
 
-use std::collections::BTreeSet;
+use std::collections::BTreeMap;
 
-use sequential::Sizes;
+use sequential::{Record, Sizes};
 
 /// The chain of a key among `chains` chains: k mod m for the least m = N 2^i not below their
 /// number, or k mod (m / 2) where that chain does not exist yet.
@@ -21,23 +21,25 @@ pub fn home(sizes: Sizes, chains: u32, key: u32) -> usize {
     home as usize
 }
 
-/// All chains with their keys, ascending.
-pub fn placed(sizes: Sizes, chains: u32, keys: &BTreeSet<u32>) -> Vec<Vec<u32>> {
+/// All chains with their records, keys ascending.
+pub fn placed(sizes: Sizes, chains: u32, settings: &BTreeMap<u32, u32>) -> Vec<Vec<Record>> {
     let mut placed = vec![Vec::new(); chains as usize];
-    for &key in keys {
-        placed[home(sizes, chains, key)].push(key);
+    for (&key, &setting) in settings {
+        placed[home(sizes, chains, key)].push(Record { key, setting });
     }
     placed
 }
 
-/// The overflow pages of a chain, by cutting its keys into pages.
-pub fn overflow_pages(sizes: Sizes, keys: &[u32]) -> usize {
-    keys.chunks(sizes.keys_a_page as usize).skip(1).count()
+/// The overflow pages of a chain, by cutting its records into pages.
+pub fn overflow_pages(sizes: Sizes, records: &[Record]) -> usize {
+    let pages = records.chunks(sizes.records_a_page as usize);
+    pages.skip(1).count()
 }
 
 /// V less the overflow pages of all chains.
-pub fn free_pages(sizes: Sizes, chains: &[Vec<u32>]) -> usize {
-    let used: usize = chains.iter().map(|keys| overflow_pages(sizes, keys)).sum();
+pub fn free_pages(sizes: Sizes, chains: &[Vec<Record>]) -> usize {
+    let pages = chains.iter().map(|records| overflow_pages(sizes, records));
+    let used: usize = pages.sum();
     (sizes.overflow_pages as usize)
         .checked_sub(used)
         .expect("no more than V overflow pages in use")

@@ -17,25 +17,26 @@ pub fn read_form(line: &str) -> Option<Form> {
     match words[..] {
         ["format", n, b, p, v, q] => Some(Form::Format(Sizes {
             originals: n.parse().ok()?,
-            keys_a_page: b.parse().ok()?,
+            records_a_page: b.parse().ok()?,
             most_chains: p.parse().ok()?,
             overflow_pages: v.parse().ok()?,
             parties: q.parse().ok()?,
         })),
-        ["begin", party, operation, key] => Some(Form::Begin(
-            party.parse().ok()?,
-            read_operation(operation, key.parse().ok()?)?,
-        )),
+        ["begin", party, ref operation @ ..] => {
+            Some(Form::Begin(party.parse().ok()?, read_operation(operation)?))
+        }
         ["step", party] => Some(Form::Step(party.parse().ok()?)),
         _ => None,
     }
 }
 
-fn read_operation(name: &str, key: u32) -> Option<Operation> {
-    match name {
-        "find" => Some(Operation::Find(key)),
-        "insert" => Some(Operation::Insert(key)),
-        "delete" => Some(Operation::Delete(key)),
+fn read_operation(words: &[&str]) -> Option<Operation> {
+    match words {
+        ["find", key] => Some(Operation::Find(key.parse().ok()?)),
+        ["insert", key, setting] => {
+            Some(Operation::Insert(key.parse().ok()?, setting.parse().ok()?))
+        }
+        ["delete", key] => Some(Operation::Delete(key.parse().ok()?)),
         _ => None,
     }
 }

@@ -115,7 +115,7 @@ fn compare_lines(lines: &[[&str; 2]]) -> Result<usize, String> {
 fn altered_replies_are_noticed() {
     let due = "(step 0 (done absent none))";
     for (altered, due) in [
-        ("(step 0 (done found none))", due),
+        ("(step 0 (done (found 0) none))", due),
         ("(step 0 (done absent merged))", due),
         ("(step 0 waiting)", "(step 0 moved)"),
     ] {
@@ -128,7 +128,7 @@ fn altered_replies_are_noticed() {
         let difference = format!("line 4: {altered} should be {due}");
         assert_eq!(compare_lines(&script), Err(difference));
     }
-    let sizes = [["(format 1 13 2 0 1)", "(format ok)"]];
+    let sizes = [["(format 1 7 2 0 1)", "(format ok)"]];
     assert!(compare_lines(&sizes).is_err());
 }
 
@@ -136,7 +136,7 @@ fn altered_replies_are_noticed() {
 fn only_operations_run_singly_are_compared() {
     let script = [
         ["(format 1 1 2 0 2)", "(format ok)"],
-        ["(begin 0 (insert 7))", "(begin 0 ok)"],
+        ["(begin 0 (insert 7 5))", "(begin 0 ok)"],
         ["(begin 0 (find 7))", "(begin 0 (refused 4))"],
         ["(step 1)", "(step 1 (refused 5))"],
         ["(step)", "(unread)"],
@@ -144,7 +144,7 @@ fn only_operations_run_singly_are_compared() {
         ["(begin 1 (find 7))", "(begin 1 ok)"],
         ["(begin 0 (delete 7))", "(begin 0 ok)"],
         ["(step 0)", "(step 0 (done deleted merge-skipped))"],
-        ["(step 1)", "(step 1 (done found none))"],
+        ["(step 1)", "(step 1 (done (found 5) none))"],
         ["(format 2 1 2 0 2)", "(format ok)"],
         ["(begin 1 (find 7))", "(begin 1 ok)"],
         ["(step 1)", "(step 1 (done absent none))"],

@@ -1,4 +1,4 @@
-//! The chains, with their local levels, pages and keys.
+//! The chains, with their local levels, pages and records.
 
 use crate::cells::{Cell, Row};
 use crate::memory::{Memory, Page};
@@ -11,7 +11,7 @@ pub fn rows(memory: &Memory) -> Vec<Row> {
         .map(|chain| {
             let pages = memory.pages_from(Some(chain));
             let mut cells: Vec<Cell> = pages.iter().take(1).map(|page| level(*page)).collect();
-            cells.extend(pages.iter().map(|page| keys(page.number, *page)));
+            cells.extend(pages.iter().map(|page| records(page.number, *page)));
             if chain >= count {
                 cells.push(Cell::new("state", ["not counted by level and next"]));
             }
@@ -33,11 +33,16 @@ fn level(page: Page<'_>) -> Cell {
     Cell::new("level", [page.level()])
 }
 
-/// A page and its keys.
-pub fn keys(name: impl std::fmt::Display, page: Page<'_>) -> Cell {
+/// A page and its records, each its key and its setting: `7=5`.
+pub fn records(name: impl std::fmt::Display, page: Page<'_>) -> Cell {
     let name = format!("page {name}");
-    match page.keys() {
-        [] => Cell::new(name, ["empty"]),
-        keys => Cell::new(name, keys),
+    let records = page
+        .records()
+        .map(|(key, setting)| format!("{key}={setting}"));
+    let cell = Cell::new(&name, records);
+    if cell.items.is_empty() {
+        Cell::new(name, ["empty"])
+    } else {
+        cell
     }
 }

@@ -23,15 +23,15 @@ pub fn rows(memory: &Memory, requests: &[Request], words: &StepWords) -> Vec<Row
         .collect()
 }
 
-/// The operation and its key.
+/// The operation and its key; an insert with its setting, as records are shown.
 pub fn operation(record: &PartyRecord) -> String {
-    let kind = match record.operation {
-        0 => return "idle".to_string(),
-        1 => "find",
-        2 => "insert",
-        _ => "delete",
-    };
-    format!("{kind} {}", record.key)
+    let (key, setting) = (record.key, record.setting);
+    match record.operation {
+        0 => "idle".to_string(),
+        1 => format!("find {key}"),
+        2 => format!("insert {key}={setting}"),
+        _ => format!("delete {key}"),
+    }
 }
 
 /// The locks held and wanted, and who keeps the wanted one from being granted.

@@ -15,11 +15,11 @@ pub fn rows(memory: &Memory) -> Vec<Row> {
             }
             let mut cells = vec![
                 Cell::new("level", [page.level()]),
-                chains::keys(page.number, page),
+                chains::records(page.number, page),
             ];
             if leads_to_new_pages(record.step) {
                 let new = memory.pages_from(page.next());
-                cells.extend(new.iter().map(|page| chains::keys(page.number, *page)));
+                cells.extend(new.iter().map(|page| chains::records(page.number, *page)));
             } else {
                 cells.extend(page.next().map(|next| Cell::new("link to page", [next])));
             }

@@ -2,9 +2,9 @@
 -- Main statements: Chased, chase-ends and chased-heads (where a chase ends); noted-six (what the book notes); step06-moves, stayed-home (what it leaves, and where the key's home is); step06-kept.
 use mathlib.Core.Path.{_≡_, refl, sym, ap, _∙_, subst}
 use mathlib.Core.Logic.{_≢_}
-use mathlib.Core.Bool.{Bool, true, false, cond}
+use mathlib.Core.Bool.{true, false, cond}
 use mathlib.Core.List.{List, _++_}
-use mathlib.Core.Option.{some}
+use mathlib.Core.Option.{some, Option}
 use Prim.Native.Nat.{ℕ, zero, suc, _+_, _-_, _≤_, _<_}
 use native.Mathlib.Omega.{arith}
 use lib.ListN.{length, set, drop}
@@ -12,13 +12,11 @@ use lib.Dec.{eqb, leb}
 use Rattle.model.specs.declared.Party.{Party}
 use Rattle.model.specs.declared.Operation.{Operation}
 use Rattle.model.specs.declared.Operation.the-variants as Operation
-use Rattle.model.specs.declared.OperationAnswer.{OperationAnswer}
-use Rattle.model.specs.declared.OperationAnswer.the-variants as OperationAnswer
 use Rattle.model.specs.Sizes.{pageWords}
 use Rattle.model.specs.Records.{atStep, withLev, withChain, withOther}
-use Rattle.model.specs.Answers.{operationNumber}
+use Rattle.model.specs.Answers.{operationNumber, settingGiven, foundOrAbsent}
 use Rattle.model.specs.Addresses.{hash}
-use Rattle.model.specs.Entries.{hasKey}
+use Rattle.model.specs.Entries.{settingIn}
 use Rattle.model.specs.Pages.{pageOf, withPage, levelOf, entriesOf, pageSound, primaryPage, scratchPage}
 use Rattle.model.specs.Chains.{entriesOn}
 use Rattle.model.specs.Outcome.{moved, withParty}
@@ -27,7 +25,7 @@ use Rattle.model.specs.LockRequests.{modeOf}
 use Rattle.model.specs.Steps.Chase.{Chase, chase, chaseOf, arrived, chasing, step06}
 use Rattle.model.specs.Steps.Dispatch.{hasStep}
 use Rattle.model.specs.Memory.{Memory, viewOf}
-use Rattle.model.specs.Book.{Book, Entered, isIn, changedAt, noteAtSix, notedIfFind, noteStep, noteFor}
+use Rattle.model.specs.Book.{Book, Entered, changedAt, noteAtSix, notedIfFind, noteStep, noteFor, Value}
 use Rattle.model.proofs.Laws.Lists.{lt-ltb, le-leb, Told, holds, fails, tell, Cmp, same, diff, cmp, eqb-same, eqb-diff, eqb-true}
 use Rattle.model.proofs.Laws.Pages.{length-pageOf}
 use Rattle.model.proofs.Laws.Structure.{ChainIs}
@@ -72,7 +70,7 @@ chased-heads n e k c t pos inside (left j l s h d r) =
 
 -- ---- What the book notes at 6
 
--- From book b to book c the entry of party q stays but for its note, which for a find says whether the key is in.
+-- From book b to book c the entry of party q stays but for its note, which for a find says what the book has of the key.
 pub record NotedSix (b c : Book) (q : ℕ) (e : Entered) : Type 0 where
   pub contents= : c .contents ≡ b .contents
   pub others= : (j : ℕ) → j ≢ q → c .entries j ≡ b .entries j
@@ -80,14 +78,14 @@ pub record NotedSix (b c : Book) (q : ℕ) (e : Entered) : Type 0 where
   pub entry : c .entries q ≡ some after
   pub operation= : after .operation ≡ e .operation
   pub key= : after .key ≡ e .key
-  pub found : operationNumber (e .operation) ≡ 1 → after .note ≡ some (cond (isIn (b .contents (e .key))) OperationAnswer.Found OperationAnswer.Absent)
+  pub found : operationNumber (e .operation) ≡ 1 → after .note ≡ some (foundOrAbsent (b .contents (e .key)))
 
 pub noted-six : (b : Book) (q : ℕ) (e : Entered) → b .entries q ≡ some e → NotedSix b (noteStep b q e 6) q e
 unfolding noteStep notedIfFind noteAtSix changedAt operationNumber
 noted-six b q e h = go (e .operation) refl
   where
-    there : Bool
-    there = isIn (b .contents (e .key))
+    there : Option Value
+    there = b .contents (e .key)
 
     -- An insert or a delete: no note.
     none-noted : (o : Operation) → e .operation ≡ o → operationNumber o ≢ 1 → NotedSix b b q e
@@ -97,13 +95,13 @@ noted-six b q e h = go (e .operation) refl
     go Operation.Find s = record {
       contents= = refl;
       others= = λ j n. rw (eqb-diff j q n) refl;
-      after = record { operation = e .operation; key = e .key; note = some (cond there OperationAnswer.Found OperationAnswer.Absent) };
+      after = record { operation = e .operation; key = e .key; note = some (foundOrAbsent there) };
       entry = rw (eqb-same q q refl) refl;
       operation= = refl;
       key= = refl;
       found = λ _. refl;
     }
-    go Operation.Insert s = none-noted Operation.Insert s (omega arith)
+    go (Operation.Insert x) s = none-noted (Operation.Insert x) s (omega arith)
     go Operation.Delete s = none-noted Operation.Delete s (omega arith)
 
 -- ---- 6: copy the primary page to the scratch page; chase
@@ -205,6 +203,7 @@ module _ {m : Memory} {b : Book} {q : ℕ} (t : Turn m b q 6) where
       record {
         entry = noted .entry;
         same-operation = ap operationNumber (noted .operation=) ∙ k .same-operation;
+        same-setting = ap settingGiven (noted .operation=) ∙ k .same-setting;
         same-key = noted .key= ∙ k .same-key;
         step-fits = has;
         lev-fits = omega (arith, end-heads .reach, local-most (t .inv) (end .chain));
@@ -254,13 +253,13 @@ module _ {m : Memory} {b : Book} {q : ℕ} (t : Turn m b q 6) where
         (working (noted .after) (busy-home (home 10) 10 (omega arith) (rw o (rw o at (has-step t)))) (early-then (home 10) refl, record { heads = home-heads; exact = lev-is }))
 
     -- To 9, for a find.
-    is-in : isIn (b .contents (t .entered .key)) ≡ hasKey (me t .key) (entriesOf page ++ entriesOn (m .pages) over)
+    is-in : b .contents (t .entered .key) ≡ settingIn (me t .key) (entriesOf page ++ entriesOn (m .pages) over)
     unfolding entriesOn
     is-in =
-        ap (λ (k : ℕ). isIn (b .contents k)) (t .busy .same-key) ∙ t .inv .book-ok .same (me t .key)
-        ∙ ap (λ (c : ℕ). hasKey (me t .key) (t .inv .ghost .records c))
+        ap (b .contents) (t .busy .same-key) ∙ t .inv .book-ok .same (me t .key)
+        ∙ ap (λ (c : ℕ). settingIn (me t .key) (t .inv .ghost .records c))
         (home-is (m .root .originals) (t .inv .ghost .live) (me t .chain) (end .lev) (me t .key) (t .inv .limits .some-original) (omega (arith, t .inv .extents-ok .live-next)) home-heads lev-is)
-        ∙ ap (hasKey (me t .key)) (sym (chain-entries (m .root .capacity) (m .pages) (me t .chain) top (t .inv .ghost .records (me t .chain)) over chain-is))
+        ∙ ap (settingIn (me t .key)) (sym (chain-entries (m .root .capacity) (m .pages) (me t .chain) top (t .inv .ghost .records (me t .chain)) over chain-is))
 
     walking : me t .operation ≡ 1 → Walking (scene-then (home 9)) q (home 9) (noted .after)
     walking o =
@@ -272,7 +271,7 @@ module _ {m : Memory} {b : Book} {q : ℕ} (t : Turn m b q 6) where
               (held-overflow (m .root) (t .inv .pages-ok .owned) (inChain (me t .chain))) (chain-is .overflow);
           once = no-repeats (t .inv .pages-ok .owned) (inChain (me t .chain));
           protected = λ x h. in-chain (own-of-member (t .inv .pages-ok .owned) (inChain (me t .chain)) x h);
-          note-is = noted .found (t .busy .same-operation ∙ o) ∙ ap (λ (there : Bool). some (cond there OperationAnswer.Found OperationAnswer.Absent)) is-in;
+          note-is = noted .found (t .busy .same-operation ∙ o) ∙ ap (λ (there : Option Value). some (foundOrAbsent there)) is-in;
           no-pages = t .facts .0 .no-pages;
         })
 

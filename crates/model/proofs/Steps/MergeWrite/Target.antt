@@ -2,8 +2,9 @@
 -- Main statement: step28-kept.
 use mathlib.Core.Path.{_≡_, refl, sym, ap, _∙_, subst, subst₃}
 use mathlib.Core.Logic.{_≢_, _⊎_, inl, inr}
-use mathlib.Core.Bool.{Bool, true, false, _||_, or-false, false≢true}
+use mathlib.Core.Bool.{Bool, true, false, false≢true, cond}
 use mathlib.Core.List.{List, [], _∷_}
+use mathlib.Core.Option.{Option}
 use Prim.Native.Nat.{ℕ, suc, _+_, _-_, _≤_, _<_}
 use native.Mathlib.Omega.{arith}
 use lib.ListN.{length, set}
@@ -15,20 +16,22 @@ use Rattle.model.specs.Sizes.{pageWords}
 use Rattle.model.specs.Records.{atStep}
 use Rattle.model.specs.LockWords.{chainWord}
 use Rattle.model.specs.Addresses.{span, hash, addressOf}
-use Rattle.model.specs.Entries.{Entry, hasKey, ascending, joined}
+use Rattle.model.specs.declared.Entry.{Entry}
+use Rattle.model.specs.Entries.{hasKey, ascending, joined, settingIn}
 use Rattle.model.specs.Pages.{pageOf, withPage, levelOf, linkOf, scratchPage, primaryPage, linkToFirst, pageSound, zeroPage, withLocalLevel}
 use Rattle.model.specs.Filling.{primaryOf}
 use Rattle.model.specs.Memory.{Memory, partyAt, viewOf}
-use Rattle.model.specs.Book.{Book, Entered, changedAt}
+use Rattle.model.specs.Book.{Book, Entered, changedAt, Value}
 use Rattle.model.specs.LockRequests.{modeOf, chainExclusive, rootSelective, otherExclusive}
 use Rattle.model.specs.Steps.MergeWrite.{step28}
 use Rattle.model.specs.Steps.Dispatch.{hasStep}
-use Rattle.model.proofs.Laws.Lists.{Cmp, same, diff, cmp, or-either, eqb-same, eqb-diff}
+use Rattle.model.proofs.Laws.Lists.{cond-ind, Cmp, same, diff, cmp, or-either, eqb-same, eqb-diff}
 use Rattle.model.proofs.Laws.Pages.{length-withLocalLevel, withLocalLevel-filledPage}
 use Rattle.model.proofs.Laws.Structure.{ChainIs}
 use Rattle.model.proofs.Laws.Filling.{chain-link, chain-sound}
 use Rattle.model.proofs.Laws.Reading.{held-overflow}
-use Rattle.model.proofs.Laws.Joins.{has-joined, ascends-joined}
+use Rattle.model.proofs.Laws.Entries.{setting-absent}
+use Rattle.model.proofs.Laws.Joins.{has-joined, setting-joined, ascends-joined}
 use Rattle.model.proofs.Invariant.Ghost.{owner, nobody, free, inChain, oldOf, partnerOf, builtBy, newBy, Extent, rootExtent, size, advance, localLevel, Ghost}
 use Rattle.model.proofs.Invariant.Owners.{kinds-apart, indices-apart}
 use Rattle.model.proofs.Invariant.Handing.{ownAlso, heldAlso, Also, beside-chain, beside-party, beside-kind, also-to, also-from, also-chain, also-old, also-built, also-other, owned-also, own-also-other, kinds-also}
@@ -309,10 +312,12 @@ module _ {m : Memory} {b : Book} {q : ℕ} (t : Turn m b q 28) where
       (written-beside m b (t .inv) here fits lowered whole d _ (t .inv .ghost .records d) (inChain d) n (t .inv .pages-ok .chain d (still-live d l)))
 
   -- The two chains have no key in common: a key has one home.
+  none-shared : (k : ℕ) → hasKey k (t .inv .ghost .records here) ≡ true → hasKey k (t .inv .ghost .records gone) ≡ false
+  none-shared k h = away-absent (t .inv) gone live-gone k (λ e. apart (sym (key-home (t .inv) here live-here k h) ∙ e))
+
   ascends-both : ascending both ≡ true
   ascends-both =
-      ascends-joined (t .inv .ghost .records here) (t .inv .ghost .records gone) (t .inv .pages-ok .ascends here live-here) (t .inv .pages-ok .ascends gone live-gone)
-      (λ k h. away-absent (t .inv) gone live-gone k (λ e. apart (sym (key-home (t .inv) here live-here k h) ∙ e)))
+      ascends-joined (t .inv .ghost .records here) (t .inv .ghost .records gone) (t .inv .pages-ok .ascends here live-here) (t .inv .pages-ok .ascends gone live-gone) none-shared
 
   each-ascends : (d : ℕ) → d < size originals back → Cmp d here → ascending (ghost-then .records d) ≡ true
   each-ascends d l (same e) = ap (λ (k : ℕ). ascending (ghost-then .records k)) e ∙ ap ascending records-here ∙ ascends-both
@@ -382,50 +387,51 @@ module _ {m : Memory} {b : Book} {q : ℕ} (t : Turn m b q 28) where
   home-then : ℕ → ℕ
   home-then k = addressOf originals (back .level) (back .next) k
 
-  -- Each key is on its home afterwards where it was before.
-  same-keys : (k : ℕ) → Cmp (home-then k) here → hasKey k (ghost-then .records (home-then k)) ≡ hasKey k (t .inv .ghost .records (home k))
+  -- Each key's home has of it afterwards what it had before.
+  same-settings : (k : ℕ) → Cmp (home-then k) here → settingIn k (ghost-then .records (home-then k)) ≡ settingIn k (t .inv .ghost .records (home k))
   unfolding home home-then
-  same-keys k place = go place
+  same-settings k place = go place
     where
       -- Homes before, by the root's extent and one split more.
       was : (c : ℕ) → addressOf originals (advance originals back .level) (advance originals back .next) k ≡ c → home k ≡ c
       was c e = ap (λ (x : Extent). addressOf originals (x .level) (x .next) k) live-is ∙ e
 
       -- The key was at home on the target, or on the partner, and not on the other of the two.
-      either : (c : ℕ) → home k ≡ c → (hasKey k (t .inv .ghost .records here) || hasKey k (t .inv .ghost .records gone)) ≡ hasKey k (t .inv .ghost .records c)
-          → hasKey k (ghost-then .records here) ≡ hasKey k (t .inv .ghost .records (home k))
+      either : (c : ℕ) → home k ≡ c → cond (hasKey k (t .inv .ghost .records here)) (settingIn k (t .inv .ghost .records here)) (settingIn k (t .inv .ghost .records gone)) ≡ settingIn k (t .inv .ghost .records c)
+          → settingIn k (ghost-then .records here) ≡ settingIn k (t .inv .ghost .records (home k))
       either c e f =
-          ap (hasKey k) records-here ∙ has-joined k (t .inv .ghost .records here) (t .inv .ghost .records gone) ∙ f
-          ∙ ap (λ (d : ℕ). hasKey k (t .inv .ghost .records d)) (sym e)
+          ap (settingIn k) records-here ∙ setting-joined k (t .inv .ghost .records here) (t .inv .ghost .records gone) (t .inv .pages-ok .ascends here live-here) none-shared ∙ f
+          ∙ ap (λ (d : ℕ). settingIn k (t .inv .ghost .records d)) (sym e)
 
-      at-here : home k ≡ here → hasKey k (ghost-then .records here) ≡ hasKey k (t .inv .ghost .records (home k))
+      at-here : home k ≡ here → settingIn k (ghost-then .records here) ≡ settingIn k (t .inv .ghost .records (home k))
       at-here e =
+          let missing = setting-absent k (t .inv .ghost .records gone) (away-absent (t .inv) gone live-gone k (λ f. apart (sym e ∙ f))) in
           either here e
-          (ap (λ (x : Bool). hasKey k (t .inv .ghost .records here) || x) (away-absent (t .inv) gone live-gone k (λ f. apart (sym e ∙ f)))
-          ∙ or-false (hasKey k (t .inv .ghost .records here)))
+          (cond-ind (λ (x : Option Value). x ≡ settingIn k (t .inv .ghost .records here)) (hasKey k (t .inv .ghost .records here)) _ _ (λ _. refl)
+          (λ h. missing ∙ sym (setting-absent k (t .inv .ghost .records here) h)))
 
-      at-gone : home k ≡ gone → hasKey k (ghost-then .records here) ≡ hasKey k (t .inv .ghost .records (home k))
+      at-gone : home k ≡ gone → settingIn k (ghost-then .records here) ≡ settingIn k (t .inv .ghost .records (home k))
       at-gone e =
           either gone e
-          (ap (λ (x : Bool). x || hasKey k (t .inv .ghost .records gone)) (away-absent (t .inv) here live-here k (λ f. apart (sym f ∙ e))))
+          (ap (λ (x : Bool). cond x (settingIn k (t .inv .ghost .records here)) (settingIn k (t .inv .ghost .records gone))) (away-absent (t .inv) here live-here k (λ f. apart (sym f ∙ e))))
 
       from : hash originals (back .level) k ≡ back .next → Cmp (hash originals (back .level + 1) k) (back .next)
-          → hasKey k (ghost-then .records here) ≡ hasKey k (t .inv .ghost .records (home k))
+          → settingIn k (ghost-then .records here) ≡ settingIn k (t .inv .ghost .records (home k))
       from led (same s) = at-here (was here (home-split originals back inside (t .inv .limits .some-original) k s ∙ sym here-is))
       from led (diff d) =
           at-gone (was gone (home-made originals back inside (t .inv .limits .some-original) k (split-hash originals back inside (t .inv .limits .some-original) k led d) ∙ sym gone-is))
 
-      go : Cmp (home-then k) here → hasKey k (ghost-then .records (home-then k)) ≡ hasKey k (t .inv .ghost .records (home k))
+      go : Cmp (home-then k) here → settingIn k (ghost-then .records (home-then k)) ≡ settingIn k (t .inv .ghost .records (home k))
       go (diff n) =
-          ap (hasKey k) (records-other (home-then k) n)
-          ∙ ap (λ (c : ℕ). hasKey k (t .inv .ghost .records c)) (sym (was (home-then k) (home-other originals back inside (t .inv .limits .some-original) k (λ e. n (e ∙ sym here-is)))))
+          ap (settingIn k) (records-other (home-then k) n)
+          ∙ ap (λ (c : ℕ). settingIn k (t .inv .ghost .records c)) (sym (was (home-then k) (home-other originals back inside (t .inv .limits .some-original) k (λ e. n (e ∙ sym here-is)))))
       go (same e) =
-          ap (λ (c : ℕ). hasKey k (ghost-then .records c)) e
+          ap (λ (c : ℕ). settingIn k (ghost-then .records c)) e
           ∙ from (home-splits originals back inside (t .inv .limits .some-original) k (e ∙ here-is)) (cmp (hash originals (back .level + 1) k) (back .next))
 
   book-ok-then : BookOk (m .root) ghost-then b
   unfolding home home-then
-  book-ok-then = record { same = λ k. t .inv .book-ok .same k ∙ sym (same-keys k (cmp (home-then k) here)) }
+  book-ok-then = record { same = λ k. t .inv .book-ok .same k ∙ sym (same-settings k (cmp (home-then k) here)) }
 
   -- ---- The party at 29
 

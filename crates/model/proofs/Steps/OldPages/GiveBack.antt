@@ -23,7 +23,7 @@ use Rattle.model.specs.Steps.OldPages.{step14, oldGivenBack}
 use Rattle.model.specs.FreeList.{roomToGiveBack, pagesGivenBack}
 use Rattle.model.specs.Endings.{onward, finished}
 use Rattle.model.specs.Steps.Dispatch.{hasStep}
-use Rattle.model.specs.Answers.{answerNumber, answerOf, refusalNumber}
+use Rattle.model.specs.Answers.{answerOf, refusalNumber}
 use Rattle.model.specs.Outcome.{moved}
 use Rattle.model.proofs.Laws.Lists.{cond-ind, count-nil, eqb-true, eqb-same, eqb-diff, All}
 use Rattle.model.proofs.Laws.Pages.{Has, length-withPage, page-same, page-other, length-zeroPage}
@@ -39,6 +39,7 @@ use Rattle.model.proofs.Effects.Moves.{busy-onto, names-old, split-owed
 use Rattle.model.proofs.Effects.Touch.{own-scratch}
 use Rattle.model.proofs.Effects.Releases.{release-locks, Holds, holds-it, held-one}
 use Rattle.model.proofs.Effects.GivingBack.{givenGhost, givenRoot, givenPages, given-sizes, given-long, given-room, no-pages-given, giving-parts}
+use Rattle.model.proofs.Laws.Answers.{same-answer}
 
 module _ {m : Memory} {b : Book} {q : ℕ} (t : Turn m b q 14) where
   abbrev olds : List ℕ
@@ -160,6 +161,6 @@ module _ {m : Memory} {b : Book} {q : ℕ} (t : Turn m b q 14) where
       (λ e. goes-on 23 (rw (merge-owed (me t) (t .facts .owed-fits) (eqb-true _ _ e)) refl) refl refl (λ s f. f))
       (λ _. record {
         allowed = refl;
-        right = rw (note-still t refl, t .busy .entry, t .facts .leaving .noted, eqb-same (answerNumber (answerOf (me t .answer))) (answerNumber (answerOf (me t .answer))) refl) refl;
+        right = rw (note-still t refl, t .busy .entry, t .facts .leaving .noted, same-answer (answerOf (me t .answer))) refl;
         inv = rw (note-still t refl) finishes;
       })))

@@ -2,8 +2,9 @@
 -- Main statement: step18-kept.
 use mathlib.Core.Path.{_≡_, refl, sym, ap, _∙_, subst, subst₃}
 use mathlib.Core.Logic.{_≢_}
-use mathlib.Core.Bool.{Bool, true, false, not, _&&_, _||_, false≢true, and-true, and-false}
+use mathlib.Core.Bool.{Bool, true, false, not, _||_, false≢true, and-false, cond}
 use mathlib.Core.List.{List, [], _∷_}
+use mathlib.Core.Option.{Option, none}
 use Prim.Native.Nat.{ℕ, suc, _+_, _≤_, _<_}
 use native.Mathlib.Omega.{arith}
 use lib.ListN.{length, set}
@@ -15,10 +16,11 @@ use Rattle.model.specs.Sizes.{pageWords}
 use Rattle.model.specs.Records.{atStep}
 use Rattle.model.specs.LockWords.{chainWord}
 use Rattle.model.specs.Addresses.{span, hash, addressOf}
-use Rattle.model.specs.Entries.{Entry, hasKey, ascending, staying, going}
+use Rattle.model.specs.declared.Entry.{Entry}
+use Rattle.model.specs.Entries.{hasKey, ascending, staying, going, settingIn}
 use Rattle.model.specs.Pages.{pageOf, withPage, scratchPage, primaryPage, linkToFirst, pageSound}
 use Rattle.model.specs.Memory.{Memory, partyAt, viewOf}
-use Rattle.model.specs.Book.{Book, Entered, changedAt}
+use Rattle.model.specs.Book.{Book, Entered, changedAt, Value}
 use Rattle.model.specs.Holds.{sameMode}
 use Rattle.model.specs.LockRequests.{chainSelective, rootSelective}
 use Rattle.model.specs.ScratchPages.{primaryWritten}
@@ -26,7 +28,7 @@ use Rattle.model.specs.Steps.SplitWrite.{step18}
 use Rattle.model.specs.Steps.Dispatch.{hasStep}
 use Rattle.model.proofs.Laws.Lists.{Cmp, same, diff, cmp, and-both, not-true, eqb-true, eqb-false, eqb-same, eqb-diff}
 use Rattle.model.proofs.Laws.Structure.{ChainIs}
-use Rattle.model.proofs.Laws.Halves.{has-staying, has-going, ascends-staying, ascends-going}
+use Rattle.model.proofs.Laws.Halves.{has-staying, has-going, ascends-staying, ascends-going, setting-staying, setting-going}
 use Rattle.model.proofs.Invariant.Ghost.{owner, nobody, free, inChain, partnerOf, builtBy, newBy, Extent, rootExtent, size, advance, localLevel, Ghost}
 use Rattle.model.proofs.Invariant.Owners.{kinds-apart, indices-apart}
 use Rattle.model.proofs.Invariant.Handing.{ownAlso, heldAlso, Also, beside-chain, beside-party, beside-kind, also-to, also-from, also-chain, also-old, also-built, also-other, owned-also, own-also-old, own-also-other, kinds-also}
@@ -339,31 +341,35 @@ module _ {m : Memory} {b : Book} {q : ℕ} (t : Turn m b q 18) where
   home-then : ℕ → ℕ
   home-then k = addressOf originals (further .level) (further .next) k
 
-  -- Each key is on its home afterwards where it was before.
-  same-keys : (k : ℕ) → Cmp (home k) here → hasKey k (ghost-then .records (home-then k)) ≡ hasKey k (t .inv .ghost .records (home k))
+  -- Each key's home has of it afterwards what it had before.
+  same-settings : (k : ℕ) → Cmp (home k) here → settingIn k (ghost-then .records (home-then k)) ≡ settingIn k (t .inv .ghost .records (home k))
   unfolding home home-then
-  same-keys k (diff n) =
+  same-settings k (diff n) =
       let moved = home-other originals live inside (t .inv .limits .some-original) k (λ e. n (e ∙ sym here-is)) in
-      ap (λ (c : ℕ). hasKey k (ghost-then .records c)) moved ∙ ap (hasKey k) (records-other (home k) (not-new (home k) (home-inside originals live inside (t .inv .limits .some-original) k)) n)
-  same-keys k (same e) = go (cmp (hash originals (live .level + 1) k) here) ∙ ap (λ (c : ℕ). hasKey k (t .inv .ghost .records c)) (sym e)
+      ap (λ (c : ℕ). settingIn k (ghost-then .records c)) moved
+      ∙ ap (settingIn k) (records-other (home k) (not-new (home k) (home-inside originals live inside (t .inv .limits .some-original) k)) n)
+  same-settings k (same e) = go (cmp (hash originals (live .level + 1) k) here) ∙ ap (λ (c : ℕ). settingIn k (t .inv .ghost .records c)) (sym e)
     where
       led : hash originals (live .level) k ≡ live .next
       led = home-splits originals live inside (t .inv .limits .some-original) k (e ∙ here-is)
 
-      go : Cmp (hash originals (live .level + 1) k) here → hasKey k (ghost-then .records (home-then k)) ≡ hasKey k (t .inv .ghost .records here)
+      was : Option Value
+      was = settingIn k (t .inv .ghost .records here)
+
+      go : Cmp (hash originals (live .level + 1) k) here → settingIn k (ghost-then .records (home-then k)) ≡ was
       go (same s) =
           let to : home-then k ≡ here = home-split originals live inside (t .inv .limits .some-original) k (s ∙ here-is) ∙ sym here-is in
-          ap (λ (c : ℕ). hasKey k (ghost-then .records c)) to ∙ ap (hasKey k) records-here ∙ has-staying originals (live .level + 1) here k (t .inv .ghost .records here)
-          ∙ ap (λ (y : Bool). hasKey k (t .inv .ghost .records here) && y) (eqb-same (hash originals (live .level + 1) k) here s) ∙ and-true (hasKey k (t .inv .ghost .records here))
+          ap (λ (c : ℕ). settingIn k (ghost-then .records c)) to ∙ ap (settingIn k) records-here ∙ setting-staying originals (live .level + 1) here k (t .inv .ghost .records here)
+          ∙ ap (λ (y : Bool). cond y was none) (eqb-same (hash originals (live .level + 1) k) here s)
       go (diff d) =
           let far = split-hash originals live inside (t .inv .limits .some-original) k led (λ s. d (s ∙ sym here-is)) in
           let to : home-then k ≡ new = home-made originals live inside (t .inv .limits .some-original) k far ∙ sym new-is in
-          ap (λ (c : ℕ). hasKey k (ghost-then .records c)) to ∙ ap (hasKey k) records-new ∙ has-going originals (live .level + 1) here k (t .inv .ghost .records here)
-          ∙ ap (λ (y : Bool). hasKey k (t .inv .ghost .records here) && not y) (eqb-diff (hash originals (live .level + 1) k) here d) ∙ and-true (hasKey k (t .inv .ghost .records here))
+          ap (λ (c : ℕ). settingIn k (ghost-then .records c)) to ∙ ap (settingIn k) records-new ∙ setting-going originals (live .level + 1) here k (t .inv .ghost .records here)
+          ∙ ap (λ (y : Bool). cond (not y) was none) (eqb-diff (hash originals (live .level + 1) k) here d)
 
   book-ok-then : BookOk (m .root) ghost-then b
   unfolding home home-then
-  book-ok-then = record { same = λ k. t .inv .book-ok .same k ∙ sym (same-keys k (cmp (home k) here)) }
+  book-ok-then = record { same = λ k. t .inv .book-ok .same k ∙ sym (same-settings k (cmp (home k) here)) }
 
   -- ---- The party at 19
 

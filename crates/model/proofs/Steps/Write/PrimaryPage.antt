@@ -4,7 +4,7 @@ use mathlib.Core.Path.{_≡_, refl, sym, ap, _∙_, subst}
 use mathlib.Core.Logic.{_≢_}
 use mathlib.Core.Bool.{Bool, true, false, cond, _&&_, _||_, false≢true}
 use mathlib.Core.List.{List}
-use mathlib.Core.Option.{none, some}
+use mathlib.Core.Option.{some}
 use Prim.Native.Nat.{ℕ, _<_}
 use native.Mathlib.Omega.{arith}
 use lib.ListN.{length, set}
@@ -16,7 +16,8 @@ use Rattle.model.specs.Sizes.{pageWords}
 use Rattle.model.specs.Records.{atStep}
 use Rattle.model.specs.LockWords.{chainWord}
 use Rattle.model.specs.Addresses.{hash, addressOf}
-use Rattle.model.specs.Entries.{Entry, hasKey, ascending}
+use Rattle.model.specs.declared.Entry.{Entry}
+use Rattle.model.specs.Entries.{hasKey, ascending, settingIn}
 use Rattle.model.specs.Pages.{pageOf, withPage, scratchPage, primaryPage, linkToFirst, pageSound}
 use Rattle.model.specs.Memory.{Memory, partyAt, viewOf}
 use Rattle.model.specs.Book.{Book, Entered, isIn, changedAt, withEntry, withContent, noted, noteAtEleven, contentAtEleven, noteStep, noteFor}
@@ -29,7 +30,7 @@ use Rattle.model.specs.Steps.Dispatch.{hasStep}
 use Rattle.model.specs.Answers.{answerOf}
 use Rattle.model.proofs.Laws.Lists.{Cmp, same, diff, cmp, eqb-same, eqb-diff}
 use Rattle.model.proofs.Laws.Structure.{ChainIs}
-use Rattle.model.proofs.Laws.Changes.{ChangeMade, change-made}
+use Rattle.model.proofs.Laws.Changes.{ChangeMade, change-made, keys-kept}
 use Rattle.model.proofs.Invariant.Ghost.{Owner, owner, free, inChain, oldOf, partnerOf, builtBy, newBy, size, localLevel, sameOwner, Ghost}
 use Rattle.model.proofs.Invariant.Owners.{kinds-apart, indices-apart, ownAnew, heldAnew, anew-chain, anew-old, anew-built, anew-other, owned-anew, own-anew-old, own-anew-other, kinds-anew}
 use Rattle.model.proofs.Invariant.Extents.{home-is}
@@ -43,6 +44,7 @@ use Rattle.model.proofs.Effects.Kept.{Kept, row-other, row-chain, Parts
 use Rattle.model.proofs.Effects.OwnRecord.{same-limits, same-sizes}
 use Rattle.model.proofs.Effects.PrimaryPage.{held-alone, length-scratch, built-sound, primary-off, primary-same, primary-long, written-here, written-beside, old-linked, free-beside, read-beside}
 use Rattle.model.proofs.Effects.Moves.{extents-rest}
+use Rattle.model.proofs.Laws.Entries.{has-setting}
 
 -- What a change owes is one of the things that may be owed.
 owed-may : (n before now : ℕ) (es : List Entry) → hasStep n 11 ≡ true → owedFits n (owedBy n before now es) ≡ true
@@ -176,7 +178,7 @@ module _ {m : Memory} {b : Book} {q : ℕ} (t : Turn m b q 11) where
 
   change : ChangeMade (entered .operation) (me t .key) (t .inv .ghost .records here) (me t .answer) after
   change =
-      change-made (me t .key) (t .inv .ghost .records here) (me t .answer) after (entered .operation) (me t .operation) (t .busy .same-operation)
+      change-made (me t .key) (me t .setting) (t .inv .ghost .records here) (me t .answer) after (entered .operation) (me t .operation) (t .busy .same-operation) (t .busy .same-setting)
       (subst (λ (n : ℕ). hasStep (me t .operation) n ≡ true) (t .is-at) (t .busy .step-fits)) (facts .change)
 
   free-then : ghost-then .held free ≡ t .inv .ghost .held free
@@ -203,7 +205,7 @@ module _ {m : Memory} {b : Book} {q : ℕ} (t : Turn m b q 11) where
       go : Cmp k (me t .key) → hash (m .root .originals) level k ≡ here
       go (same s) =
           ap (λ (x : ℕ). hash (m .root .originals) level x) s ∙ ap (λ (x : ℕ). hash (m .root .originals) x (me t .key)) (sym (facts .at-home .exact)) ∙ facts .at-home .heads .there
-      go (diff n) = t .inv .pages-ok .homed here live-here k (sym (change .keys none k ∙ (rw (eqb-diff k (me t .key) n))) ∙ has-then)
+      go (diff n) = t .inv .pages-ok .homed here live-here k (sym (keys-kept change k n) ∙ has-then)
 
   unused-before : (d : ℕ) → ((j : ℕ) → uses (partyAt (set (m .parties) q then-party) j) d ≡ false) → (j : ℕ) → Cmp j q → uses (partyAt (m .parties) j) d ≡ false
   unused-before d u j (same e) = rw e (uses-none t refl d)
@@ -239,31 +241,33 @@ module _ {m : Memory} {b : Book} {q : ℕ} (t : Turn m b q 11) where
   home-here =
       home-is (m .root .originals) (t .inv .ghost .live) here (me t .lev) (me t .key) (t .inv .limits .some-original) (omega (arith, t .inv .extents-ok .live-next)) (facts .at-home .heads) (facts .at-home .exact)
 
+  -- The book has of the operation's key what the chain has.
+  was-there : b .contents (entered .key) ≡ settingIn (me t .key) (t .inv .ghost .records here)
+  unfolding home
+  was-there =
+      ap (b .contents) (t .busy .same-key) ∙ t .inv .book-ok .same (me t .key) ∙ ap (λ (c : ℕ). settingIn (me t .key) (t .inv .ghost .records c)) home-here
+
   book-ok-then : BookOk (m .root) ghost-then book-then
   unfolding home
   book-ok-then = record { same = λ k. go k (cmp k (entered .key)) (cmp (home k) here) }
     where
-      go : (k : ℕ) → Cmp k (entered .key) → Cmp (home k) here → isIn (book-then .contents k) ≡ hasKey k (ghost-then .records (home k))
+      go : (k : ℕ) → Cmp k (entered .key) → Cmp (home k) here → book-then .contents k ≡ settingIn k (ghost-then .records (home k))
       go k (same e) h =
           let mine : k ≡ me t .key = e ∙ t .busy .same-key in
           let there : home k ≡ here = ap home mine ∙ home-here in
-          rw (changed-here (b .contents) (entered .key) _ k e, changed-here (t .inv .ghost .records) here after (home k) there, change .keys (b .contents (entered .key)) k, eqb-same k (me t .key) mine) refl
+          rw (changed-here (b .contents) (entered .key) _ k e, changed-here (t .inv .ghost .records) here after (home k) there, change .settings k, eqb-same k (me t .key) mine)
+          (ap (contentAtEleven (entered .operation)) was-there)
       go k (diff n) (same h) =
           rw (changed-elsewhere (b .contents) (entered .key) _ k n, changed-here (t .inv .ghost .records) here after (home k) h)
-          (t .inv .book-ok .same k ∙ ap (λ (c : ℕ). hasKey k (t .inv .ghost .records c)) h
-          ∙ sym (change .keys none k ∙ (rw (eqb-diff k (me t .key) (λ e. n (e ∙ sym (t .busy .same-key)))))))
+          (t .inv .book-ok .same k ∙ ap (λ (c : ℕ). settingIn k (t .inv .ghost .records c)) h
+          ∙ sym (change .settings k ∙ (rw (eqb-diff k (me t .key) (λ e. n (e ∙ sym (t .busy .same-key)))))))
       go k (diff n) (diff h) =
           rw (changed-elsewhere (b .contents) (entered .key) _ k n, changed-elsewhere (t .inv .ghost .records) here after (home k) h) (t .inv .book-ok .same k)
 
   -- The note is the answer: the key was in exactly where it was on the chain.
   noted-then : entry-then .note ≡ some (answerOf (me t .answer))
-  unfolding home
-  noted-then = ap some (ap (noteAtEleven (entered .operation)) there ∙ change .noted)
-    where
-      there : was-in ≡ hasKey (me t .key) (t .inv .ghost .records here)
-      there =
-          ap (λ (k : ℕ). isIn (b .contents k)) (t .busy .same-key) ∙ t .inv .book-ok .same (me t .key)
-          ∙ ap (λ (c : ℕ). hasKey (me t .key) (t .inv .ghost .records c)) home-here
+  noted-then =
+      ap some (ap (noteAtEleven (entered .operation)) (ap isIn was-there ∙ has-setting (me t .key) (t .inv .ghost .records here)) ∙ change .noted)
 
   -- ---- The party at 12
 
@@ -290,6 +294,7 @@ module _ {m : Memory} {b : Book} {q : ℕ} (t : Turn m b q 11) where
       (record {
         entry = changed-here (b .entries) q (some entry-then) q refl;
         same-operation = k .same-operation;
+        same-setting = k .same-setting;
         same-key = k .same-key;
         step-fits = has-step t;
         lev-fits = k .lev-fits;
