@@ -1,10 +1,11 @@
-/* The bead index for C and C++: the three calls, the memory that they are lent, and the numbers that they answer.
+/* The bead index for C and C++: the four calls, the memory that they are lent, and the numbers that they answer.
  *
  * A file of records, each a 32-bit key and a 32-bit setting, shared by up to sixteen parties under Ellis's locks.
  * bead_format makes an empty file, bead_begin starts a find, an insert or a delete for a party, and bead_step performs
  * one step of it: seven steps or more an operation, of which the last answers BEAD_DONE. The caller picks whose step is
- * next. An insert brings a key with its setting, and leaves a key that is in with the setting that it has; a find
- * answers the setting of its key.
+ * next. bead_withdraw takes an operation back that is no longer wanted, where it has decided nothing yet. An insert
+ * brings a key with its setting, and leaves a key that is in with the setting that it has; a find answers the setting
+ * of its key.
  *
  * All memory is the caller's: a root record, a row of party's records, a row of lock words and a row of page words,
  * lent anew to every call. The library keeps nothing, allocates nothing and calls nobody. What each call leaves in
@@ -93,14 +94,15 @@ enum bead_operation {
 /* Why a call was refused: the numbers of the specification's table and one more, in the order in which the causes
  * are tested. The first cause met gives the number. A refused call alters nothing. */
 enum bead_refusal {
-    BEAD_OK = 0,             /* not refused */
-    BEAD_NO_OPERATION = 255, /* bead_begin of none of the three operations; not in the table */
-    BEAD_SIZE_REFUSED = 2,   /* a size outside its limits: of those given to bead_format, else of the root record's */
-    BEAD_LENGTH_REFUSED = 1, /* a length other than Q records, P + 1 lock words or 16 * (P + V + Q) page words */
-    BEAD_PARTY_REFUSED = 3,  /* a party's number Q or above */
-    BEAD_BUSY_REFUSED = 4,   /* bead_begin for a party that is not idle */
-    BEAD_IDLE_REFUSED = 5,   /* bead_step for an idle party */
-    BEAD_DAMAGE = 6          /* bead_step on a damaged number: never where only these calls wrote since bead_format */
+    BEAD_OK = 0,              /* not refused */
+    BEAD_NO_OPERATION = 255,  /* bead_begin of none of the three operations; not in the table */
+    BEAD_SIZE_REFUSED = 2,    /* a size outside its limits: of those given to bead_format, else of the root record's */
+    BEAD_LENGTH_REFUSED = 1,  /* a length other than Q records, P + 1 lock words or 16 * (P + V + Q) page words */
+    BEAD_PARTY_REFUSED = 3,   /* a party's number Q or above */
+    BEAD_BUSY_REFUSED = 4,    /* bead_begin for a party that is not idle */
+    BEAD_IDLE_REFUSED = 5,    /* bead_step or bead_withdraw for an idle party */
+    BEAD_DECIDED_REFUSED = 7, /* bead_withdraw of an operation that has taken its decisive step */
+    BEAD_DAMAGE = 6           /* a damaged number: never where only these calls wrote since bead_format */
 };
 
 /* What a step came to. */
@@ -173,7 +175,7 @@ uint32_t bead_format(struct bead_root *root, struct bead_party *party_row, size_
  *   BEAD_SIZE_REFUSED    a size in the root record is outside its limits: the memory was never formatted
  *   BEAD_LENGTH_REFUSED  a length is not the one that the root record asks for
  *   BEAD_PARTY_REFUSED   there is no such party
- *   BEAD_BUSY_REFUSED    the party's last operation is not done */
+ *   BEAD_BUSY_REFUSED    the party's last operation is neither done nor withdrawn */
 uint32_t bead_begin(struct bead_root *root, struct bead_party *party_row, size_t parties, uint32_t *locks,
                     size_t lock_words, uint32_t *pages, size_t page_words, uint32_t party, uint32_t operation,
                     uint32_t key, uint32_t setting);
@@ -188,6 +190,21 @@ uint32_t bead_begin(struct bead_root *root, struct bead_party *party_row, size_t
  *   BEAD_DAMAGE          a number that the step needs is damaged */
 struct bead_reply bead_step(struct bead_root *root, struct bead_party *party_row, size_t parties, uint32_t *locks,
                             size_t lock_words, uint32_t *pages, size_t page_words, uint32_t party);
+
+/* Withdraws a party's operation: takes back its bead_begin. The locks that it holds are given up, the pages that it
+ * has built are free again, and the party is idle, with no answer. No key is altered, and no setting. Where only these
+ * calls wrote since bead_format, and none of them was another party's since the bead_begin, every lent word is what it
+ * was before that. An operation that has taken its decisive step cannot be withdrawn, and is stepped to its end: a
+ * find whose step number is 9, an insert or a delete whose step number is 12 or above.
+ * Answers BEAD_OK, or refuses, tested in this order:
+ *   BEAD_SIZE_REFUSED     a size in the root record is outside its limits: the memory was never formatted
+ *   BEAD_LENGTH_REFUSED   a length is not the one that the root record asks for
+ *   BEAD_PARTY_REFUSED    there is no such party
+ *   BEAD_IDLE_REFUSED     the party has no operation under way
+ *   BEAD_DECIDED_REFUSED  the operation has taken its decisive step
+ *   BEAD_DAMAGE           a number that the withdraw needs is damaged */
+uint32_t bead_withdraw(struct bead_root *root, struct bead_party *party_row, size_t parties, uint32_t *locks,
+                       size_t lock_words, uint32_t *pages, size_t page_words, uint32_t party);
 
 #ifdef __cplusplus
 }

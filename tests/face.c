@@ -1,6 +1,7 @@
 /* The C face of the index, tested through include/bead_index.h: every refusal in the table's order with every lent word
- * as it was, every outcome, answer and restructuring by its name, each field of both records in its place, and words
- * beside the lent rows that no call touches. C11, and C++ as well. Prints one line, or each check that fails. */
+ * as it was, every outcome, answer and restructuring by its name, each field of both records in its place, operations
+ * withdrawn with every lent word as before their begin, and words beside the lent rows that no call touches. C11, and
+ * C++ as well. Prints one line, or each check that fails. */
 #include <stdio.h>
 #include <string.h>
 
@@ -78,7 +79,7 @@ static int unaltered(void) { return memcmp(&before, &file, sizeof file) == 0; }
 /* The setting that a key is begun with. */
 #define SETTING(key) (~(key))
 
-/* The three calls; each sees to the guards, and that a refusal or a wait alters nothing. */
+/* The four calls; each sees to the guards, and that a refusal or a wait alters nothing. */
 static uint32_t format(uint32_t n, uint32_t b, uint32_t p, uint32_t v, uint32_t q)
 {
     remember();
@@ -107,6 +108,15 @@ static struct bead_reply step(uint32_t party)
     CHECK(reply.outcome == BEAD_DONE || (reply.answer == BEAD_NO_ANSWER && reply.restructuring == 0));
     CHECK(reply.answer == BEAD_FOUND || reply.setting == 0);
     return reply;
+}
+
+static uint32_t withdraw(uint32_t party)
+{
+    remember();
+    uint32_t refusal = bead_withdraw(LENT, party);
+    CHECK(kept_inside());
+    CHECK(refusal == BEAD_OK || unaltered());
+    return refusal;
 }
 
 /* A formatted file. */
@@ -151,6 +161,7 @@ static void test_lengths(uint32_t (*refusal)(void))
 static uint32_t format_refusal(void) { return format(2, 3, 8, 8, 4); }
 static uint32_t begin_refusal(void) { return begin(0, BEAD_FIND, 7); }
 static uint32_t step_refusal(void) { return step(0).refusal; }
+static uint32_t withdraw_refusal(void) { return withdraw(0); }
 
 /* Format: limits, each size, each length, and sizes before lengths. */
 static void test_format(void)
@@ -223,13 +234,90 @@ static void test_step(void)
     CHECK(step(3).outcome == BEAD_MOVED);
 }
 
-/* A word put into a record's field is damage, and the record is sound again without it. */
-static void test_damaged(uint32_t *field, uint32_t word)
+/* Withdraw: likewise; a decided operation is refused before damage is. */
+static void test_withdraw(void)
 {
-    uint32_t sound = *field;
-    *field = word;
+    start(8, 8, 4);
+    lock_words++;
+    CHECK(withdraw(4) == BEAD_SIZE_REFUSED);
+    lock_words--;
+    CHECK(format(2, 3, 8, 8, 4) == BEAD_OK);
+    lock_words++;
+    CHECK(withdraw(4) == BEAD_LENGTH_REFUSED);
+    lock_words--;
+    test_lengths(withdraw_refusal);
+    CHECK(withdraw(4) == BEAD_PARTY_REFUSED);
+    CHECK(withdraw(UINT32_MAX) == BEAD_PARTY_REFUSED);
+    file.root.level = 9;
+    CHECK(withdraw(3) == BEAD_IDLE_REFUSED);
+    file.root.level = 0;
+    CHECK(begin(3, BEAD_FIND, 7) == BEAD_OK);
+    CHECK(step_until(3, 9).outcome == BEAD_MOVED);
+    file.root.level = 9;
+    CHECK(withdraw(3) == BEAD_DECIDED_REFUSED);
+    file.parties[3].step = 1;
+    CHECK(withdraw(3) == BEAD_DAMAGE);
+    file.parties[3].operation = BEAD_DELETE;
+    file.parties[3].step = 31;
+    CHECK(withdraw(3) == BEAD_DECIDED_REFUSED);
+}
+
+/* A party's operation, begun and stepped up to a step number, is withdrawn; every word is as before its begin. */
+static void test_taken_back(uint32_t operation, uint32_t key, uint32_t number)
+{
+    static struct memory found;
+    memcpy(&found, &file, sizeof file);
+    CHECK(begin(0, operation, key) == BEAD_OK);
+    if (number != 1)
+        CHECK(step_until(0, number).outcome == BEAD_MOVED && file.parties[0].step == number);
+    CHECK(withdraw(0) == BEAD_OK);
+    CHECK(memcmp(&found, &file, sizeof file) == 0);
+}
+
+/* Each operation withdrawn before each step up to its decisive one, and refused from there on. At step 11 the insert
+ * has built three overflow pages, the delete one. */
+static void test_withdrawn(void)
+{
+    const uint32_t before_change[] = {1, 2, 3, 4, 5, 6, 10, 11};
+    make(1, 1, 1, 5, 1);
+    CHECK(ends(BEAD_INSERT, 4, BEAD_INSERTED, BEAD_NO_RESTRUCTURING));
+    CHECK(ends(BEAD_INSERT, 6, BEAD_INSERTED, BEAD_SPLIT_SKIPPED));
+    CHECK(ends(BEAD_INSERT, 8, BEAD_INSERTED, BEAD_SPLIT_SKIPPED));
+    for (uint32_t number = 1; number <= 6; number++)
+        test_taken_back(BEAD_FIND, 4, number);
+    for (size_t i = 0; i < sizeof before_change / sizeof *before_change; i++) {
+        test_taken_back(BEAD_INSERT, 5, before_change[i]);
+        test_taken_back(BEAD_DELETE, 6, before_change[i]);
+    }
+    CHECK(begin(0, BEAD_INSERT, 5) == BEAD_OK);
+    CHECK(step_until(0, 12).outcome == BEAD_MOVED);
+    while (file.parties[0].operation != BEAD_IDLE) {
+        CHECK(withdraw(0) == BEAD_DECIDED_REFUSED);
+        CHECK(step(0).refusal == BEAD_OK);
+    }
+    CHECK(withdraw(0) == BEAD_IDLE_REFUSED);
+    CHECK(ends(BEAD_FIND, 5, BEAD_FOUND, BEAD_NO_RESTRUCTURING));
+}
+
+/* A word put in another's place is damage to a step, to a withdraw or to both; afterwards the memory is sound again. */
+static void test_damaged(uint32_t *place, uint32_t word)
+{
+    uint32_t sound = *place;
+    *place = word;
     CHECK(step(0).refusal == BEAD_DAMAGE);
-    *field = sound;
+    *place = sound;
+}
+static void test_withdraw_damaged(uint32_t *place, uint32_t word)
+{
+    uint32_t sound = *place;
+    *place = word;
+    CHECK(withdraw(0) == BEAD_DAMAGE);
+    *place = sound;
+}
+static void test_both_damaged(uint32_t *place, uint32_t word)
+{
+    test_damaged(place, word);
+    test_withdraw_damaged(place, word);
 }
 
 /* The fields of both records, each found by the damage that a word there alone can be. */
@@ -238,18 +326,22 @@ static void test_damage(void)
     make(1, 1, 2, 2, 1);
     CHECK(ends(BEAD_INSERT, 4, BEAD_INSERTED, BEAD_NO_RESTRUCTURING));
     CHECK(begin(0, BEAD_INSERT, 6) == BEAD_OK);
-    test_damaged(&file.root.level, 9);
-    test_damaged(&file.root.next, 1);
-    test_damaged(&file.root.free, 3);
-    test_damaged(&file.parties[0].operation, BEAD_DELETE + 1);
+    test_both_damaged(&file.root.level, 9);
+    test_both_damaged(&file.root.next, 1);
+    test_both_damaged(&file.root.free, 3);
+    test_both_damaged(&file.parties[0].operation, BEAD_DELETE + 1);
+    test_both_damaged(&file.parties[0].step, 9);
     test_damaged(&file.parties[0].step, 31);
-    test_damaged(&file.parties[0].lev, 10);
-    test_damaged(&file.parties[0].chain, 2);
-    test_damaged(&file.parties[0].other, 2);
-    test_damaged(&file.parties[0].owed, 4);
-    test_damaged(&file.parties[0].answer, BEAD_FOUND);
+    test_both_damaged(&file.parties[0].lev, 10);
+    test_both_damaged(&file.parties[0].chain, 2);
+    test_both_damaged(&file.parties[0].other, 2);
+    test_both_damaged(&file.parties[0].owed, 4);
+    test_both_damaged(&file.parties[0].answer, BEAD_FOUND);
     CHECK(step_until(0, 10).outcome == BEAD_MOVED);
     test_damaged(&file.root.head, 0);
+    CHECK(step_until(0, 11).outcome == BEAD_MOVED);
+    test_withdraw_damaged(&file.locks[1], 0);
+    test_withdraw_damaged(&file.root.free, 2);
     CHECK(step_until(0, 12).outcome == BEAD_MOVED);
     CHECK(file.parties[0].answer == BEAD_INSERTED && file.parties[0].owed == 1 && file.parties[0].old == 0);
     test_damaged(&file.parties[0].answer, BEAD_NO_ANSWER);
@@ -312,15 +404,34 @@ static void test_waiting(void)
     CHECK(step_until(1, 0).answer == BEAD_DELETED);
 }
 
+/* A withdraw ends another party's wait, and its own. */
+static void test_wait_withdrawn(void)
+{
+    make(1, 2, 2, 2, 3);
+    CHECK(begin(0, BEAD_INSERT, 4) == BEAD_OK);
+    CHECK(begin(1, BEAD_DELETE, 4) == BEAD_OK);
+    CHECK(begin(2, BEAD_INSERT, 6) == BEAD_OK);
+    CHECK(step_until(0, 11).outcome == BEAD_MOVED);
+    CHECK(step_until(1, 0).outcome == BEAD_WAITING);
+    CHECK(step_until(2, 0).outcome == BEAD_WAITING);
+    CHECK(withdraw(2) == BEAD_OK);
+    CHECK(step(1).outcome == BEAD_WAITING);
+    CHECK(withdraw(0) == BEAD_OK);
+    CHECK(step_until(1, 0).answer == BEAD_ABSENT);
+}
+
 int main(void)
 {
     test_format();
     test_begin();
     test_step();
+    test_withdraw();
+    test_withdrawn();
     test_damage();
     test_answers();
     test_settings();
     test_waiting();
+    test_wait_withdrawn();
     if (failures == 0)
         printf("face: %u checks of the C face hold\n", checks);
     return failures == 0 ? 0 : 1;

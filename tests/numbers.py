@@ -1,6 +1,6 @@
 """Prints C static assertions that include/bead_index.h has the numbers of the proved sources (crates/model/src/lib.rt and crates/bead/src/lib.rt): each
 constant by its name with BEAD_ before it, each restructuring, and the fields of the records and of the reply in their places. Ends with 1 where the header
-has a number that no source has. Usage: numbers.py ROOT"""
+has a number that no source has, or lacks a refusal or a call that the sources have. Usage: numbers.py ROOT"""
 import re
 import sys
 from pathlib import Path
@@ -33,6 +33,10 @@ def main():
     strange = [name for name in named if name not in known]
     for name in strange:
         print(f"numbers.py: BEAD_{name} of the header stands in no source", file=sys.stderr)
+    lacking = [f"BEAD_{name}" for name in known if name.endswith("_REFUSED") and name not in named]
+    lacking += [call for call in re.findall(r'extern "C" fn (\w+)', source) if not re.search(rf"^[^/* ].* {call}\(struct", header, re.M)]
+    for name in lacking:
+        print(f"numbers.py: the header lacks {name}", file=sys.stderr)
     print('#include "bead_index.h"')
     for name in named:
         if name not in strange:
@@ -42,7 +46,7 @@ def main():
         for place, field in enumerate(listed):
             print(f'_Static_assert(offsetof(struct {name}, {field}) == {4 * place}, "{name}: {field} is in word {place}");')
         print(f'_Static_assert(sizeof(struct {name}) == {4 * len(listed)}, "{name} has {len(listed)} words");')
-    return 1 if strange or not named else 0
+    return 1 if strange or lacking or not named else 0
 
 
 sys.exit(main())

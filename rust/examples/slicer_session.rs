@@ -1,8 +1,8 @@
 //! A slicing session on one file: two nozzles lay a wall bead by bead, a preview looks at it while it grows, and an
-//! export writes it down once all are at rest. A key is a bead's place: its course times 100 plus its column. Its
-//! setting is the nozzle's, from 1 to 9: how far it stood open.
+//! export writes it down once all are at rest and the preview is closed. A key is a bead's place: its course times 100
+//! plus its column. Its setting is the nozzle's, from 1 to 9: how far it stood open.
 
-use bead_index::{Answer, File, Operation, Outcome, Refusal, Sizes};
+use bead_index::{Answer, Error, File, Operation, Outcome, Refusal, Sizes};
 use std::collections::{HashMap, VecDeque};
 
 const COURSES: u32 = 3;
@@ -97,6 +97,26 @@ impl Preview {
         }
         Ok(())
     }
+
+    /// Closes the preview: nobody wants its answers any more. A find that has taken its decisive step ends first.
+    fn close(&mut self, file: &mut File) -> Result<(), Error> {
+        self.worker.plan.clear();
+        let party = self.worker.party;
+        if let Some(under_way) = file.under_way(party)? {
+            let operation = under_way.operation;
+            match file.withdraw(party) {
+                Ok(()) => println!("the preview is closed: {operation} is withdrawn"),
+                Err(Refusal::Decided) => {
+                    println!(
+                        "the preview is closed after {operation}: {}",
+                        file.finish(party)?
+                    )
+                }
+                Err(refusal) => return Err(refusal.into()),
+            }
+        }
+        Ok(())
+    }
 }
 
 /// What both nozzles do for a course.
@@ -144,7 +164,7 @@ fn lay(
 }
 
 /// The wall as the file has it, the top course first.
-fn export(file: &File) -> Result<(), bead_index::Error> {
+fn export(file: &File) -> Result<(), Error> {
     let beads: HashMap<u32, u32> = file.records()?.collect();
     println!(
         "export: {} beads, in {} chains",
@@ -158,7 +178,7 @@ fn export(file: &File) -> Result<(), bead_index::Error> {
     Ok(())
 }
 
-fn main() -> Result<(), bead_index::Error> {
+fn main() -> Result<(), Error> {
     let sizes = Sizes::new()
         .original_chains(2)
         .records_a_page(4)
@@ -185,9 +205,7 @@ fn main() -> Result<(), bead_index::Error> {
     if let Err(error) = export(&file) {
         println!("no export yet: {error}");
     }
-    while !preview.worker.is_done(&file)? {
-        preview.turn(&mut file)?;
-    }
+    preview.close(&mut file)?;
     for worker in nozzles.iter().chain([&preview.worker]) {
         println!("the {} waited {} times", worker.name, worker.waits);
     }

@@ -27,10 +27,12 @@ pub enum Refusal {
     Length = 1,
     /// The party's number is not below the number of parties.
     Party = 3,
-    /// An operation is begun for a party whose last one is not done.
+    /// An operation is begun for a party that has one under way.
     Busy = 4,
-    /// A step is asked of a party that has no operation under way.
+    /// A step or a withdraw is asked of a party that has no operation under way.
     Idle = 5,
+    /// An operation is withdrawn that has taken its decisive step.
+    Decided = 7,
     /// A number that the call needs is damaged. Where only the library wrote, that does not happen.
     Damage = 6,
 }
@@ -52,6 +54,7 @@ impl Refusal {
             4 => Refusal::Busy,
             5 => Refusal::Idle,
             6 => Refusal::Damage,
+            7 => Refusal::Decided,
             _ => unknown("refusal", number),
         })
     }
@@ -65,6 +68,7 @@ impl fmt::Display for Refusal {
             Refusal::Party => "there is no such party",
             Refusal::Busy => "the party's last operation is not done",
             Refusal::Idle => "the party has no operation under way",
+            Refusal::Decided => "the party's operation has taken its decisive step",
             Refusal::Damage => "a number in the file is damaged",
         };
         write!(out, "{cause} (refusal {})", self.number())
@@ -80,7 +84,7 @@ pub enum Error {
     /// A call was refused.
     Refused(Refusal),
     /// The operation waits for other parties. It stays under way: step those, then call
-    /// [`finish`](crate::File::finish).
+    /// [`finish`](crate::File::finish), or [`withdraw`](crate::File::withdraw) it.
     Waits(Wait),
     /// The operation is done and changed nothing: too few overflow pages are free to write the chain anew.
     NoPage,
@@ -131,7 +135,7 @@ mod tests {
 
     #[test]
     fn refusals_have_the_numbers_of_the_table() {
-        for number in 1..=6 {
+        for number in 1..=7 {
             assert_eq!(Refusal::check(number).unwrap_err().number(), number);
         }
         assert_eq!(Refusal::check(0), Ok(()));

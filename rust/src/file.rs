@@ -9,7 +9,8 @@ use crate::sys;
 /// A file of keys and their settings. It owns its memory, unless it is a [`FileRef`]; both do the same.
 ///
 /// [`find`](File::find), [`insert`](File::insert) and [`delete`](File::delete) run an operation to its end.
-/// [`begin`](File::begin) and [`step`](File::step) take one step at a time, for parties in any order.
+/// [`begin`](File::begin) and [`step`](File::step) take one step at a time, for parties in any order, and
+/// [`withdraw`](File::withdraw) takes back an operation that is no longer wanted.
 #[derive(Clone)]
 pub struct File<M = Owned> {
     pub(crate) memory: M,
@@ -126,7 +127,7 @@ impl<M: Memory> File<M> {
     /// Begins an operation for a party. Parties are numbered from 0.
     ///
     /// # Errors
-    /// [`Refusal::Party`] where there is no such party, [`Refusal::Busy`] where its last operation is not done.
+    /// [`Refusal::Party`] where there is no such party, [`Refusal::Busy`] where it has an operation under way.
     pub fn begin(&mut self, party: u32, operation: Operation) -> Result<(), Refusal> {
         Refusal::check(sys::begin(
             self.memory.lent(),
@@ -154,6 +155,46 @@ impl<M: Memory> File<M> {
             },
             number => unknown("outcome", number),
         })
+    }
+
+    /// Withdraws a party's operation: takes back its [`begin`](File::begin). The locks that it holds are given up, the
+    /// pages that it has built are free again, and the party is idle; there is no answer, and no key and no setting is
+    /// altered. Where no other party's call came since the begin, every word of the file is what it was before it.
+    ///
+    /// Once it has taken its decisive step an operation cannot be withdrawn, and goes on to its end: a find when the
+    /// number of its next step is 9, an insert or a delete when that is 12 or above.
+    ///
+    /// ```
+    /// use bead_index::{Answer, Error, File, Operation, Refusal, Sizes};
+    ///
+    /// # fn main() -> Result<(), Error> {
+    /// let mut file = File::new(Sizes::new().parties(2))?;
+    /// file.insert(7, 40)?;
+    /// let before = file.words().to_vec();
+    /// file.begin(1, Operation::find(7))?;
+    /// for _ in 0..5 {
+    ///     let _ = file.step(1)?;
+    /// }
+    /// file.withdraw(1)?; // nobody waits for the answer any more
+    /// assert_eq!(file.words(), before);
+    ///
+    /// file.begin(1, Operation::find(7))?;
+    /// for _ in 0..6 {
+    ///     let _ = file.step(1)?; // the sixth step reads the page on which the key stands or is missing
+    /// }
+    /// assert_eq!(file.withdraw(1), Err(Refusal::Decided));
+    /// assert_eq!(file.finish(1)?, Answer::Found { setting: 40 });
+    /// # Ok(())
+    /// # }
+    /// ```
+    ///
+    /// # Errors
+    /// [`Refusal::Party`] where there is no such party, [`Refusal::Idle`] where it has no operation under way,
+    /// [`Refusal::Decided`] where that has taken its decisive step, [`Refusal::Damage`] where something else than the
+    /// library wrote to the memory and the withdraw met with it.
+    #[doc(alias = "cancel")]
+    pub fn withdraw(&mut self, party: u32) -> Result<(), Refusal> {
+        Refusal::check(sys::withdraw(self.memory.lent(), party))
     }
 
     /// The same file for somebody else, for a while.

@@ -47,6 +47,9 @@
 //! # }
 //! ```
 //!
+//! An operation that nobody wants any more is [withdrawn](File::withdraw), up to its decisive step: the file is then
+//! as if it had not been begun.
+//!
 //! [`FileRef`] is the same over memory that the caller owns, such as a mapped file. Nothing is kept elsewhere: the
 //! words of a file are the file.
 //!
@@ -72,9 +75,9 @@
 //! # What is proved, and what is not
 //!
 //! The library that this crate links is proved: what each call leaves in every word, and what that means for all
-//! parties together. This crate is plain Rust over it. Its calls ([`File::begin`], [`File::step`] and making a file)
-//! pass words on and turn numbers into names; what reads the words itself ([`File::wait`], [`File::records`], `Debug`) is
-//! tested.
+//! parties together. This crate is plain Rust over it. Its calls ([`File::begin`], [`File::step`], [`File::withdraw`]
+//! and making a file) pass words on and turn numbers into names; what reads the words itself ([`File::wait`],
+//! [`File::records`], `Debug`) is tested.
 //!
 //! # Stack
 //!

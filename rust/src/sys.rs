@@ -56,6 +56,17 @@ extern "C" {
         page_words: usize,
         party: u32,
     ) -> Reply;
+
+    fn bead_withdraw(
+        root: *mut RootRecord,
+        party_row: *mut PartyRecord,
+        parties: usize,
+        locks: *mut u32,
+        lock_words: usize,
+        pages: *mut u32,
+        page_words: usize,
+        party: u32,
+    ) -> u32;
 }
 
 /// Makes an empty file in the lent memory: 0, or the number of the refusal.
@@ -123,6 +134,29 @@ pub(crate) fn step(lent: Lent<'_>, party: u32) -> Reply {
     // SAFETY: as in `format`.
     unsafe {
         bead_step(
+            root,
+            parties.as_mut_ptr(),
+            parties.len(),
+            locks.as_mut_ptr(),
+            locks.len(),
+            pages.as_mut_ptr(),
+            pages.len(),
+            party,
+        )
+    }
+}
+
+/// Withdraws a party's operation: 0, or the number of the refusal.
+pub(crate) fn withdraw(lent: Lent<'_>, party: u32) -> u32 {
+    let Lent {
+        root,
+        parties,
+        locks,
+        pages,
+    } = lent;
+    // SAFETY: as in `format`.
+    unsafe {
+        bead_withdraw(
             root,
             parties.as_mut_ptr(),
             parties.len(),

@@ -155,10 +155,28 @@ fn a_circle_of_pages_ends() {
     assert_eq!(file.records().unwrap_err(), Error::UnderWay { party: 0 });
 }
 
+/// Withdraws a party's operation in a copy of the file, and counts what comes of it: withdrawn, or refused for damage.
+fn withdraw_from_copy(file: &File, party: u32, met: &mut [usize; 5]) {
+    let mut copy = file.clone();
+    match copy.withdraw(party) {
+        Ok(()) => {
+            assert_eq!(copy.under_way(party), Ok(None));
+            met[3] += 1;
+        }
+        Err(refusal) => {
+            assert!(
+                copy.words() == file.words(),
+                "a refused withdraw altered a word"
+            );
+            met[4] += usize::from(refusal == Refusal::Damage);
+        }
+    }
+}
+
 #[test]
 fn any_words_are_read_without_harm() {
     let mut random = Random::new(11);
-    let mut met = [0; 3];
+    let mut met = [0; 5];
     for round in 0..600 {
         let mut words = busy_words(&mut random);
         // Half the rounds alter lock words and records, half any word; the sizes stay.
@@ -176,6 +194,9 @@ fn any_words_are_read_without_harm() {
             };
         }
         let mut file = File::from_words(words).unwrap();
+        for party in 0..3 {
+            withdraw_from_copy(&file, party, &mut met);
+        }
         for turn in 0..30 {
             let _ = (file.records().map(Iterator::count), format!("{file:#?}"));
             let waits = file.wait(turn % 3).is_some();
@@ -192,6 +213,6 @@ fn any_words_are_read_without_harm() {
     }
     assert!(
         met.iter().all(|&times| times > 100),
-        "moved, waited, refused: {met:?}"
+        "moved, waited, refused, withdrawn, not withdrawn for damage: {met:?}"
     );
 }

@@ -99,6 +99,10 @@ fn no_such_party() {
             unaltered(&mut file, |file| file.step(party)),
             Err(Refusal::Party)
         );
+        assert_eq!(
+            unaltered(&mut file, |file| file.withdraw(party)),
+            Err(Refusal::Party)
+        );
         assert_eq!(file.under_way(party), Err(Refusal::Party));
         assert_eq!(file.wait(party), None);
         assert_eq!(
@@ -114,6 +118,10 @@ fn a_busy_and_an_idle_party() {
     let mut file = file();
     assert_eq!(
         unaltered(&mut file, |file| file.step(1)),
+        Err(Refusal::Idle)
+    );
+    assert_eq!(
+        unaltered(&mut file, |file| file.withdraw(1)),
         Err(Refusal::Idle)
     );
     assert_eq!(file.finish(1), Err(Error::Refused(Refusal::Idle)));
@@ -139,9 +147,52 @@ fn a_damaged_number() {
         unaltered(&mut damaged, |file| file.step(0)),
         Err(Refusal::Damage)
     );
+    assert_eq!(
+        unaltered(&mut damaged, |file| file.withdraw(0)),
+        Err(Refusal::Damage)
+    );
     assert_eq!(damaged.chain_count(), Err(Refusal::Damage));
     assert_eq!(damaged.wait(0), None);
     assert!(format!("{damaged:?}").contains("level: 9"));
+}
+
+#[test]
+fn a_decided_operation() {
+    for (operation, steps, answer) in [
+        (Operation::find(4), 6, Answer::Found { setting: 40 }),
+        (Operation::find(6), 6, Answer::Absent),
+        (Operation::insert(4, 45), 7, Answer::Present),
+        (Operation::insert(6, 45), 8, Answer::Inserted),
+        (Operation::delete(6), 7, Answer::Absent),
+        (Operation::delete(4), 8, Answer::Deleted),
+    ] {
+        let mut file = file();
+        file.insert(4, 40).unwrap();
+        file.begin(1, operation).unwrap();
+        for _ in 0..steps {
+            assert_eq!(file.step(1), Ok(Outcome::Moved));
+        }
+        assert_eq!(
+            unaltered(&mut file, |file| file.withdraw(1)),
+            Err(Refusal::Decided),
+            "{operation}"
+        );
+        assert_eq!(file.finish(1), Ok(answer), "{operation}");
+    }
+}
+
+#[test]
+fn a_decided_operation_in_damaged_memory() {
+    let mut file = file();
+    file.begin(0, Operation::find(4)).unwrap();
+    for _ in 0..6 {
+        assert_eq!(file.step(0), Ok(Outcome::Moved));
+    }
+    let mut words = file.into_words();
+    words[5] = 9; // level
+    let mut damaged = File::from_words(words).expect("the sizes and the length are sound");
+    assert_eq!(damaged.withdraw(0), Err(Refusal::Decided));
+    assert_eq!(damaged.step(0), Err(Refusal::Damage));
 }
 
 #[test]

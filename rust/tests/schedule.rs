@@ -1,9 +1,10 @@
 //! Parties in a random order against a plain map: every answer is the one that the map gives at the operation's
-//! decisive step, a party waits exactly where it is said to, and somebody can always move.
+//! decisive step, a party waits exactly where it is said to, somebody can always move, and a withdrawn operation leaves
+//! the map as it was.
 
 mod common;
 
-use bead_index::{Answer, File, Kind, Operation, Outcome, Restructuring, Sizes, UnderWay};
+use bead_index::{Answer, File, Kind, Operation, Outcome, Refusal, Restructuring, Sizes, UnderWay};
 use common::Random;
 use std::collections::hash_map::Entry;
 use std::collections::{HashMap, HashSet};
@@ -63,6 +64,10 @@ struct Met {
     waits: usize,
     answers: Vec<Answer>,
     restructurings: Vec<Restructuring>,
+    /// The steps before which an operation was withdrawn.
+    withdrawn: HashSet<u32>,
+    /// The steps before which a withdraw was refused.
+    decided: HashSet<u32>,
 }
 
 impl Met {
@@ -142,6 +147,34 @@ impl Run {
         }
     }
 
+    /// Withdraws a party's operation, and its entry goes from the book; a find at 9 and a change at 12 or above are
+    /// refused, and alter nothing.
+    fn withdraw(&mut self, party: u32, under_way: UnderWay) {
+        let decided = match under_way.operation.kind() {
+            Kind::Find => under_way.step == 9,
+            Kind::Insert | Kind::Delete => under_way.step >= 12,
+        };
+        let before = decided.then(|| self.file.words().to_vec());
+        let withdrawn = self.file.withdraw(party);
+        if let Some(before) = before {
+            assert_eq!(
+                withdrawn,
+                Err(Refusal::Decided),
+                "party {party}, {under_way}"
+            );
+            assert!(
+                self.file.words() == before,
+                "a refused withdraw altered a word"
+            );
+            self.met.decided.insert(under_way.step);
+        } else {
+            assert_eq!(withdrawn, Ok(()), "party {party}, {under_way}");
+            assert_eq!(self.file.under_way(party), Ok(None));
+            self.book.notes[party as usize] = None;
+            self.met.withdrawn.insert(under_way.step);
+        }
+    }
+
     /// Brings every operation to its end, in rounds; in each somebody moves.
     fn settle(&mut self) {
         while !self.file.is_at_rest() {
@@ -182,6 +215,7 @@ impl Run {
         for turn in 0..turns {
             let party = self.random.below(self.file.sizes().parties);
             match self.file.under_way(party).unwrap() {
+                Some(under_way) if self.random.below(40) == 0 => self.withdraw(party, under_way),
                 Some(under_way) => self.step(party, under_way),
                 None => self.begin(party, keys, turn / 2000 % 2 == 0),
             }
@@ -216,6 +250,8 @@ fn every_order_answers_as_a_map_does() {
         all.waits += run.met.waits;
         all.answers.append(&mut run.met.answers);
         all.restructurings.append(&mut run.met.restructurings);
+        all.withdrawn.extend(run.met.withdrawn);
+        all.decided.extend(run.met.decided);
     }
     let answers: HashSet<_> = all.answers.iter().map(mem::discriminant).collect();
     let restructurings: HashSet<_> = all.restructurings.iter().collect();
@@ -226,6 +262,20 @@ fn every_order_answers_as_a_map_does() {
         all.answers
     );
     assert!(all.waits > 1000, "only {} waits", all.waits);
+    assert!(
+        [1, 2, 3, 4, 5, 6, 10, 11]
+            .iter()
+            .all(|step| all.withdrawn.contains(step)),
+        "withdrawn before {:?} alone",
+        all.withdrawn
+    );
+    assert!(
+        [9, 12, 13, 14, 15, 16, 23, 24]
+            .iter()
+            .all(|step| all.decided.contains(step)),
+        "refused before {:?} alone",
+        all.decided
+    );
 }
 
 #[test]

@@ -12,6 +12,7 @@ PATTERNS = {
     "format": re.compile(rb"\(format " + rb" ".join([NUMBER] * 5) + rb"\)"),
     "begin": re.compile(rb"\(begin " + NUMBER + rb" \((?:(find|delete) " + NUMBER + rb"|(insert) " + NUMBER + rb" " + NUMBER + rb")\)\)"),
     "step": re.compile(rb"\(step " + NUMBER + rb"\)"),
+    "withdraw": re.compile(rb"\(withdraw " + NUMBER + rb"\)"),
 }
 PRINTED = rb"(0|[1-9][0-9]{0,9})"
 REFUSED = re.compile(rb"\(refused " + PRINTED + rb"\)")
@@ -37,8 +38,9 @@ REPLIES = {
     "format": {"ok": "FormatAnswer.Formatted"},
     "begin": {"ok": "BeginAnswer.Begun"},
     "step": {"waiting": "StepAnswer.Waiting", "moved": "StepAnswer.Moved", **DONE},
+    "withdraw": {"ok": "WithdrawAnswer.Withdrawn"},
 }
-ANSWER_TYPES = {"format": "FormatAnswer", "begin": "BeginAnswer", "step": "StepAnswer"}
+ANSWER_TYPES = {"format": "FormatAnswer", "begin": "BeginAnswer", "step": "StepAnswer", "withdraw": "WithdrawAnswer"}
 
 
 # A form that was read: its kind, its numbers in order, and the operation of a begin: party, key and, of an insert, the setting.

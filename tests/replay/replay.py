@@ -13,7 +13,7 @@ from forms import UNREAD, lines_of, read_form, read_reply
 # these use up; the bound also keeps a transcript to seconds.
 BOUND = 500_000
 
-# Tests of a run that must be true of every stretch of begins and steps after a format: `m` is the memory that the format left, `calls` the stretch.
+# Tests of a run that must be true of every stretch of begins, steps and withdraws after a format: `m` is the memory that the format left, `calls` the stretch.
 # A test is passed over where the definitions do not have its names.
 CHECKS = [
     "Book.bookAgrees Book.emptyBook (Runs.events m calls)",
@@ -21,6 +21,7 @@ CHECKS = [
     "Progress.alwaysProgresses (m .root .parties) Book.emptyBook m calls",
     "Holds.grantsRight (m .root) Book.emptyBook [] m calls",
     "NoPage.noPageKept NoPage.noneWrote (Runs.events m calls)",
+    "Withdrawals.withdrawnUnwritten NoPage.noneWrote (Runs.events m calls)",
 ]
 
 # The fields of a root record and of a party's record, in the order of the words in a file of single calls.
@@ -35,8 +36,8 @@ use Prim.Native.Nat.{ℕ, _+_, _*_}
 use lib.ListN.{replicate}
 """
 MODULES = ["Sizes", "Records", "Memory", "Calls", "Runs"]
-TYPES = ["Root", "Party", "FormatAnswer", "BeginAnswer", "StepAnswer"]
-ENUMS = ["Operation", "OperationAnswer", "Restructuring", "FormatAnswer", "BeginAnswer", "StepAnswer"]
+TYPES = ["Root", "Party", "FormatAnswer", "BeginAnswer", "StepAnswer", "WithdrawAnswer"]
+ENUMS = ["Operation", "OperationAnswer", "Restructuring", "FormatAnswer", "BeginAnswer", "StepAnswer", "WithdrawAnswer"]
 
 HARNESS = """
 data Form : Type 0 where
@@ -47,6 +48,7 @@ data Reply : Type 0 where
   toFormat : FormatAnswer → Reply
   toBegin : BeginAnswer → Reply
   toStep : StepAnswer → Reply
+  toWithdraw : WithdrawAnswer → Reply
 
 abbrev memory : Root → List Party → List ℕ → List ℕ → Memory.Memory
 memory r ps ls ws = record { root = r; parties = ps; locks = ls; pages = ws }
@@ -73,6 +75,7 @@ replies m [] = []
 replies m (format n b p v q ∷ fs) = (let c = Calls.formatCall (lent m n b p v q) n b p v q in toFormat (c .answer) ∷ replies (kept m c) fs)
 replies m (call (Runs.beginFor q o k) ∷ fs) = (let c = Calls.beginCall m q o k in toBegin (c .answer) ∷ replies (c .memory) fs)
 replies m (call (Runs.stepFor q) ∷ fs) = (let c = Calls.stepCall m q in toStep (c .answer) ∷ replies (c .memory) fs)
+replies m (call (Runs.withdrawFor q) ∷ fs) = (let c = Calls.withdrawCall m q in toWithdraw (c .answer) ∷ replies (c .memory) fs)
 """
 
 
@@ -90,7 +93,7 @@ def spaced(numbers):
 def run_call(form):
     if form.kind == "begin":
         return f"Runs.beginFor {form.numbers[0]} {form.operation_term()} {form.numbers[1]}"
-    return f"Runs.stepFor {form.numbers[0]}"
+    return f"Runs.{form.kind}For {form.numbers[0]}"
 
 
 def form_term(form):

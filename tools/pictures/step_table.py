@@ -1,6 +1,7 @@
-"""The thirty steps as the picture has them: of each its lane, the locks held when its turn comes, those that it requests and gives up, and where it leads.
-What the tree says of the steps is read beside it, and a difference is an error: the rows of docs/STEPS.md (numbers and words), the next steps in
-docs/SPECIFICATION.md, and the locks held by step number in the invariant (claimTable).
+"""The thirty steps as the picture has them: of each its lane, the locks held when its turn comes, those that it requests and gives up, and where it leads;
+and before which of them an operation can be withdrawn. What the tree says of the steps is read beside it, and a difference is an error: the rows of
+docs/STEPS.md (numbers and words), the next steps in docs/SPECIFICATION.md, and in the definitions the locks held by step number (claimTable) and the
+steps that come after the decisive one (isDecided).
 A lock is a word and a mode: R read, S selective, X exclusive; R/S is an operation's own mode, read for a find and selective otherwise."""
 import re
 from collections import namedtuple
@@ -39,7 +40,9 @@ STEPS = [
     Step(29, 'merge', holds='root S, target X, partner X', to=(30,)),
     Step(30, 'merge', holds='root S, target X, partner X', gives='root S, target X, partner X', ends=True),
 ]
-# The names that the invariant has for lists of locks, with the locks in the order in which the table has them.
+# Before these an operation can be withdrawn: the locks held are given up, and at 11 the pages built go back.
+WITHDRAWN = {1, 2, 3, 4, 5, 6, 7, 8, 10, 11}
+# The names that the definitions have for lists of locks, with the locks in the order in which the table has them.
 CLAIMS = {
     'noLock': '', 'onRoot rootRead': 'root R', 'onRootAndChain': 'root R, chain R/S', 'onChain': 'chain R/S', 'onOther': 'other R/S',
     'onBoth': 'other R/S, chain R/S', 'onChainExclusive': 'chain X', 'onRoot rootSelective': 'root S', 'splitting': 'root S, chain S',
@@ -77,23 +80,32 @@ def own_mode(lock, step):
     return lock.replace('R/S', mode) if mode else lock
 
 
-def held_by_invariant(text):
-    """The locks held by step number, from the invariant's claimTable."""
+def held_by_claims(text):
+    """The locks held by step number, from the claimTable."""
     table = re.search(r'^claimTable =\n(.*?)\[\]', text, re.M | re.S)
     if not table:
-        raise Wrong('no claimTable in the invariant\'s file of claims')
+        raise Wrong('no claimTable in specs/Claims.antt')
     names = [' '.join(name.split()) for name in table[1].split('∷')][:-1]
     if unknown := [name for name in names if name not in CLAIMS]:
-        raise Wrong(f'the claimTable of the invariant has {unknown[0]}, which the picture of the steps does not know')
+        raise Wrong(f'the claimTable has {unknown[0]}, which the picture of the steps does not know')
     return [CLAIMS[name] for name in names]
+
+
+def decided(text):
+    """The numbers of the steps that come after the decisive one, from isDecided: a find's at one number, a change's from one on."""
+    definition = re.search(r'^isDecided p =\n(.*?)\n\n', text, re.M | re.S)
+    find, change = (re.search(pattern, definition[1] if definition else '') for pattern in (r'eqb \(p \.step\) (\d+)', r'leb (\d+) \(p \.step\)'))
+    if not (find and change):
+        raise Wrong('no isDecided in specs/Withdraw.antt that the picture of the steps can read')
+    return {step.number for step in STEPS if step.number == int(find[1]) or step.number >= int(change[1])}
 
 
 def compare(root):
     """Refuses a table that says other than the tree. What docs/STEPS.md says of each step, by number."""
-    files = sorted(root.glob('crates/*/proofs/Invariant/Claims.antt'))
-    if not files:
-        raise Wrong('no crate has proofs/Invariant/Claims.antt')
-    held = held_by_invariant(files[0].read_text())
+    specs = root / 'crates/model/specs'
+    held = held_by_claims((specs / 'Claims.antt').read_text())
+    if decided((specs / 'Withdraw.antt').read_text()) != {step.number for step in STEPS} - WITHDRAWN:
+        raise Wrong('isDecided is true of other steps than those before which, in the picture, an operation cannot be withdrawn')
     after = next_steps((root / 'docs/SPECIFICATION.md').read_text())
     rows = words_of_rows((root / 'docs/STEPS.md').read_text())
     for step in STEPS:
@@ -101,5 +113,5 @@ def compare(root):
         if (set(step.to), step.ends) != (to, ends):
             raise Wrong(f'step {step.number} leads to {sorted(to)} in docs/SPECIFICATION.md and to {list(step.to)} in the picture, or ends in one of them only')
         if len(held) <= step.number or own_mode(held[step.number], step) != step.holds.replace('target', 'chain').replace('partner', 'other'):
-            raise Wrong(f'step {step.number} holds other locks in the claimTable of the invariant than in the picture')
+            raise Wrong(f'step {step.number} holds other locks in the claimTable than in the picture')
     return rows

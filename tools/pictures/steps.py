@@ -1,6 +1,6 @@
 """The thirty steps as an automaton: a lane a group of steps, a box a step with the words of docs/STEPS.md and its locks, an arrow wherever one step leads to another."""
 from locks import TALL, plate, plate_width
-from step_table import STEPS, compare
+from step_table import STEPS, WITHDRAWN, compare
 from svg import Picture, width_of, wrapped
 from wrong import Wrong
 
@@ -11,7 +11,7 @@ LANES = {
 }
 COLUMNS, WIDE, INSET = (36, 262, 480, 690), 184, 8
 WORDS, PITCH, SIZE = WIDE - 41, 14, 11.5
-TOP, GAP, HEAD = 196, 24, 66
+TOP, GAP, HEAD = 221, 24, 66
 DECISIVE = {6, 10, 11}
 NUMBERED = {step.number: step for step in STEPS}
 
@@ -86,11 +86,18 @@ def draw_box(picture, places, step, rows):
             at += plate(picture, at, bottom - 5 - (len(lines) - k) * (TALL + 3) + 2, lock, form) + 4
     if step.ends:
         draw_end(picture, x + 17, y + 40)
+    if step.number in WITHDRAWN:
+        draw_back(picture, right - 10, bottom - 10)
 
 
 def draw_end(picture, x, y):
     picture.circle(x, y, 7, 'ring')
     picture.circle(x, y, 3.5, 'accent')
+
+
+def draw_back(picture, x, y):
+    """A hook that leads back: its lower right corner is at x and y."""
+    picture.path([(x, y - 10), (x, y), (x - 17, y)])
 
 
 def straight(step, to, places):
@@ -155,12 +162,14 @@ def draw_legend(picture):
     picture.text(48, 113, 'may end the operation; no lock is kept then', 12, 'soft')
     picture.circle(320, 109, 7, 'accent')
     picture.text(333, 113, 'where an operation can take effect: a find at its last 6, a change at 10 or 11', 12, 'soft')
+    draw_back(picture, 43, 137)
+    picture.text(54, 138, 'may be withdrawn before it: all locks held are given up, at 11 the pages built go back, and the party is idle', 12, 'soft')
 
 
 def draw(root):
     rows = compare(root)
     places = Places(rows)
-    picture = Picture('The thirty steps and the locks at each', 'Find goes by steps 1 to 9, insert by 1 to 8 and 10 to 22, delete by 1 to 8, 10 to 14 and 23 to 30.')
+    picture = Picture('The thirty steps and the locks at each', 'Find goes by steps 1 to 9, insert by 1 to 8 and 10 to 22, delete by 1 to 8, 10 to 14 and 23 to 30. An operation can be withdrawn before 1 to 8, 10 and 11.')
     draw_legend(picture)
     for lane in LANES:
         draw_lane(picture, places, lane)

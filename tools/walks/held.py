@@ -1,20 +1,20 @@
-"""The walks of `held::format`, `held::begin` and `held::step`: the root and the first records of the row, in locals, are lent for one call of `index`, and come back."""
+"""The walks of `held::format`, `held::begin`, `held::step` and `held::withdraw`: the root and the first records of the row, in locals, are lent for one call of `index`, and come back."""
 from itertools import count as numbers_from
 from function import Function
 from lending import Borrowed, Lender, Records
-from rows import ROOT, PARTY, SIZES, OPERATION, FORMAT_ANSWER, BEGIN_ANSWER, STEP_ANSWER, HELD, HELD_FORMAT, HELD_BEGIN, HELD_STEP
+from rows import ROOT, PARTY, SIZES, OPERATION, FORMAT_ANSWER, BEGIN_ANSWER, STEP_ANSWER, WITHDRAW_ANSWER, HELD, HELD_FORMAT, HELD_BEGIN, HELD_STEP, HELD_WITHDRAW
 from shapes import U32, USIZE, Callee, Lent, Plain, number
 
 FIRST, LONG, ROW_OF = '(lentRow n (f .row))', '(row-length (f .row) (row-of f is-f))', '(row-of f is-f)'
 FEW = f'n (f .row) (counted .1) {LONG}'
 RECORDS = Records()
-USES = [('Rattle.model.specs.Calls', 'called beginCall stepCall'), ('Rattle.calls.specs.Lent', 'lent'), ('SPECS.Held', 'recordsLent memoryOf firstOf heldFormat heldBegin heldStep'),
-        ('CRATE.Rows', 'Row rowMir rowVal row-typed row-length first-length first-room root-of row-of parties-of sizes-parties held-made format-made begin-made step-made'),
+USES = [('Rattle.model.specs.Calls', 'called beginCall stepCall withdrawCall'), ('Rattle.calls.specs.Lent', 'lent'), ('SPECS.Held', 'recordsLent memoryOf firstOf heldFormat heldBegin heldStep heldWithdraw'),
+        ('CRATE.Rows', 'Row rowMir rowVal row-typed row-length first-length first-room root-of row-of parties-of sizes-parties held-made format-made begin-made step-made withdraw-made'),
         ('CRATE.Lending', 'lentRow rowWith LentLies LentPart RestLies root-lies root-again shared-back row-cut row-joined'), ('CRATE.Ends', 'formatWith held-left')]
 
 
 class Held:
-    """One of the three. `rest` are its parameters after the words and `given` the text of their values, `index` and `held` the
+    """One of the four. `rest` are its parameters after the words and `given` the text of their values, `index` and `held` the
     definitions of the call, `parties` the number of parties (its text, its relation and the field that has it)."""
 
     def __init__(self, name, shared, rest, given, answer, result, index, held, parties, locals):
@@ -93,3 +93,4 @@ i, key, OF_ROOT = number('i'), number('key'), ('(f .root .parties)', '(parties-o
 Held('format', False, [Plain(SIZES, 'z', 'iz')], 'z', FORMAT_ANSWER, HELD_FORMAT, 'formatWith', 'heldFormat', ('(z .parties)', '(sizes-parties z iz)', (4, 4)), 19).write()
 Held('begin', True, [i, Plain(OPERATION, 'o', 'io'), key], 'i o key', BEGIN_ANSWER, HELD_BEGIN, 'beginCall', 'heldBegin', OF_ROOT, 18).write()
 Held('step', False, [i], 'i', STEP_ANSWER, HELD_STEP, 'stepCall', 'heldStep', OF_ROOT, 20).write()
+Held('withdraw', False, [i], 'i', WITHDRAW_ANSWER, HELD_WITHDRAW, 'withdrawCall', 'heldWithdraw', OF_ROOT, 20).write()

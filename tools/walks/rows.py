@@ -8,14 +8,17 @@ OPERATION = Declared('O', 'Operation', 'model', is_enum=True)
 FORMAT_ANSWER = Declared('F', 'FormatAnswer', 'model', is_enum=True)
 BEGIN_ANSWER = Declared('B', 'BeginAnswer', 'model', is_enum=True)
 STEP_ANSWER = Declared('N', 'StepAnswer', 'model', is_enum=True)
+WITHDRAW_ANSWER = Declared('G', 'WithdrawAnswer', 'model', is_enum=True)
 FORMATTED = Declared('X', 'Formatted', 'calls', fields=[('root', ROOT), ('answer', FORMAT_ANSWER)])
 BEGUN = Declared('X', 'Begun', 'calls', fields=[('party', PARTY), ('answer', BEGIN_ANSWER)])
 STEPPED = Declared('X', 'Stepped', 'model', fields=[('root', ROOT), ('party', PARTY), ('answer', STEP_ANSWER)])
+WITHDRAWN = Declared('X', 'Withdrawn', 'calls', fields=[('root', ROOT), ('party', PARTY), ('answer', WITHDRAW_ANSWER)])
 REPLY = Declared('Y', 'BeadReply', 'bead')
 HELD = Declared('D', 'Held', 'held')
 HELD_FORMAT = Declared('E', 'HeldFormat', 'held')
 HELD_BEGIN = Declared('E', 'HeldBegin', 'held')
 HELD_STEP = Declared('E', 'HeldStep', 'held')
+HELD_WITHDRAW = Declared('E', 'HeldWithdraw', 'held')
 
 
 def memory(root, row, words):

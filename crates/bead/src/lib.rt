@@ -1,10 +1,11 @@
 // The public calls for Rust and C: the calls of `index`, with numbers for what they are given and answer, since no enum crosses.
 // A lent record goes in as a pointer to a #[repr(C)] struct of words, nine for the root and ten for a party, a slice as a pointer and a length.
-// Main statements: bead_format, bead_begin and bead_step answer the numbers of what the model's calls answer, and leave in every lent word what those leave, for all words, numbers and lengths.
+// Main statements: bead_format, bead_begin, bead_step and bead_withdraw answer the numbers of what the model's calls
+// answer, and leave in every lent word what those leave, for all words, numbers and lengths.
 
 ghost use mathlib.Core.Path.{_≡_};
-ghost use Rattle.model.specs.Answers.{answerNumber, settingFound, restructuringNumber, beginRefusal, formatRefusal};
-ghost use Rattle.model.specs.Calls.{called, formatCall, stepCall};
+ghost use Rattle.model.specs.Answers.{answerNumber, settingFound, restructuringNumber, beginRefusal, withdrawRefusal, formatRefusal};
+ghost use Rattle.model.specs.Calls.{called, formatCall, stepCall, withdrawCall};
 ghost use Rattle.calls.specs.Lent.{lent};
 ghost use Rattle.bead.specs.Numbers.{sizesOf, operationOf, isOperation, replyOf, numbered, beginNumbered};
 use model::ABSENT;
@@ -24,6 +25,7 @@ use model::Party;
 use model::Restructuring;
 use model::Root;
 use model::StepAnswer;
+use model::WithdrawAnswer;
 
 // What bead_begin answers to a number that is no operation's.
 pub const NO_OPERATION: u32 = 255;
@@ -135,6 +137,16 @@ fn begin_number(answer: BeginAnswer) -> u32
     }
 }
 
+// What withdraw answered.
+fn withdraw_number(answer: WithdrawAnswer) -> u32
+    ensures { λ r. ⌜ r ≡ withdrawRefusal answer ⌝ }
+{
+    match answer {
+        WithdrawAnswer::Withdrawn => 0,
+        WithdrawAnswer::Refused(n) => n,
+    }
+}
+
 // What format answered.
 fn format_number(answer: FormatAnswer) -> u32
     ensures { λ r. ⌜ r ≡ formatRefusal answer ⌝ }
@@ -243,4 +255,19 @@ pub extern "C" fn bead_step(
 {
     let answer = index::step(root, parties, locks, pages, q);
     reply_of(answer)
+}
+
+// Withdraw for a party: 0, or the number of the refusal.
+#[no_mangle]
+pub extern "C" fn bead_withdraw(
+    root: &mut Root,
+    parties: &mut [Party],
+    locks: &mut [u32],
+    pages: &mut [u32],
+    q: u32,
+) -> u32
+    ensures { λ r. ⌜ called r (lent (now (root .exit)) (now (parties .exit)) (now (locks .exit)) (now (pages .exit))) ≡ numbered withdrawRefusal (withdrawCall (lent (now (root .entry)) (now (parties .entry)) (now (locks .entry)) (now (pages .entry))) q) ⌝ }
+{
+    let answer = index::withdraw(root, parties, locks, pages, q);
+    withdraw_number(answer)
 }

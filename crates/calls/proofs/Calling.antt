@@ -1,5 +1,6 @@
 -- The calls over values against the model's calls: what each leaves where it is refused, and where it is not.
--- Main statements: format-refused, format-formatted; begin-refused, begin-begun; step-refused, step-stepped; past-refused.
+-- Main statements: format-refused, format-formatted; begin-refused, begin-begun; step-refused, step-stepped;
+-- withdraw-refused, withdraw-withdrawn; past-refused, withdraw-past-refused.
 use mathlib.Core.Path.{_≡_, refl, sym, ap, _∙_}
 use mathlib.Core.Logic.{_≢_}
 use mathlib.Core.Bool.{Bool, true, false}
@@ -15,18 +16,21 @@ use Rattle.model.specs.declared.Operation.{Operation}
 use Rattle.model.specs.declared.StepAnswer.{StepAnswer}
 use Rattle.model.specs.declared.StepAnswer.the-variants as StepAnswer
 use Rattle.model.specs.declared.BeginAnswer.the-variants as BeginAnswer
+use Rattle.model.specs.declared.WithdrawAnswer.{WithdrawAnswer}
+use Rattle.model.specs.declared.WithdrawAnswer.the-variants as WithdrawAnswer
 use Rattle.model.specs.declared.FormatAnswer.the-variants as FormatAnswer
 use Rattle.model.specs.Records.{rootOfSizes, idle, begun}
 use Rattle.model.specs.Answers.{operationNumber, settingGiven}
 use Rattle.model.specs.Outcome.{Outcome, outcome}
 use Rattle.model.specs.Ready.{viewing}
 use Rattle.model.specs.Memory.{Memory, partyAt, afterStep, formatted}
-use Rattle.model.specs.Refusals.{firstCause, busyRow, idleRow, damageRow, formatRows, beginRows, stepRows}
+use Rattle.model.specs.Refusals.{firstCause, busyRow, idleRow, decidedRow, damageRow, formatRows, beginRows, stepRows, withdrawRows}
 use Rattle.model.specs.Steps.Dispatch.{stepOf}
-use Rattle.model.specs.Calls.{called, formatCall, beginCall, stepCall, stepped, withBegun}
-use Rattle.refusals.specs.Causes.{placeRows, formatCause, placeCause, beginCause, stepCause}
-use Rattle.refusals.proofs.Accepted.{format-cause-is, begin-cause-is, step-cause-is, past-row-refused, number-below, place-of-step}
-use Rattle.refusals.proofs.Causes.{earlier-stands, place-stands-at-step}
+use Rattle.model.specs.Calls.{called, formatCall, beginCall, stepCall, withdrawCall, stepped, withdrawnFrom, withBegun}
+use Rattle.model.specs.Withdraw.{Withdrawal, withdrawal, withdrawn}
+use Rattle.refusals.specs.Causes.{placeRows, formatCause, placeCause, beginCause, stepCause, withdrawCause}
+use Rattle.refusals.proofs.Accepted.{format-cause-is, begin-cause-is, step-cause-is, withdraw-cause-is, past-row-refused, number-below, place-of-step, place-of-withdraw}
+use Rattle.refusals.proofs.Causes.{earlier-stands, place-stands-at-step, place-stands-at-withdraw}
 use Rattle.calls.specs.Lent.{lent}
 
 -- A record put back where it stood; past the row's end none is written.
@@ -61,6 +65,13 @@ module _ (r : Root) (p p′ : Party) (parties locks pages q : ℕ) (same : q < p
       by-place (λ x. stepCause r x parties locks pages q) (inside-same (λ x. stepCause r x parties locks pages q))
       (λ ne. sym (earlier-stands rows (idleRow p ∷ (damageRow r p ∷ [])) ne) ∙ earlier-stands rows (idleRow p′ ∷ (damageRow r p′ ∷ [])) ne)
 
+  withdraw-same : withdrawCause r p parties locks pages q ≡ withdrawCause r p′ parties locks pages q
+  unfolding withdrawCause placeCause
+  withdraw-same =
+      let rows = placeRows r parties locks pages q in
+      by-place (λ x. withdrawCause r x parties locks pages q) (inside-same (λ x. withdrawCause r x parties locks pages q))
+      (λ ne. sym (earlier-stands rows (idleRow p ∷ (decidedRow p ∷ (damageRow r p ∷ []))) ne) ∙ earlier-stands rows (idleRow p′ ∷ (decidedRow p′ ∷ (damageRow r p′ ∷ []))) ne)
+
 module _ (r : Root) (row : List Party) (ls ps : List ℕ) (parties : ℕ) (many : length row ≡ parties) where
   abbrev m : Memory
   m = lent r row ls ps
@@ -82,7 +93,7 @@ module _ (r : Root) (row : List Party) (ls ps : List ℕ) (parties : ℕ) (many 
     unfolding formatCall formatted
     format-formatted none fits made ls′ ps′ er el ep = rw (first-of-format, none, er, el, ep, many, fits) refl
 
-  -- ---- Begin and step
+  -- ---- Begin, step and withdraw
 
   module _ (q c : ℕ) (p : Party) (here : q < parties → partyAt row q ≡ p) where
     left-alone : lent r (set row q p) ls ps ≡ m
@@ -120,6 +131,21 @@ module _ (r : Root) (row : List Party) (ls ps : List ℕ) (parties : ℕ) (many 
           = ap (λ (o : Outcome). called (o .answer) (afterStep m (o .after))) e in
           as-outcome ∙ rw (first-of-step, none, in-row none) refl
 
+    module _ (cause : c ≡ withdrawCause r p parties (length ls) (length ps) q) where
+      first-of-withdraw : firstCause (withdrawRows m q) ≡ c
+      first-of-withdraw = sym (withdraw-cause-is m q) ∙ rw many (withdraw-same r (partyAt row q) p parties (length ls) (length ps) q here ∙ sym cause)
+
+      pub withdraw-refused : c ≢ 0 → called (WithdrawAnswer.Refused c) (lent r (set row q p) ls ps) ≡ withdrawCall (lent r row ls ps) q
+      unfolding withdrawCall
+      withdraw-refused ne = ap (called (WithdrawAnswer.Refused c)) left-alone ∙ rw (first-of-withdraw, ne-eqb c 0 ne) refl
+
+      pub withdraw-withdrawn : c ≡ 0 → {a : WithdrawAnswer} {r′ : Root} {p′ : Party} {ls′ ps′ : List ℕ} → withdrawal a (viewing r′ p′ q ls′ ps′) ≡ withdrawn (viewing r p q ls ps)
+          → called a (lent r′ (set row q p′) ls′ ps′) ≡ withdrawCall (lent r row ls ps) q
+      unfolding withdrawCall withdrawnFrom
+      withdraw-withdrawn none e =
+          let there = here (number-below r parties (length ls) (length ps) q (place-of-withdraw r p parties (length ls) (length ps) q (sym cause ∙ none))) in
+          ap (λ (o : Withdrawal). called (o .answer) (afterStep m (o .after))) e ∙ rw (first-of-withdraw, none, there) refl
+
   -- Past the row's end a step is refused by the rows that look at no record.
   pub past-refused : (q c locks pages : ℕ) → length ls ≡ locks → length ps ≡ pages → parties ≤ q → c ≡ placeCause r parties locks pages q
       → called (StepAnswer.Refused c) (lent r row ls ps) ≡ stepCall (lent r row ls ps) q
@@ -128,3 +154,12 @@ module _ (r : Root) (row : List Party) (ls ps : List ℕ) (parties : ℕ) (many 
       let met : placeCause r parties locks pages q ≢ 0 = past-row-refused r parties locks pages q past in
       let whole : c ≡ stepCause r (partyAt row q) parties (length ls) (length ps) q = rw (el, ep) (cause ∙ place-stands-at-step r (partyAt row q) parties locks pages q met) in
       rw (first-of-step q c (partyAt row q) (λ _. refl) whole, ne-eqb c 0 (λ e. met (sym cause ∙ e))) refl
+
+  -- Past the row's end a withdraw is refused by them too.
+  pub withdraw-past-refused : (q c locks pages : ℕ) → length ls ≡ locks → length ps ≡ pages → parties ≤ q → c ≡ placeCause r parties locks pages q
+      → called (WithdrawAnswer.Refused c) (lent r row ls ps) ≡ withdrawCall (lent r row ls ps) q
+  unfolding withdrawCall
+  withdraw-past-refused q c locks pages el ep past cause =
+      let met : placeCause r parties locks pages q ≢ 0 = past-row-refused r parties locks pages q past in
+      let whole : c ≡ withdrawCause r (partyAt row q) parties (length ls) (length ps) q = rw (el, ep) (cause ∙ place-stands-at-withdraw r (partyAt row q) parties locks pages q met) in
+      rw (first-of-withdraw q c (partyAt row q) (λ _. refl) whole, ne-eqb c 0 (λ e. met (sym cause ∙ e))) refl

@@ -1,5 +1,5 @@
 -- The whole lent memory around a call over values: what the caller lends, and what its result and the lent words make of it.
--- Main definitions: lent; leftByFormat, leftByBegin, leftByStep (the answer, and all memory afterwards).
+-- Main definitions: lent; leftByFormat, leftByBegin, leftByStep, leftByWithdraw (the answer, and all memory afterwards).
 use mathlib.Core.List.{List}
 use Prim.Native.Nat.{ℕ}
 use lib.ListN.{length, replicate, set}
@@ -8,6 +8,7 @@ use Rattle.model.specs.declared.Party.{Party}
 use Rattle.model.specs.declared.Stepped.{Stepped}
 use Rattle.model.specs.declared.StepAnswer.{StepAnswer}
 use Rattle.model.specs.declared.BeginAnswer.{BeginAnswer}
+use Rattle.model.specs.declared.WithdrawAnswer.{WithdrawAnswer}
 use Rattle.model.specs.declared.FormatAnswer.{FormatAnswer}
 use Rattle.model.specs.declared.FormatAnswer.the-variants as FormatAnswer
 use Rattle.model.specs.Records.{idle}
@@ -15,6 +16,7 @@ use Rattle.model.specs.Memory.{Memory}
 use Rattle.model.specs.Calls.{Called, called}
 use Rattle.calls.specs.declared.Formatted.{Formatted}
 use Rattle.calls.specs.declared.Begun.{Begun}
+use Rattle.calls.specs.declared.Withdrawn.{Withdrawn}
 
 -- The memory of this root, row of records, lock words and page words.
 abbrev pub lent : Root → List Party → List ℕ → List ℕ → Memory
@@ -36,3 +38,7 @@ leftByBegin b r row q ls ps = called (b .answer) (lent r (set row q (b .party)) 
 -- A step's.
 abbrev pub leftByStep : Stepped → List Party → ℕ → List ℕ → List ℕ → Called StepAnswer
 leftByStep s row q ls ps = called (s .answer) (lent (s .root) (set row q (s .party)) ls ps)
+
+-- A withdraw's.
+abbrev pub leftByWithdraw : Withdrawn → List Party → ℕ → List ℕ → List ℕ → Called WithdrawAnswer
+leftByWithdraw w row q ls ps = called (w .answer) (lent (w .root) (set row q (w .party)) ls ps)

@@ -1,6 +1,9 @@
-// The three calls over values (document 01, "What it covers" and "Refused calls"): the root and one party's record by value, the lock words and the page words lent.
+// The four calls over values (document 01, "What it covers" and "Refused calls"; document 02, change 2): the root and
+// one party's record by value, the lock words and the page words lent.
 // The refusal table's tests are made here, in its order; damage that only one step can meet is refused by that step. There is nothing that a caller must see to: the contracts hold for all words and all lengths.
-// Main statements: format, begin and step leave what the model's formatCall, beginCall and stepCall leave, whatever the other parties' records are; step_past leaves what stepCall does past the row's end.
+// Main statements: format, begin, step and withdraw leave what the model's formatCall, beginCall, stepCall and
+// withdrawCall leave, whatever the other parties' records are; step_past and withdraw_past leave what stepCall and
+// withdrawCall do past the row's end.
 
 ghost use mathlib.Core.Path.{_≡_};
 ghost use mathlib.Core.List.{List};
@@ -8,9 +11,9 @@ ghost use Prim.Native.Nat.{ℕ, _<_, _≤_};
 ghost use lib.ListN.{length, set};
 ghost use Rattle.model.specs.declared.Party.{Party};
 ghost use Rattle.model.specs.Memory.{partyAt};
-ghost use Rattle.model.specs.Calls.{called, formatCall, beginCall, stepCall};
+ghost use Rattle.model.specs.Calls.{called, formatCall, beginCall, stepCall, withdrawCall};
 ghost use Rattle.records.specs.Words.{rootWords, partyWords, rootIn, partyIn};
-ghost use Rattle.calls.specs.Lent.{lent, leftByFormat, leftByBegin, leftByStep};
+ghost use Rattle.calls.specs.Lent.{lent, leftByFormat, leftByBegin, leftByStep, leftByWithdraw};
 use model::BeginAnswer;
 use model::FileSizes;
 use model::FormatAnswer;
@@ -20,6 +23,7 @@ use model::Party;
 use model::Root;
 use model::StepAnswer;
 use model::Stepped;
+use model::WithdrawAnswer;
 
 // What format leaves beside the lent words. Where the answer is formatted, every party's record is the zero record; else no record is altered.
 pub struct Formatted {
@@ -31,6 +35,13 @@ pub struct Formatted {
 pub struct Begun {
     pub party: Party,
     pub answer: BeginAnswer,
+}
+
+// What withdraw leaves beside the lent words.
+pub struct Withdrawn {
+    pub root: Root,
+    pub party: Party,
+    pub answer: WithdrawAnswer,
 }
 
 // Format with these sizes, over a row of `parties` records.
@@ -131,4 +142,59 @@ pub fn step_past(root: Root, parties: usize, locks: usize, pages: usize, q: u32)
     ensures { λ a. ⌜ ((row : List Party) (ls ps : List ℕ) → length row ≡ parties → length ls ≡ locks → length ps ≡ pages → parties ≤ q → called a (lent root row ls ps) ≡ stepCall (lent root row ls ps) q) ⌝ }
 {
     StepAnswer::Refused(refusals::place_cause(root, parties, locks, pages, q))
+}
+
+// A withdraw on the core's own words of both records: refused by the table, or the operation is taken back.
+fn withdraw_in_place(
+    root: &mut [u32],
+    party: &mut [u32],
+    parties: usize,
+    q: u32,
+    locks: &mut [u32],
+    pages: &mut [u32],
+) -> WithdrawAnswer
+    requires { ⌜ (length (now root) ≡ rootWords) × (length (now party) ≡ partyWords) ⌝ }
+    ensures { λ a. ⌜ ((row : List Party) → length row ≡ parties → (q < parties → partyAt row q ≡ partyIn (now (party .entry))) → called a (lent (rootIn (now (root .exit))) (set row q (partyIn (now (party .exit)))) (now (locks .exit)) (now (pages .exit))) ≡ withdrawCall (lent (rootIn (now (root .entry))) row (now (locks .entry)) (now (pages .entry))) q) ⌝ }
+{
+    let r = records::root_of(&root[..]);
+    let p = records::party_of(&party[..]);
+    let cause = refusals::withdraw_cause(r, p, parties, locks.len(), pages.len(), q);
+    if cause != NO_CAUSE {
+        return WithdrawAnswer::Refused(cause);
+    }
+    withdraw::withdrawn(root, party, q, locks, pages)
+}
+
+// Withdraw for party q, one of `parties`, whose record is `party`; past the row's end no record is looked at.
+pub fn withdraw(
+    root: Root,
+    party: Party,
+    parties: usize,
+    q: u32,
+    locks: &mut [u32],
+    pages: &mut [u32],
+) -> Withdrawn
+    ensures { λ r. ⌜ ((row : List Party) → length row ≡ parties → (q < parties → partyAt row q ≡ party) → leftByWithdraw r row q (now (locks .exit)) (now (pages .exit)) ≡ withdrawCall (lent root row (now (locks .entry)) (now (pages .entry))) q) ⌝ }
+{
+    let mut r = records::words_of_root(root);
+    let mut p = records::words_of_party(party);
+    let answer = withdraw_in_place(&mut r[..], &mut p[..], parties, q, locks, pages);
+    Withdrawn {
+        root: records::root_of(&r[..]),
+        party: records::party_of(&p[..]),
+        answer: answer,
+    }
+}
+
+// A withdraw for a party past the row's end: refused 2, 1 or 3, and nothing is altered.
+pub fn withdraw_past(
+    root: Root,
+    parties: usize,
+    locks: usize,
+    pages: usize,
+    q: u32,
+) -> WithdrawAnswer
+    ensures { λ a. ⌜ ((row : List Party) (ls ps : List ℕ) → length row ≡ parties → length ls ≡ locks → length ps ≡ pages → parties ≤ q → called a (lent root row ls ps) ≡ withdrawCall (lent root row ls ps) q) ⌝ }
+{
+    WithdrawAnswer::Refused(refusals::place_cause(root, parties, locks, pages, q))
 }

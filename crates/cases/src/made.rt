@@ -12,6 +12,7 @@ use model::Operation;
 use model::Party;
 use model::Root;
 use model::StepAnswer;
+use model::WithdrawAnswer;
 
 // What came of a call: the refusal, and how many words of all that is held and lent are altered.
 pub struct Came {
@@ -37,6 +38,7 @@ pub fn came_of(call: Call, s: Scene) -> Came {
         Call::Format => formatted(s, &mut locks, &mut pages),
         Call::Begin => begun(s, &locks, &pages),
         Call::Step => stepped(s, &mut locks, &mut pages),
+        Call::Withdraw => withdrawn(s, &mut locks, &mut pages),
     }
 }
 
@@ -88,6 +90,18 @@ fn stepped(s: Scene, locks: &mut [u32], pages: &mut [u32]) -> Came {
     }
 }
 
+fn withdrawn(s: Scene, locks: &mut [u32], pages: &mut [u32]) -> Came {
+    let held = s.held;
+    let l = least(s.lock_words, locks.len());
+    let g = least(s.page_words, pages.len());
+    let made = held::withdraw(held, &mut locks[0..l], &mut pages[0..g], s.party);
+    let answer = made.answer;
+    Came {
+        refusal: withdraw_refusal(answer),
+        altered: altered(held, made.held, locks, pages),
+    }
+}
+
 // So many words are lent; never more than there are.
 fn least(a: usize, b: usize) -> usize
     ensures { λ r. ⌜ r ≤ b ⌝ }
@@ -128,6 +142,13 @@ fn step_refusal(answer: StepAnswer) -> u32 {
         StepAnswer::Waiting => ACCEPTED,
         StepAnswer::Moved => ACCEPTED,
         StepAnswer::Done(_, _) => ACCEPTED,
+    }
+}
+
+fn withdraw_refusal(answer: WithdrawAnswer) -> u32 {
+    match answer {
+        WithdrawAnswer::Refused(number) => number,
+        WithdrawAnswer::Withdrawn => ACCEPTED,
     }
 }
 

@@ -123,7 +123,7 @@ fn causes_of_all(first: Tally, call: Call) -> Tally {
     t
 }
 
-// Begin and step.
+// Begin, step and withdraw.
 fn causes_of_parties(first: Tally, call: Call) -> Tally {
     let mut t = first;
     t = met(t, call, 3, 0, 3);
@@ -166,6 +166,35 @@ fn later_causes_of_step(first: Tally) -> Tally {
     t
 }
 
+// Withdraw has 5, 7 and 6, "tested after 5 (the party is idle) and before 6", and has not 4.
+fn causes_of_withdraw(first: Tally) -> Tally {
+    let mut t = first;
+    t = met(t, Call::Withdraw, 4, 0, ACCEPTED);
+    t = met(t, Call::Withdraw, 5, 0, 5);
+    t = met(t, Call::Withdraw, 7, 0, 7);
+    t = met(t, Call::Withdraw, 6, 0, 6);
+    t = met(t, Call::Withdraw, 5, 7, 5);
+    t = met(t, Call::Withdraw, 5, 6, 5);
+    t = met(t, Call::Withdraw, 7, 6, 7);
+    t
+}
+
+// With those of every call. 3 does not meet 5 or 7: the records past those lent, which are idle or decided, are not
+// looked at.
+fn earlier_causes_of_withdraw(first: Tally) -> Tally {
+    let mut t = first;
+    t = met(t, Call::Withdraw, 2, 5, 2);
+    t = met(t, Call::Withdraw, 2, 7, 2);
+    t = met(t, Call::Withdraw, 2, 6, 2);
+    t = met(t, Call::Withdraw, 1, 5, 1);
+    t = met(t, Call::Withdraw, 1, 7, 1);
+    t = met(t, Call::Withdraw, 1, 6, 1);
+    t = met(t, Call::Withdraw, 3, 5, 3);
+    t = met(t, Call::Withdraw, 3, 7, 3);
+    t = met(t, Call::Withdraw, 3, 6, 3);
+    t
+}
+
 // ---- All of it
 
 fn cases_of_all(first: Tally, call: Call) -> Tally {
@@ -182,13 +211,18 @@ fn main() {
     t = cases_of_all(t, Call::Format);
     t = cases_of_all(t, Call::Begin);
     t = cases_of_all(t, Call::Step);
+    t = cases_of_all(t, Call::Withdraw);
     t = parties(t, Call::Begin);
     t = parties(t, Call::Step);
+    t = parties(t, Call::Withdraw);
     t = causes_of_parties(t, Call::Begin);
     t = causes_of_parties(t, Call::Step);
+    t = causes_of_parties(t, Call::Withdraw);
     t = causes_of_begin(t);
     t = causes_of_step(t);
     t = later_causes_of_step(t);
+    t = causes_of_withdraw(t);
+    t = earlier_causes_of_withdraw(t);
     say_number(b"", t.cases);
     say_number(b" cases, ", t.wrong);
     say(b" wrong\n");

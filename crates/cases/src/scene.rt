@@ -10,6 +10,7 @@ pub enum Call {
     Format,
     Begin,
     Step,
+    Withdraw,
 }
 
 // What a call is lent, and for whom: the root record, whose sizes format is given, the first Q records of the row, and so many words.
@@ -51,18 +52,23 @@ fn root_of(z: FileSizes, free: u32) -> Root {
     }
 }
 
-// A record about to make its first step, idle where the operation is 0.
-fn first_step(operation: u32) -> Party {
+// The first step, and one that is past the decisive step of a change.
+const FIRST: u32 = 1;
+
+const DECIDED: u32 = 12;
+
+// A record about to make this step, with this answer so far; idle where the operation is 0.
+fn about_to(operation: u32, step: u32, answer: u32) -> Party {
     Party {
         operation,
         key: 7,
-        step: 1,
+        step,
         lev: 0,
         chain: 0,
         other: 0,
         old: 0,
         owed: 0,
-        answer: 0,
+        answer,
         setting: 5,
     }
 }
@@ -73,6 +79,7 @@ fn operation_for(call: Call) -> u32 {
         Call::Format => model::FIND,
         Call::Begin => model::IDLE,
         Call::Step => model::FIND,
+        Call::Withdraw => model::INSERT,
     }
 }
 
@@ -84,7 +91,8 @@ fn held_with(root: Root, p: Party) -> Held {
 
 // Memory of the lengths that these sizes ask for, on which every party can make the call.
 pub fn sound(call: Call, z: FileSizes, party: u32) -> Scene {
-    let held = held_with(root_of(z, 0), first_step(operation_for(call)));
+    let p = about_to(operation_for(call), FIRST, model::NO_ANSWER);
+    let held = held_with(root_of(z, 0), p);
     Scene {
         held,
         lock_words: z.primaries as usize + 1,
@@ -105,7 +113,8 @@ fn pick(earlier: u32, later: u32, cause: u32, met: u32, unmet: u32) -> u32 {
 }
 
 // Memory of the usual sizes (N 2, b 3, P 5, V 4, Q 3: 6 lock words, 192 page words) in which the causes of these numbers are met, and no other; 0 is no cause.
-// 2: b is 7. 1: a lock word too few. 3: party Q. 4 and 5: every record is busy, or idle. 6: the free count is above V.
+// 2: b is 7. 1: a lock word too few. 3: party Q. 4 and 5: every record is busy, or idle. 7: every record is past a
+// decisive step. 6: the free count is above V.
 pub fn meeting(call: Call, earlier: u32, later: u32) -> Scene {
     let lock_words = pick(earlier, later, 1, 5, 6) as usize;
     let capacity = pick(earlier, later, 2, 7, 3);
@@ -113,9 +122,11 @@ pub fn meeting(call: Call, earlier: u32, later: u32) -> Scene {
     let free = pick(earlier, later, 6, 5, 0);
     let busy = pick(earlier, later, 4, model::INSERT, operation_for(call));
     let operation = pick(earlier, later, 5, model::IDLE, busy);
+    let step = pick(earlier, later, 7, DECIDED, FIRST);
+    let answer = pick(earlier, later, 7, model::INSERTED, model::NO_ANSWER);
     let held = held_with(
         root_of(sizes(2, capacity, 5, 4, 3), free),
-        first_step(operation),
+        about_to(operation, step, answer),
     );
     Scene {
         held,

@@ -37,6 +37,7 @@ fn say_call(call: Call) {
         Call::Format => say(b"format, "),
         Call::Begin => say(b"begin, "),
         Call::Step => say(b"step, "),
+        Call::Withdraw => say(b"withdraw, "),
     }
 }
 

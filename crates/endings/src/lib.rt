@@ -1,16 +1,18 @@
 // How an operation ends (document 01, "The thirty steps"): its answer, its restructuring, its record and scratch page zeroed.
-// Main statements: done and finished are the model's, whatever the lock words are; answer_of, restructuring_of and scratch_page are the model's.
+// Main statements: done and finished are the model's, whatever the lock words are; answer_of, restructuring_of and
+// scratch_page are the model's; clear zeroes both.
 
 ghost use mathlib.Core.Path.{_≡_};
 ghost use mathlib.Core.List.{List};
 ghost use Prim.Native.Nat.{ℕ, _^_, _<_};
 ghost use lib.ListN.{length};
 ghost use Rattle.model.specs.declared.Party.{Party};
-ghost use Rattle.model.specs.Pages.{scratchPage};
+ghost use Rattle.model.specs.Records.{idle};
+ghost use Rattle.model.specs.Pages.{scratchPage, withPage, zeroPage};
 ghost use Rattle.model.specs.Answers.{answerOf, restructuringOf};
 ghost use Rattle.model.specs.Endings as Endings;
 ghost use Rattle.model.specs.Ready.{viewing};
-ghost use Rattle.records.specs.Words.{partyWords, seen, left};
+ghost use Rattle.records.specs.Words.{partyWords, partyIn, seen, left};
 ghost use Rattle.endings.specs.Scratch.{HasScratch};
 use model::OperationAnswer;
 use model::PAGE_WORDS;
@@ -53,6 +55,15 @@ pub fn scratch_page(root: Root, q: u32) -> PageAddress
     PageAddress(root.primaries + root.overflow + q)
 }
 
+// "zeroes the party's record and scratch page".
+pub fn clear(root: Root, party: &mut [u32], q: u32, pages: &mut [u32])
+    requires { ⌜ (length (now party) ≡ partyWords) × HasScratch root q (now pages) ⌝ }
+    ensures { λ _. ⌜ (partyIn (now (party .exit)) ≡ idle) × (now (pages .exit) ≡ withPage (now (pages .entry)) (scratchPage root q) zeroPage) ⌝ }
+{
+    pages::store(pages, scratch_page(root, q), [0; PAGE_WORDS]);
+    pages::zero(party);
+}
+
 // "'Done' carries the answer ... and the restructuring ..., and zeroes the party's record and scratch page."
 pub fn done(
     root: Root,
@@ -65,8 +76,7 @@ pub fn done(
     requires { ⌜ (length (now party) ≡ partyWords) × HasScratch root q (now pages) ⌝ }
     ensures { λ a. ⌜ ((p : Party) (ls : List ℕ) → left a root (now (party .exit)) q ls (now (pages .exit)) ≡ Endings.done answer made (viewing root p q ls (now (pages .entry)))) ⌝ }
 {
-    pages::store(pages, scratch_page(root, q), [0; PAGE_WORDS]);
-    pages::zero(party);
+    clear(root, party, q, pages);
     StepAnswer::Done(answer, made)
 }
 

@@ -1,7 +1,8 @@
 -- Forms: a line is read exactly where the grammar derives it, as the one form that it is; reading what was printed gives the form again.
 -- Main statements: form-read, read-form; one-form; unread-form; printed-form-read, printed-form-there; form-short.
 use mathlib.Core.Path.{_≡_, refl, _∙_, subst}
-use mathlib.Core.List.{List, _∷_}
+use mathlib.Core.Bool.{false}
+use mathlib.Core.List.{List, [], _∷_}
 use Prim.Native.Nat.{ℕ, _+_, _≤_}
 use native.Mathlib.Omega.{arith}
 use lib.ListN.{length, getD, take, drop}
@@ -18,8 +19,8 @@ use Rattle.forms.specs.declared.Form.{Form}
 use Rattle.forms.specs.declared.Form.the-variants as Form
 use Rattle.forms.specs.declared.FormRead.{FormRead}
 use Rattle.forms.specs.declared.FormRead.the-variants as FormRead
-use Rattle.forms.specs.Forms.{stepForm, formatForm, findForm, insertForm, deleteForm, beginForm, formPattern, sizeNumbers, operationNumbers, formNumbers, FormLine, formText}
-use Rattle.forms.specs.Reading.{asStep, asBegin, asInsert, asFormat, readFormat, readBegin, readForm}
+use Rattle.forms.specs.Forms.{stepForm, withdrawForm, formatForm, findForm, insertForm, deleteForm, beginForm, formPattern, sizeNumbers, operationNumbers, formNumbers, FormLine, formText}
+use Rattle.forms.specs.Reading.{asStep, asBegin, asInsert, asWithdraw, asFormat, readFormat, readWithdraw, readBegin, readForm}
 use Rattle.forms.specs.Printing.{longestForm, given}
 use Rattle.forms.proofs.Puts.{is-given, put-there}
 use Rattle.forms.proofs.Table.{alike, take-row, skip-row, row-sound, one-number, two-numbers, three-numbers, five-numbers}
@@ -29,6 +30,10 @@ use Rattle.forms.proofs.Table.{alike, take-row, skip-row, row-sound, on
 plain-step : Plain stepForm
 unfolding plain holes isDigit
 plain-step = record { parted = refl; held = lit≤ tt }
+
+plain-withdraw : Plain withdrawForm
+unfolding plain holes isDigit
+plain-withdraw = record { parted = refl; held = lit≤ tt }
 
 plain-format : Plain formatForm
 unfolding plain holes isDigit
@@ -62,20 +67,31 @@ begin-read q Operation.Delete k line d =
     ∙ skip-row insertForm asInsert _ plain-delete plain-insert refl d
     ∙ take-row (asBegin Operation.Delete) _ plain-delete d
 
+-- The rows of a step and of begins are skipped.
+past-begin : {p ns line : List ℕ} → Plain p → Derives p ns line → alike p stepForm ≡ false → alike p findForm ≡ false → alike p insertForm ≡ false → alike p deleteForm ≡ false
+    → readForm line ≡ readWithdraw line
+unfolding readForm readBegin
+past-begin h d s f i e =
+    skip-row stepForm asStep _ h plain-step s d
+    ∙ skip-row findForm (asBegin Operation.Find) _ h plain-find f d
+    ∙ skip-row insertForm asInsert _ h plain-insert i d
+    ∙ skip-row deleteForm (asBegin Operation.Delete) _ h plain-delete e d
+
+withdraw-read : (q : ℕ) (line : List ℕ) → Derives withdrawForm (q ∷ []) line → readForm line ≡ FormRead.Read (Form.Withdraw q)
+unfolding readWithdraw alike padded
+withdraw-read q line d = past-begin plain-withdraw d refl refl refl refl ∙ take-row asWithdraw _ plain-withdraw d
+
 format-read : (s : FileSizes) (line : List ℕ) → Derives formatForm (sizeNumbers s) line → readForm line ≡ FormRead.Read (Form.Format s)
-unfolding readForm readBegin readFormat alike padded sizeNumbers
+unfolding readWithdraw readFormat alike padded sizeNumbers
 format-read s line d =
-    skip-row stepForm asStep _ plain-format plain-step refl d
-    ∙ skip-row findForm (asBegin Operation.Find) _ plain-format plain-find refl d
-    ∙ skip-row insertForm asInsert _ plain-format plain-insert refl d
-    ∙ skip-row deleteForm (asBegin Operation.Delete) _ plain-format plain-delete refl d
-    ∙ take-row asFormat _ plain-format d
+    past-begin plain-format d refl refl refl refl ∙ skip-row withdrawForm asWithdraw _ plain-format plain-withdraw refl d ∙ take-row asFormat _ plain-format d
 
 pub form-read : (f : Form) (line : List ℕ) → FormLine f line → readForm line ≡ FormRead.Read f
 unfolding FormLine formPattern formNumbers readForm padded
 form-read (Form.Format s) line d = format-read s line d
 form-read (Form.Begin q o k) line d = begin-read q o k line d
 form-read (Form.Step q) line d = take-row asStep _ plain-step d
+form-read (Form.Withdraw q) line d = withdraw-read q line d
 
 -- ---- A line that is read is derived by the grammar
 
@@ -107,13 +123,18 @@ format-row f line =
     (λ ns long d e. row-form f (Form.Format (record { originals = getD (padded ns) 0 0; capacity = getD (padded ns) 1 0; primaries = getD (padded ns) 2 0; overflow = getD (padded ns) 3 0; parties = getD (padded ns) 4 0 })) ns line (five-numbers ns long) d e)
     (λ e. absurd (let z : _≡_ {A = ℕ} 0 1 = cc in omega arith))
 
+withdraw-row : (f : Form) (line : List ℕ) → readWithdraw line ≡ FormRead.Read f → FormLine f line
+unfolding readWithdraw formPattern formNumbers holes
+withdraw-row f line =
+    row-sound withdrawForm line asWithdraw (readFormat line) (λ ns long d e. row-form f (Form.Withdraw (getD (padded ns) 0 0)) ns line (one-number ns long) d e) (format-row f line)
+
 pub read-form : (f : Form) (line : List ℕ) → readForm line ≡ FormRead.Read f → FormLine f line
 unfolding readForm readBegin formPattern formNumbers holes
 read-form f line =
     row-sound stepForm line asStep (readBegin line) (λ ns long d e. row-form f (Form.Step (getD (padded ns) 0 0)) ns line (one-number ns long) d e)
     (row-sound findForm line (asBegin Operation.Find) _ (find-row f line)
     (row-sound insertForm line asInsert _ (insert-row f line)
-    (row-sound deleteForm line (asBegin Operation.Delete) _ (delete-row f line) (format-row f line))))
+    (row-sound deleteForm line (asBegin Operation.Delete) _ (delete-row f line) (withdraw-row f line))))
 
 -- ---- What follows
 
@@ -142,6 +163,7 @@ form-holes (Form.Begin q Operation.Find k) = refl
 form-holes (Form.Begin q (Operation.Insert x) k) = refl
 form-holes (Form.Begin q Operation.Delete k) = refl
 form-holes (Form.Step q) = refl
+form-holes (Form.Withdraw q) = refl
 
 pub printed-form-read : (f : Form) → FormFits f → readForm (formText f) ≡ FormRead.Read f
 unfolding FormFits FormLine formText
@@ -156,6 +178,7 @@ form-short (Form.Begin q Operation.Find k) = omega (arith, filled-short findForm
 form-short (Form.Begin q (Operation.Insert x) k) = omega (arith, filled-short insertForm (formNumbers (Form.Begin q (Operation.Insert x) k)))
 form-short (Form.Begin q Operation.Delete k) = omega (arith, filled-short deleteForm (formNumbers (Form.Begin q Operation.Delete k)))
 form-short (Form.Step q) = omega (arith, filled-short stepForm (formNumbers (Form.Step q)))
+form-short (Form.Withdraw q) = omega (arith, filled-short withdrawForm (formNumbers (Form.Withdraw q)))
 
 -- A form that is printed stands at its place and is read again from there.
 pub printed-form-there : (f : Form) (out : List ℕ) (at : ℕ) → FormFits f → at + longestForm ≤ length out

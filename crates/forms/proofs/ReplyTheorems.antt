@@ -16,6 +16,8 @@ use Rattle.model.specs.declared.OperationAnswer.{OperationAnswer}
 use Rattle.model.specs.declared.Restructuring.{Restructuring}
 use Rattle.model.specs.declared.StepAnswer.{StepAnswer}
 use Rattle.model.specs.declared.StepAnswer.the-variants as StepAnswer
+use Rattle.model.specs.declared.WithdrawAnswer.{WithdrawAnswer}
+use Rattle.model.specs.declared.WithdrawAnswer.the-variants as WithdrawAnswer
 use Rattle.patterns.specs.Numbers.{isDigit}
 use Rattle.patterns.specs.Patterns.{Matching, no, yes, matchFrom, padded, filled}
 use Rattle.patterns.specs.Grammar.{Derives, plain, holes, Plain}
@@ -33,6 +35,8 @@ use Rattle.forms.specs.Replies.{
   formatRefused,
   beginOk,
   beginRefused,
+  withdrawOk,
+  withdrawRefused,
   stepMoved,
   stepWaiting,
   stepRefused,
@@ -43,16 +47,18 @@ use Rattle.forms.specs.Replies.{
   restructuringText,
   formatPattern,
   beginPattern,
+  withdrawPattern,
   stepPattern,
   replyPattern,
   formatNumbers,
   beginNumbers,
+  withdrawNumbers,
   stepNumbers,
   replyNumbers,
   ReplyLine,
   replyText,
 }
-use Rattle.forms.specs.Reading.{AnswerAt, none, at, readAnswer, readRestructuring, doneAs, doneFrom, doneAfter, readDone, readStepReply, readBeginReply, readReply}
+use Rattle.forms.specs.Reading.{AnswerAt, none, at, readAnswer, readRestructuring, doneAs, doneFrom, doneAfter, readDone, readStepReply, readWithdrawReply, readBeginReply, readReply}
 use Rattle.forms.specs.Printing.{longestReply, given}
 use Rattle.forms.proofs.Puts.{is-given, put-there}
 use Rattle.forms.proofs.Table.{alike, take-row, skip-row, row-sound, no-number, one-number, two-numbers}
@@ -88,6 +94,11 @@ unfolding beginPattern plain holes isDigit
 plain-begin BeginAnswer.Begun = record { parted = refl; held = lit≤ tt }
 plain-begin (BeginAnswer.Refused n) = record { parted = refl; held = lit≤ tt }
 
+plain-withdraw : (a : WithdrawAnswer) → Plain (withdrawPattern a)
+unfolding withdrawPattern plain holes isDigit
+plain-withdraw WithdrawAnswer.Withdrawn = record { parted = refl; held = lit≤ tt }
+plain-withdraw (WithdrawAnswer.Refused n) = record { parted = refl; held = lit≤ tt }
+
 plain-head : plain false stepDone ≡ true
 unfolding plain isDigit
 plain-head = refl
@@ -119,6 +130,14 @@ plain-beginRefused : Plain beginRefused
 unfolding beginPattern
 plain-beginRefused = plain-begin (BeginAnswer.Refused 0)
 
+plain-withdrawOk : Plain withdrawOk
+unfolding withdrawPattern
+plain-withdrawOk = plain-withdraw WithdrawAnswer.Withdrawn
+
+plain-withdrawRefused : Plain withdrawRefused
+unfolding withdrawPattern
+plain-withdrawRefused = plain-withdraw (WithdrawAnswer.Refused 0)
+
 plain-moved : Plain stepMoved
 unfolding stepPattern
 plain-moved = plain-step StepAnswer.Moved
@@ -139,9 +158,13 @@ module _ {p ns line : List ℕ} (h : Plain p) (d : Derives p ns line) where
   unfolding readReply
   past-format u o r = skip-row unreadReply _ _ h plain-unread u d ∙ skip-row formatOk _ _ h plain-formatOk o d ∙ skip-row formatRefused _ _ h plain-formatRefused r d
 
-  past-begin : alike p beginOk ≡ false → alike p beginRefused ≡ false → readBeginReply line ≡ readStepReply line
+  past-begin : alike p beginOk ≡ false → alike p beginRefused ≡ false → readBeginReply line ≡ readWithdrawReply line
   unfolding readBeginReply
   past-begin o r = skip-row beginOk _ _ h plain-beginOk o d ∙ skip-row beginRefused _ _ h plain-beginRefused r d
+
+  past-withdraw : alike p withdrawOk ≡ false → alike p withdrawRefused ≡ false → readWithdrawReply line ≡ readStepReply line
+  unfolding readWithdrawReply
+  past-withdraw o r = skip-row withdrawOk _ _ h plain-withdrawOk o d ∙ skip-row withdrawRefused _ _ h plain-withdrawRefused r d
 
   past-step : alike p stepMoved ≡ false → alike p stepWaiting ≡ false → alike p stepRefused ≡ false → readStepReply line ≡ readDone line
   unfolding readStepReply
@@ -192,20 +215,31 @@ begin-read q BeginAnswer.Begun line d = past-format plain-beginOk d refl refl re
 begin-read q (BeginAnswer.Refused n) line d =
     past-format plain-beginRefused d refl refl refl ∙ skip-row beginOk _ _ plain-beginRefused plain-beginOk refl d ∙ take-row _ _ plain-beginRefused d
 
+withdraw-read : (q : ℕ) (a : WithdrawAnswer) (line : List ℕ) → Derives (withdrawPattern a) (q ∷ withdrawNumbers a) line → readReply line ≡ ReplyRead.Read (Reply.Withdraw q a)
+unfolding readWithdrawReply withdrawPattern withdrawNumbers alike padded
+withdraw-read q WithdrawAnswer.Withdrawn line d =
+    past-format plain-withdrawOk d refl refl refl ∙ past-begin plain-withdrawOk d refl refl ∙ take-row _ _ plain-withdrawOk d
+withdraw-read q (WithdrawAnswer.Refused n) line d =
+    past-format plain-withdrawRefused d refl refl refl
+    ∙ past-begin plain-withdrawRefused d refl refl
+    ∙ skip-row withdrawOk _ _ plain-withdrawRefused plain-withdrawOk refl d
+    ∙ take-row _ _ plain-withdrawRefused d
+
 step-read : (q : ℕ) (a : StepAnswer) (line : List ℕ) → Derives (stepPattern a) (q ∷ stepNumbers a) line → readReply line ≡ ReplyRead.Read (Reply.Step q a)
 unfolding readStepReply stepPattern stepNumbers alike padded
-step-read q StepAnswer.Moved line d = past-format plain-moved d refl refl refl ∙ past-begin plain-moved d refl refl ∙ take-row _ _ plain-moved d
+step-read q StepAnswer.Moved line d = past-format plain-moved d refl refl refl ∙ past-begin plain-moved d refl refl ∙ past-withdraw plain-moved d refl refl ∙ take-row _ _ plain-moved d
 step-read q StepAnswer.Waiting line d =
-    past-format plain-waiting d refl refl refl ∙ past-begin plain-waiting d refl refl ∙ skip-row stepMoved _ _ plain-waiting plain-moved refl d ∙ take-row _ _ plain-waiting d
+    past-format plain-waiting d refl refl refl ∙ past-begin plain-waiting d refl refl ∙ past-withdraw plain-waiting d refl refl ∙ skip-row stepMoved _ _ plain-waiting plain-moved refl d ∙ take-row _ _ plain-waiting d
 step-read q (StepAnswer.Refused n) line d =
     past-format plain-refused d refl refl refl
     ∙ past-begin plain-refused d refl refl
+    ∙ past-withdraw plain-refused d refl refl
     ∙ skip-row stepMoved _ _ plain-refused plain-moved refl d
     ∙ skip-row stepWaiting _ _ plain-refused plain-waiting refl d
     ∙ take-row _ _ plain-refused d
 step-read q (StepAnswer.Done a r) line d =
     let p = plain-step (StepAnswer.Done a r) in
-    past-format p d refl refl refl ∙ past-begin p d refl refl ∙ past-step p d refl refl refl ∙ done-read q a r line d
+    past-format p d refl refl refl ∙ past-begin p d refl refl ∙ past-withdraw p d refl refl ∙ past-step p d refl refl refl ∙ done-read q a r line d
 
 pub reply-read : (r : Reply) (line : List ℕ) → ReplyLine r line → readReply line ≡ ReplyRead.Read r
 unfolding ReplyLine replyPattern replyNumbers readReply
@@ -213,6 +247,7 @@ reply-read Reply.Unread line d = take-row _ _ plain-unread d
 reply-read (Reply.Format a) line d = format-read a line d
 reply-read (Reply.Begin q a) line d = begin-read q a line d
 reply-read (Reply.Step q a) line d = step-read q a line d
+reply-read (Reply.Withdraw q a) line d = withdraw-read q a line d
 
 -- ---- A line that is read is derived by the grammar
 
@@ -265,11 +300,17 @@ step-sound r line =
     (row-sound stepWaiting line _ _ (λ ns long d e. row-reply r (Reply.Step (getD (padded ns) 0 0) StepAnswer.Waiting) ns line (one-number ns long) d e)
     (row-sound stepRefused line _ _ (λ ns long d e. row-reply r (Reply.Step (getD (padded ns) 0 0) (StepAnswer.Refused (getD (padded ns) 1 0))) ns line (two-numbers ns long) d e) (done-sound r line)))
 
+withdraw-sound : (r : Reply) (line : List ℕ) → readWithdrawReply line ≡ ReplyRead.Read r → ReplyLine r line
+unfolding readWithdrawReply replyPattern replyNumbers withdrawPattern withdrawNumbers holes
+withdraw-sound r line =
+    row-sound withdrawOk line _ _ (λ ns long d e. row-reply r (Reply.Withdraw (getD (padded ns) 0 0) WithdrawAnswer.Withdrawn) ns line (one-number ns long) d e)
+    (row-sound withdrawRefused line _ _ (λ ns long d e. row-reply r (Reply.Withdraw (getD (padded ns) 0 0) (WithdrawAnswer.Refused (getD (padded ns) 1 0))) ns line (two-numbers ns long) d e) (step-sound r line))
+
 begin-sound : (r : Reply) (line : List ℕ) → readBeginReply line ≡ ReplyRead.Read r → ReplyLine r line
 unfolding readBeginReply replyPattern replyNumbers beginPattern beginNumbers holes
 begin-sound r line =
     row-sound beginOk line _ _ (λ ns long d e. row-reply r (Reply.Begin (getD (padded ns) 0 0) BeginAnswer.Begun) ns line (one-number ns long) d e)
-    (row-sound beginRefused line _ _ (λ ns long d e. row-reply r (Reply.Begin (getD (padded ns) 0 0) (BeginAnswer.Refused (getD (padded ns) 1 0))) ns line (two-numbers ns long) d e) (step-sound r line))
+    (row-sound beginRefused line _ _ (λ ns long d e. row-reply r (Reply.Begin (getD (padded ns) 0 0) (BeginAnswer.Refused (getD (padded ns) 1 0))) ns line (two-numbers ns long) d e) (withdraw-sound r line))
 
 pub read-reply : (r : Reply) (line : List ℕ) → readReply line ≡ ReplyRead.Read r → ReplyLine r line
 unfolding readReply replyPattern replyNumbers formatPattern formatNumbers holes
@@ -299,7 +340,7 @@ unfoldable pub ReplyFits : Reply → Type 0
 ReplyFits r = Small (replyNumbers r)
 
 reply-holes : (r : Reply) → length (replyNumbers r) ≡ holes (replyPattern r)
-unfolding replyNumbers replyPattern formatNumbers formatPattern beginNumbers beginPattern stepNumbers stepPattern holes
+unfolding replyNumbers replyPattern formatNumbers formatPattern beginNumbers beginPattern withdrawNumbers withdrawPattern stepNumbers stepPattern holes
 reply-holes Reply.Unread = refl
 reply-holes (Reply.Format FormatAnswer.Formatted) = refl
 reply-holes (Reply.Format (FormatAnswer.Refused n)) = refl
@@ -309,6 +350,8 @@ reply-holes (Reply.Step q StepAnswer.Waiting) = refl
 reply-holes (Reply.Step q StepAnswer.Moved) = refl
 reply-holes (Reply.Step q (StepAnswer.Done a r)) = omega (arith, tail-holes a r)
 reply-holes (Reply.Step q (StepAnswer.Refused n)) = refl
+reply-holes (Reply.Withdraw q WithdrawAnswer.Withdrawn) = refl
+reply-holes (Reply.Withdraw q (WithdrawAnswer.Refused n)) = refl
 
 pub printed-reply-read : (r : Reply) → ReplyFits r → readReply (replyText r) ≡ ReplyRead.Read r
 unfolding ReplyFits ReplyLine replyText
@@ -325,7 +368,7 @@ done-short q a r =
     omega (arith, ap length (done-text q a r), whole, words, filled-short stepDone ns, answer-short a, restructuring-short r)
 
 pub reply-short : (r : Reply) → length (replyText r) ≤ longestReply
-unfolding replyText replyPattern formatPattern beginPattern stepPattern longest
+unfolding replyText replyPattern formatPattern beginPattern withdrawPattern stepPattern longest
 reply-short Reply.Unread = omega (arith, filled-short unreadReply (replyNumbers Reply.Unread))
 reply-short (Reply.Format FormatAnswer.Formatted) = omega (arith, filled-short formatOk (replyNumbers (Reply.Format FormatAnswer.Formatted)))
 reply-short (Reply.Format (FormatAnswer.Refused n)) = omega (arith, filled-short formatRefused (replyNumbers (Reply.Format (FormatAnswer.Refused n))))
@@ -335,6 +378,8 @@ reply-short (Reply.Step q StepAnswer.Waiting) = omega (arith, filled-short stepW
 reply-short (Reply.Step q StepAnswer.Moved) = omega (arith, filled-short stepMoved (replyNumbers (Reply.Step q StepAnswer.Moved)))
 reply-short (Reply.Step q (StepAnswer.Done a r)) = done-short q a r
 reply-short (Reply.Step q (StepAnswer.Refused n)) = omega (arith, filled-short stepRefused (replyNumbers (Reply.Step q (StepAnswer.Refused n))))
+reply-short (Reply.Withdraw q WithdrawAnswer.Withdrawn) = omega (arith, filled-short withdrawOk (replyNumbers (Reply.Withdraw q WithdrawAnswer.Withdrawn)))
+reply-short (Reply.Withdraw q (WithdrawAnswer.Refused n)) = omega (arith, filled-short withdrawRefused (replyNumbers (Reply.Withdraw q (WithdrawAnswer.Refused n))))
 
 -- A reply that is printed stands at its place and is read again from there.
 pub printed-reply-there : (r : Reply) (out : List ℕ) (place : ℕ) → ReplyFits r → place + longestReply ≤ length out

@@ -1,4 +1,4 @@
--- The forms that turns reads (document 01, "The turns program"): each has a pattern and the numbers in it.
+-- The forms that turns reads (document 01, "The turns program"; document 02, change 2): each has a pattern and the numbers in it.
 -- Main definitions: formPattern and formNumbers, a row for each form; FormLine (the lines that the grammar derives for a form); formText (as it is printed).
 use mathlib.Core.List.{List, [], _∷_}
 use Prim.Native.Nat.{ℕ}
@@ -13,6 +13,9 @@ use Rattle.forms.specs.declared.Form.the-variants as Form
 
 abbrev pub stepForm : List ℕ
 stepForm = bytes "(step #)"
+
+abbrev pub withdrawForm : List ℕ
+withdrawForm = bytes "(withdraw #)"
 
 abbrev pub formatForm : List ℕ
 formatForm = bytes "(format # # # # #)"
@@ -35,6 +38,7 @@ unfoldable pub formPattern : Form → List ℕ
 formPattern (Form.Format s) = formatForm
 formPattern (Form.Begin q o k) = beginForm o
 formPattern (Form.Step q) = stepForm
+formPattern (Form.Withdraw q) = withdrawForm
 
 -- "(format N b P V Q)".
 unfoldable pub sizeNumbers : FileSizes → List ℕ
@@ -50,6 +54,7 @@ unfoldable pub formNumbers : Form → List ℕ
 formNumbers (Form.Format s) = sizeNumbers s
 formNumbers (Form.Begin q o k) = q ∷ operationNumbers o k
 formNumbers (Form.Step q) = q ∷ []
+formNumbers (Form.Withdraw q) = q ∷ []
 
 -- The lines that are this form: numbers of one to ten digits, single spaces, nothing before or after.
 unfoldable pub FormLine : Form → List ℕ → Type 0

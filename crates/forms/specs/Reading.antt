@@ -12,6 +12,7 @@ use Rattle.model.specs.declared.OperationAnswer.the-variants as OperationAnswer
 use Rattle.model.specs.declared.Restructuring.{Restructuring}
 use Rattle.model.specs.declared.Restructuring.the-variants as Restructuring
 use Rattle.model.specs.declared.StepAnswer.the-variants as StepAnswer
+use Rattle.model.specs.declared.WithdrawAnswer.the-variants as WithdrawAnswer
 use Rattle.patterns.specs.Patterns.{Matching, no, yes, matchFrom, toEnd, padded}
 use Rattle.forms.specs.declared.Form.{Form}
 use Rattle.forms.specs.declared.Form.the-variants as Form
@@ -25,8 +26,8 @@ use Rattle.forms.specs.declared.AnswerRead.{AnswerRead}
 use Rattle.forms.specs.declared.AnswerRead.the-variants as AnswerRead
 use Rattle.forms.specs.declared.RestructuringRead.{RestructuringRead}
 use Rattle.forms.specs.declared.RestructuringRead.the-variants as RestructuringRead
-use Rattle.forms.specs.Forms.{stepForm, formatForm, findForm, insertForm, deleteForm}
-use Rattle.forms.specs.Replies.{unreadReply, formatOk, formatRefused, beginOk, beginRefused, stepMoved, stepWaiting, stepRefused, stepDone, foundAnswer, answerPattern, restructuringText}
+use Rattle.forms.specs.Forms.{stepForm, withdrawForm, formatForm, findForm, insertForm, deleteForm}
+use Rattle.forms.specs.Replies.{unreadReply, formatOk, formatRefused, beginOk, beginRefused, withdrawOk, withdrawRefused, stepMoved, stepWaiting, stepRefused, stepDone, foundAnswer, answerPattern, restructuringText}
 
 -- What the numbers found make, where there is a match, or else another thing.
 unfoldable pub orElse : {A : Type 0} → Matching → (List ℕ → A) → A → A
@@ -48,6 +49,9 @@ asBegin o ns = FormRead.Read (Form.Begin (getD ns 0 0) o (getD ns 1 0))
 abbrev pub asInsert : List ℕ → FormRead
 asInsert ns = FormRead.Read (Form.Begin (getD ns 0 0) (Operation.Insert (getD ns 2 0)) (getD ns 1 0))
 
+abbrev pub asWithdraw : List ℕ → FormRead
+asWithdraw ns = FormRead.Read (Form.Withdraw (getD ns 0 0))
+
 abbrev pub asFormat : List ℕ → FormRead
 asFormat ns =
     FormRead.Read (Form.Format (record {
@@ -61,11 +65,14 @@ asFormat ns =
 unfoldable pub readFormat : List ℕ → FormRead
 readFormat line = orElse (wholly formatForm line) asFormat FormRead.Unread
 
+unfoldable pub readWithdraw : List ℕ → FormRead
+readWithdraw line = orElse (wholly withdrawForm line) asWithdraw (readFormat line)
+
 unfoldable pub readBegin : List ℕ → FormRead
 readBegin line =
     orElse (wholly findForm line) (asBegin Operation.Find)
     (orElse (wholly insertForm line) asInsert
-    (orElse (wholly deleteForm line) (asBegin Operation.Delete) (readFormat line)))
+    (orElse (wholly deleteForm line) (asBegin Operation.Delete) (readWithdraw line)))
 
 unfoldable pub readForm : List ℕ → FormRead
 readForm line = orElse (wholly stepForm line) asStep (readBegin line)
@@ -134,10 +141,15 @@ readStepReply line =
     (orElse (wholly stepWaiting line) (λ ns. ReplyRead.Read (Reply.Step (getD ns 0 0) StepAnswer.Waiting))
     (orElse (wholly stepRefused line) (λ ns. ReplyRead.Read (Reply.Step (getD ns 0 0) (StepAnswer.Refused (getD ns 1 0)))) (readDone line)))
 
+unfoldable pub readWithdrawReply : List ℕ → ReplyRead
+readWithdrawReply line =
+    orElse (wholly withdrawOk line) (λ ns. ReplyRead.Read (Reply.Withdraw (getD ns 0 0) WithdrawAnswer.Withdrawn))
+    (orElse (wholly withdrawRefused line) (λ ns. ReplyRead.Read (Reply.Withdraw (getD ns 0 0) (WithdrawAnswer.Refused (getD ns 1 0)))) (readStepReply line))
+
 unfoldable pub readBeginReply : List ℕ → ReplyRead
 readBeginReply line =
     orElse (wholly beginOk line) (λ ns. ReplyRead.Read (Reply.Begin (getD ns 0 0) BeginAnswer.Begun))
-    (orElse (wholly beginRefused line) (λ ns. ReplyRead.Read (Reply.Begin (getD ns 0 0) (BeginAnswer.Refused (getD ns 1 0)))) (readStepReply line))
+    (orElse (wholly beginRefused line) (λ ns. ReplyRead.Read (Reply.Begin (getD ns 0 0) (BeginAnswer.Refused (getD ns 1 0)))) (readWithdrawReply line))
 
 unfoldable pub readReply : List ℕ → ReplyRead
 readReply line =

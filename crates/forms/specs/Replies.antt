@@ -1,4 +1,4 @@
--- The replies that turns prints (document 01, "The turns program"): each has a pattern and the numbers in it.
+-- The replies that turns prints (document 01, "The turns program"; document 02, change 2): each has a pattern and the numbers in it.
 -- Main definitions: replyPattern and replyNumbers, a row for each reply; a step that is done has a row for its answer and one for the restructuring;
 -- ReplyLine, replyText.
 use mathlib.Core.List.{List, [], _∷_, _++_}
@@ -13,6 +13,8 @@ use Rattle.model.specs.declared.Restructuring.{Restructuring}
 use Rattle.model.specs.declared.Restructuring.the-variants as Restructuring
 use Rattle.model.specs.declared.StepAnswer.{StepAnswer}
 use Rattle.model.specs.declared.StepAnswer.the-variants as StepAnswer
+use Rattle.model.specs.declared.WithdrawAnswer.{WithdrawAnswer}
+use Rattle.model.specs.declared.WithdrawAnswer.the-variants as WithdrawAnswer
 use Rattle.patterns.specs.Texts.{bytes}
 use Rattle.patterns.specs.Patterns.{filled}
 use Rattle.patterns.specs.Grammar.{Derives}
@@ -35,6 +37,12 @@ beginOk = bytes "(begin # ok)"
 
 abbrev pub beginRefused : List ℕ
 beginRefused = bytes "(begin # (refused #))"
+
+abbrev pub withdrawOk : List ℕ
+withdrawOk = bytes "(withdraw # ok)"
+
+abbrev pub withdrawRefused : List ℕ
+withdrawRefused = bytes "(withdraw # (refused #))"
 
 abbrev pub stepMoved : List ℕ
 stepMoved = bytes "(step # moved)"
@@ -77,6 +85,10 @@ unfoldable pub beginPattern : BeginAnswer → List ℕ
 beginPattern BeginAnswer.Begun = beginOk
 beginPattern (BeginAnswer.Refused n) = beginRefused
 
+unfoldable pub withdrawPattern : WithdrawAnswer → List ℕ
+withdrawPattern WithdrawAnswer.Withdrawn = withdrawOk
+withdrawPattern (WithdrawAnswer.Refused n) = withdrawRefused
+
 unfoldable pub stepPattern : StepAnswer → List ℕ
 stepPattern StepAnswer.Waiting = stepWaiting
 stepPattern StepAnswer.Moved = stepMoved
@@ -88,6 +100,7 @@ replyPattern Reply.Unread = unreadReply
 replyPattern (Reply.Format a) = formatPattern a
 replyPattern (Reply.Begin q a) = beginPattern a
 replyPattern (Reply.Step q a) = stepPattern a
+replyPattern (Reply.Withdraw q a) = withdrawPattern a
 
 unfoldable pub formatNumbers : FormatAnswer → List ℕ
 formatNumbers FormatAnswer.Formatted = []
@@ -96,6 +109,10 @@ formatNumbers (FormatAnswer.Refused n) = n ∷ []
 unfoldable pub beginNumbers : BeginAnswer → List ℕ
 beginNumbers BeginAnswer.Begun = []
 beginNumbers (BeginAnswer.Refused n) = n ∷ []
+
+unfoldable pub withdrawNumbers : WithdrawAnswer → List ℕ
+withdrawNumbers WithdrawAnswer.Withdrawn = []
+withdrawNumbers (WithdrawAnswer.Refused n) = n ∷ []
 
 -- Found has its setting.
 unfoldable pub answerNumbers : OperationAnswer → List ℕ
@@ -117,6 +134,7 @@ replyNumbers Reply.Unread = []
 replyNumbers (Reply.Format a) = formatNumbers a
 replyNumbers (Reply.Begin q a) = q ∷ beginNumbers a
 replyNumbers (Reply.Step q a) = q ∷ stepNumbers a
+replyNumbers (Reply.Withdraw q a) = q ∷ withdrawNumbers a
 
 -- An answer as it is printed, with the space behind it.
 unfoldable pub answerText : OperationAnswer → List ℕ

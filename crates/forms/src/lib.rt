@@ -1,4 +1,5 @@
-// The forms of the program turns (document 01, "The turns program"): the five that it reads and the replies that it prints, each read and printed by its pattern.
+// The forms of the program turns (document 01, "The turns program"; document 02, change 2): the six that it reads and
+// the replies that it prints, each read and printed by its pattern.
 // Main statements: read_form and read_reply are readForm and readReply; print_form and print_reply write the text of a form and of a reply. That a line is
 // read exactly where the grammar derives it, and that what is printed is read again: proofs/FormTheorems.antt and proofs/ReplyTheorems.antt.
 
@@ -12,7 +13,7 @@ ghost use lib.Dec.{leb};
 ghost use Rattle.patterns.specs.Patterns.{matched};
 ghost use Rattle.forms.specs.Forms.{stepForm, formText};
 ghost use Rattle.forms.specs.Replies.{replyText, answerText, restructuringText};
-ghost use Rattle.forms.specs.Reading.{wholly, readForm, readBegin, readFormat, readReply, readBeginReply, readStepReply, readDone, readAnswer, answerRead, readRestructuring};
+ghost use Rattle.forms.specs.Reading.{wholly, readForm, readBegin, readWithdraw, readFormat, readReply, readBeginReply, readWithdrawReply, readStepReply, readDone, readAnswer, answerRead, readRestructuring};
 ghost use Rattle.forms.specs.Printing.{longestForm, longestReply, given};
 use model::BeginAnswer;
 use model::FileSizes;
@@ -21,6 +22,7 @@ use model::Operation;
 use model::OperationAnswer;
 use model::Restructuring;
 use model::StepAnswer;
+use model::WithdrawAnswer;
 use patterns::Match;
 use patterns::Number;
 
@@ -34,6 +36,7 @@ pub enum Form {
     Format(FileSizes),
     Begin(u32, Operation, u32),
     Step(u32),
+    Withdraw(u32),
 }
 
 // What turns prints for a line.
@@ -42,6 +45,7 @@ pub enum Reply {
     Format(FormatAnswer),
     Begin(u32, BeginAnswer),
     Step(u32, StepAnswer),
+    Withdraw(u32, WithdrawAnswer),
 }
 
 // What a line says.
@@ -126,10 +130,22 @@ fn read_begin(line: &[u8]) -> FormRead
         let n = m.numbers;
         return FormRead::Read(Form::Begin(n[0], Operation::Delete, n[1]));
     }
-    read_format(line)
+    read_withdraw(line)
 }
 
 // The form of a line that is no step and no begin.
+fn read_withdraw(line: &[u8]) -> FormRead
+    ensures { λ r. ⌜ r ≡ readWithdraw (now (line .entry)) ⌝ }
+{
+    let m = patterns::match_rest(b"(withdraw #)", line, 0);
+    if m.matched {
+        let n = m.numbers;
+        return FormRead::Read(Form::Withdraw(n[0]));
+    }
+    read_format(line)
+}
+
+// The form of a line that is no call for a party.
 fn read_format(line: &[u8]) -> FormRead
     ensures { λ r. ⌜ r ≡ readFormat (now (line .entry)) ⌝ }
 {
@@ -181,6 +197,22 @@ fn read_begin_reply(line: &[u8]) -> ReplyRead
     if m.matched {
         let n = m.numbers;
         return ReplyRead::Read(Reply::Begin(n[0], BeginAnswer::Refused(n[1])));
+    }
+    read_withdraw_reply(line)
+}
+
+fn read_withdraw_reply(line: &[u8]) -> ReplyRead
+    ensures { λ r. ⌜ r ≡ readWithdrawReply (now (line .entry)) ⌝ }
+{
+    let m = patterns::match_rest(b"(withdraw # ok)", line, 0);
+    if m.matched {
+        let n = m.numbers;
+        return ReplyRead::Read(Reply::Withdraw(n[0], WithdrawAnswer::Withdrawn));
+    }
+    let m = patterns::match_rest(b"(withdraw # (refused #))", line, 0);
+    if m.matched {
+        let n = m.numbers;
+        return ReplyRead::Read(Reply::Withdraw(n[0], WithdrawAnswer::Refused(n[1])));
     }
     read_step_reply(line)
 }
@@ -306,6 +338,7 @@ fn put_form(form: Form, out: &mut [u8], at: usize) -> usize
     match form {
         Form::Step(q) => patterns::fill(b"(step #)", [q, 0, 0, 0, 0], out, at),
         Form::Begin(q, operation, k) => put_begin(q, operation, k, out, at),
+        Form::Withdraw(q) => patterns::fill(b"(withdraw #)", [q, 0, 0, 0, 0], out, at),
         Form::Format(s) => patterns::fill(
             b"(format # # # # #)",
             [s.originals, s.capacity, s.primaries, s.overflow, s.parties],
@@ -353,6 +386,7 @@ fn put_reply(reply: Reply, out: &mut [u8], at: usize) -> usize
         Reply::Format(answer) => put_format_reply(answer, out, at),
         Reply::Begin(q, answer) => put_begin_reply(q, answer, out, at),
         Reply::Step(q, answer) => put_step_reply(q, answer, out, at),
+        Reply::Withdraw(q, answer) => put_withdraw_reply(q, answer, out, at),
     }
 }
 
@@ -381,6 +415,22 @@ fn put_begin_reply(q: u32, answer: BeginAnswer, out: &mut [u8], at: usize) -> us
         BeginAnswer::Begun => patterns::fill(b"(begin # ok)", [q, 0, 0, 0, 0], out, at),
         BeginAnswer::Refused(n) => patterns::fill(
             b"(begin # (refused #))",
+            [q, n, 0, 0, 0],
+            out,
+            at,
+        ),
+    }
+}
+
+fn put_withdraw_reply(q: u32, answer: WithdrawAnswer, out: &mut [u8], at: usize) -> usize
+    requires { ⌜ at + longestReply ≤ length (now out) ⌝ }
+    ensures { λ r. ⌜ r ≡ at + length (replyText (Reply.Withdraw q answer)) ⌝ }
+    ensures { λ _. ⌜ now (out .exit) ≡ sets (now (out .entry)) at (replyText (Reply.Withdraw q answer)) ⌝ }
+{
+    match answer {
+        WithdrawAnswer::Withdrawn => patterns::fill(b"(withdraw # ok)", [q, 0, 0, 0, 0], out, at),
+        WithdrawAnswer::Refused(n) => patterns::fill(
+            b"(withdraw # (refused #))",
             [q, n, 0, 0, 0],
             out,
             at,

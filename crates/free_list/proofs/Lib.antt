@@ -3,3 +3,4 @@ pub mod Giving
 pub mod Linked
 pub mod Marks
 pub mod Taking
+pub mod TakingBack

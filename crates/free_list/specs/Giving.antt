@@ -1,10 +1,11 @@
 -- What giving back a list leaves of the root record and the page words.
--- Main definitions: listed (the pages of a list that was walked), CanGive (what must hold of it), Returned and afterGiving.
+-- Main definitions: listed (the pages of a list that was walked), CanGive (what must hold of it), linkOr, Returned and afterGiving.
 use mathlib.Core.Path.{_≡_}
-use mathlib.Core.Bool.{true}
+use mathlib.Core.Bool.{true, cond}
 use mathlib.Core.List.{List, []}
 use Prim.Native.Nat.{ℕ, _+_, _*_, _≤_}
 use lib.ListN.{length}
+use lib.Dec.{eqb}
 use Rattle.model.specs.declared.Root.{Root}
 use Rattle.model.specs.Records.{withFreeList}
 use Rattle.model.specs.Sizes.{pageWords}
@@ -25,6 +26,10 @@ pub record CanGive (r : Root) (ps : List ℕ) (first n : ℕ) : Type 0 where
   pub walked : counted (listFrom r ps first) ≡ Walked.Pages n
   pub room : r .free + n ≤ r .overflow
   pub fits : pageWords * (r .primaries + r .overflow) ≤ length ps
+
+-- The link l, where it names a page; else the link head.
+abbrev pub linkOr : ℕ → ℕ → ℕ
+linkOr l head = cond (eqb l 0) head l
 
 -- A root record and page words.
 pub record Returned : Type 0 where

@@ -1,8 +1,10 @@
 // The free list (document 01: "Pages are taken from the head; a page given back becomes the head").
-// Main statements: free_page is freePage; give_back is givenBack of the pages that a link leads to, for every memory in which they were walked;
-// take_pages is pagesTaken and draw what pagesTaken leaves, for every memory; link_at is the link of a page; is_marked and mark read and set one bit.
+// Main statements: free_page is freePage; give_back is givenBack of the pages that a link leads to, and take_back of
+// the same pages in reverse order, for every memory in which they were walked; take_pages is pagesTaken and draw what
+// pagesTaken leaves, for every memory; link_at is the link of a page; is_marked and mark read and set one bit.
 
 ghost use mathlib.Core.Path.{_≡_};
+ghost use mathlib.Core.List.{reverse};
 ghost use Prim.Native.Nat.{_+_, _*_, _≤_, _<_};
 ghost use lib.ListN.{length, take};
 ghost use Rattle.model.specs.Records.{withFreeList};
@@ -10,7 +12,7 @@ ghost use Rattle.model.specs.Sizes.{pageWords};
 ghost use Rattle.model.specs.Pages.{pageOf, linkOf, freePage};
 ghost use Rattle.model.specs.Chains.{listFrom};
 ghost use Rattle.model.specs.FreeList.{pagesTaken};
-ghost use Rattle.free_list.specs.Giving.{CanGive, listed, returned, afterGiving};
+ghost use Rattle.free_list.specs.Giving.{CanGive, listed, linkOr, returned, afterGiving};
 ghost use Rattle.free_list.specs.Marks.{isMarked, withMark, namesNew, marksWith};
 ghost use Rattle.free_list.specs.Taking.{drawnAs, drawn};
 use model::LINK_WORD;
@@ -69,6 +71,31 @@ pub fn link_at(pages: &[u32], p: PageAddress) -> u32
     ensures { λ r. ⌜ r ≡ linkOf (pageOf (now (pages .entry)) (p .0)) ⌝ }
 {
     pages[p.0 as usize * PAGE_WORDS + LINK_WORD]
+}
+
+// The link l, where it names a page; else the link `head`.
+fn link_or(l: u32, head: u32) -> u32
+    ensures { λ r. ⌜ r ≡ linkOr l head ⌝ }
+{
+    if l == 0 { head } else { l }
+}
+
+// The n pages that link `first` leads to are given back in reverse order. The first of them is then the head: each
+// page keeps its link and is else zeroed, and the last leads to the former head.
+pub fn take_back(root: Root, first: u32, n: u32, pages: &mut [u32]) -> Root
+    requires { ⌜ CanGive root (now pages) first n ⌝ }
+    ensures { λ r. ⌜ returned r (now (pages .exit)) ≡ afterGiving root (now (pages .entry)) (reverse (listed (listFrom root (now (pages .entry)) first))) ⌝ }
+{
+    let mut l = first;
+    let mut left = n;
+    while 0 < left {
+        let p = PageAddress(l - 1);
+        l = link_at(&pages[..], p);
+        let freed = free_page(link_or(l, root.head));
+        pages::store(pages, p, freed);
+        left -= 1;
+    }
+    with_free_list(root, link_or(first, root.head), root.free + n)
 }
 
 // Whether number v is marked: a bit for each number, 32 to a word.

@@ -1,5 +1,5 @@
 -- The machine values of what is held: the row of records as an array, a file of a root and a row, what each call returns.
--- Main statements: row-tells, row-typed, row-length (the row); root-of, row-of, parties-of, sizes-parties (parts of what is held); held-made, format-made, begin-made, step-made (what is put together of parts).
+-- Main statements: row-tells, row-typed, row-length (the row); root-of, row-of, parties-of, sizes-parties (parts of what is held); held-made, format-made, begin-made, step-made, withdraw-made (what is put together of parts).
 use mathlib.Core.Path.{_≡_, refl, sym, _∙_, subst}
 use mathlib.Core.List.{List, [], _∷_, map}
 use Prim.Native.Nat.{ℕ, _≤_, min}
@@ -35,6 +35,8 @@ use Rattle.model.proofs.BeginAnswer as B
 use Rattle.model.proofs.BeginAnswer.Laws as B′
 use Rattle.model.proofs.StepAnswer as N
 use Rattle.model.proofs.StepAnswer.Laws as N′
+use Rattle.model.proofs.WithdrawAnswer as G
+use Rattle.model.proofs.WithdrawAnswer.Laws as G′
 use Rattle.held.specs.declared.Held.{Held}
 use Rattle.held.proofs.Held as D
 use Rattle.held.proofs.Held.Laws as D′
@@ -47,6 +49,9 @@ use Rattle.held.proofs.HeldBegin.Laws as EB′
 use Rattle.held.specs.declared.HeldStep.{HeldStep}
 use Rattle.held.proofs.HeldStep as EN
 use Rattle.held.proofs.HeldStep.Laws as EN′
+use Rattle.held.specs.declared.HeldWithdraw.{HeldWithdraw}
+use Rattle.held.proofs.HeldWithdraw as EG
+use Rattle.held.proofs.HeldWithdraw.Laws as EG′
 
 -- ---- The row
 
@@ -125,3 +130,6 @@ begin-made x ih ia = ((D′.lowered (x .held) ∷ [], (B′.lowered (x .answer) 
 
 pub step-made : (x : HeldStep) → Is D.the-row (x .held) (D′.lowered (x .held) ∷ []) → Is N.the-row (x .answer) (N′.lowered (x .answer) ∷ []) → Is EN.the-row x (EN′.lowered x ∷ [])
 step-made x ih ia = ((D′.lowered (x .held) ∷ [], (N′.lowered (x .answer) ∷ [], tt)), (refl, (ih, (ia, tt))))
+
+pub withdraw-made : (x : HeldWithdraw) → Is D.the-row (x .held) (D′.lowered (x .held) ∷ []) → Is G.the-row (x .answer) (G′.lowered (x .answer) ∷ []) → Is EG.the-row x (EG′.lowered x ∷ [])
+withdraw-made x ih ia = ((D′.lowered (x .held) ∷ [], (G′.lowered (x .answer) ∷ [], tt)), (refl, (ih, (ia, tt))))

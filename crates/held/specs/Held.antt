@@ -1,5 +1,6 @@
 -- The file held by value: which memory a call is lent, and what is held after it.
--- Main definitions: recordsLent, memoryOf; heldFormat, heldBegin, heldStep: each gives the answer, all that is held and all lent words afterwards.
+-- Main definitions: recordsLent, memoryOf; heldFormat, heldBegin, heldStep, heldWithdraw: each gives the answer, all
+-- that is held and all lent words afterwards.
 use mathlib.Core.List.{List, _++_}
 use Prim.Native.Nat.{ℕ, min}
 use lib.ListN.{take, drop}
@@ -8,8 +9,9 @@ use Rattle.model.specs.declared.FileSizes.{FileSizes}
 use Rattle.model.specs.declared.FormatAnswer.{FormatAnswer}
 use Rattle.model.specs.declared.BeginAnswer.{BeginAnswer}
 use Rattle.model.specs.declared.StepAnswer.{StepAnswer}
+use Rattle.model.specs.declared.WithdrawAnswer.{WithdrawAnswer}
 use Rattle.model.specs.Memory.{Memory}
-use Rattle.model.specs.Calls.{Called, called, formatCall, beginCall, stepCall}
+use Rattle.model.specs.Calls.{Called, called, formatCall, beginCall, stepCall, withdrawCall}
 use Rattle.calls.specs.Lent.{lent}
 use Rattle.held.specs.declared.Held.{Held}
 
@@ -46,3 +48,9 @@ abbrev pub heldStep : Memory → ℕ → Called StepAnswer
 heldStep m q =
     let n = recordsLent (m .root .parties) in
     withRest n m (stepCall (firstOf n m) q)
+
+-- Withdraw for party q.
+abbrev pub heldWithdraw : Memory → ℕ → Called WithdrawAnswer
+heldWithdraw m q =
+    let n = recordsLent (m .root .parties) in
+    withRest n m (withdrawCall (firstOf n m) q)

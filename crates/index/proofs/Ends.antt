@@ -1,5 +1,5 @@
 -- What the walks of this crate cite that is no step of the machine: what each callee says, and that the contract's equation follows on each way.
--- Main statements: format-made, format-refused; begin-inside, begin-past; step-inside, step-past.
+-- Main statements: format-made, format-refused; begin-inside, begin-past; step-inside, step-past; withdraw-inside, withdraw-past.
 use mathlib.Core.Path.{_≡_, refl, sym, _∙_, ap, subst}
 use mathlib.Core.Bool.{Bool, not}
 use mathlib.Core.List.{List, [], _∷_}
@@ -14,13 +14,15 @@ use Rattle.model.specs.declared.FileSizes.{FileSizes}
 use Rattle.model.specs.declared.FormatAnswer.{FormatAnswer}
 use Rattle.model.specs.declared.FormatAnswer.the-variants as FormatAnswer
 use Rattle.model.specs.declared.StepAnswer.{StepAnswer}
+use Rattle.model.specs.declared.WithdrawAnswer.{WithdrawAnswer}
 use Rattle.model.specs.declared.Stepped.{Stepped}
 use Rattle.model.specs.Records as Records
 use Rattle.model.specs.Memory.{Memory, partyAt}
-use Rattle.model.specs.Calls.{Called, called, formatCall, beginCall, stepCall}
+use Rattle.model.specs.Calls.{Called, called, formatCall, beginCall, stepCall, withdrawCall}
 use Rattle.calls.specs.declared.Formatted.{Formatted}
 use Rattle.calls.specs.declared.Begun.{Begun}
-use Rattle.calls.specs.Lent.{lent, rowAfter, leftByFormat, leftByBegin, leftByStep}
+use Rattle.calls.specs.declared.Withdrawn.{Withdrawn}
+use Rattle.calls.specs.Lent.{lent, rowAfter, leftByFormat, leftByBegin, leftByStep, leftByWithdraw}
 use Rattle.index.specs.Answered.{isFormatted}
 
 -- The place of a record of ten words, 40 bytes, does not wrap.
@@ -61,6 +63,16 @@ abbrev pub PastSaid : Root → ℕ → ℕ → ℕ → ℕ → StepAnswer → Ty
 PastSaid r parties locks pages q a =
     (row : List Party) (ls gs : List ℕ) → length row ≡ parties → length ls ≡ locks → length gs ≡ pages → parties ≤ q → called a (lent r row ls gs) ≡ stepCall (lent r row ls gs) q
 
+-- A withdraw of it.
+abbrev pub WithdrawSaid : Root → Party → ℕ → ℕ → List ℕ → List ℕ → Withdrawn → List ℕ → List ℕ → Type 0
+WithdrawSaid r p parties q ls gs x ls′ gs′ =
+    (row : List Party) → length row ≡ parties → (q < parties → partyAt row q ≡ p) → leftByWithdraw x row q ls′ gs′ ≡ withdrawCall (lent r row ls gs) q
+
+-- A withdraw past the row's end.
+abbrev pub PastWithdrawSaid : Root → ℕ → ℕ → ℕ → ℕ → WithdrawAnswer → Type 0
+PastWithdrawSaid r parties locks pages q a =
+    (row : List Party) (ls gs : List ℕ) → length row ≡ parties → length ls ≡ locks → length gs ≡ pages → parties ≤ q → called a (lent r row ls gs) ≡ withdrawCall (lent r row ls gs) q
+
 -- ---- The row that format leaves
 
 made-row : (a : FormatAnswer) → T (isFormatted a) → (row : List Party) → rowAfter a row ≡ replicate (length row) Records.idle
@@ -99,3 +111,10 @@ module _ (r : Root) (ps : List Party) (ls gs : List ℕ) where
 
     pub step-past : (a : StepAnswer) → length ps ≤ q → PastSaid r (length ps) (length ls) (length gs) q a → called a (lent r ps ls gs) ≡ stepCall (lent r ps ls gs) q
     step-past a past said = said ps ls gs refl refl refl past
+
+    pub withdraw-inside : (x : Withdrawn) (ls′ gs′ : List ℕ) → WithdrawSaid r (partyAt ps q) (length ps) q ls gs x ls′ gs′
+        → called (x .answer) (lent (x .root) (set ps q (x .party)) ls′ gs′) ≡ withdrawCall (lent r ps ls gs) q
+    withdraw-inside x ls′ gs′ said = said ps refl (λ _. refl)
+
+    pub withdraw-past : (a : WithdrawAnswer) → length ps ≤ q → PastWithdrawSaid r (length ps) (length ls) (length gs) q a → called a (lent r ps ls gs) ≡ withdrawCall (lent r ps ls gs) q
+    withdraw-past a past said = said ps ls gs refl refl refl past

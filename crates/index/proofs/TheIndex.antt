@@ -1,4 +1,4 @@
--- THE INDEX is right: from any memory that `format` took on, every list of calls of `begin` and `step`, by any parties in any order, meets the demands. The statements are specs/TheIndex.antt.
+-- THE INDEX is right: from any memory that `format` took on, every list of calls of `begin`, `step` and `withdraw`, by any parties in any order, meets the demands. The statements are specs/TheIndex.antt.
 -- Main statements: format-accepts (memory of the lengths that the sizes ask for is formatted), start-right, index-right.
 use mathlib.Core.Path.{_≡_, refl, sym, _∙_, ap, ap₂, subst}
 use mathlib.Core.Bool.{Bool, true, false}
@@ -12,20 +12,23 @@ use Rattle.model.specs.declared.FormatAnswer.{FormatAnswer}
 use Rattle.model.specs.declared.FormatAnswer.the-variants as FormatAnswer
 use Rattle.model.specs.declared.BeginAnswer.{BeginAnswer}
 use Rattle.model.specs.declared.StepAnswer.{StepAnswer}
+use Rattle.model.specs.declared.WithdrawAnswer.{WithdrawAnswer}
 use Rattle.model.specs.Sizes.{withinLimits, lockWords, allPageWords}
 use Rattle.model.specs.Records.{rootSized}
 use Rattle.model.specs.Memory.{Memory, formatted}
 use Rattle.model.specs.Refusals.{lengthsFit}
 use Rattle.model.specs.Calls.{Called, called}
-use Rattle.model.specs.Runs.{Call, Reply, toBegin, toStep, Event, replyTo, afterCall, eventOf, events, finalMemory}
+use Rattle.model.specs.Runs.{Call, Reply, toBegin, toStep, toWithdraw, Event, replyTo, afterCall, eventOf, events, finalMemory}
 use Rattle.model.specs.Book.{emptyBook, bookAgrees, bookAtEnd}
 use Rattle.model.specs.Progress.{progresses}
 use Rattle.theory.specs.Demands.{Sizes, sizesOf, start, Reached}
 use Rattle.model.proofs.Theorems.RefusalOrder.{FormatOrder, format-order}
 use Rattle.theory.proofs.Linearization.{linearizable}
 use Rattle.theory.proofs.Settings.{founds-right}
+use Rattle.theory.proofs.Withdrawals.{withdrawals-right}
+use Rattle.theory.proofs.Restored.{restored}
 use Rattle.theory.proofs.Demands.{schedule-right, granted-right, singly-right, lists-right}
-use Rattle.index.specs.TheIndex.{Formatted, Made, begun, stepped, happened, Ran, ended, next, StartRight, IndexRight}
+use Rattle.index.specs.TheIndex.{Formatted, Made, begun, stepped, withdrew, happened, Ran, ended, next, StartRight, IndexRight}
 
 -- ---- The functions did what the definitions say
 
@@ -33,11 +36,13 @@ made-reply : {m m′ : Memory} {c : Call} {x : Reply} → Made m c x m′ → x 
 unfolding replyTo
 made-reply (begun q o k a e) = ap (λ (r : Called BeginAnswer). toBegin (r .answer)) e
 made-reply (stepped q a e) = ap (λ (r : Called StepAnswer). toStep (r .answer)) e
+made-reply (withdrew q a e) = ap (λ (r : Called WithdrawAnswer). toWithdraw (r .answer)) e
 
 made-memory : {m m′ : Memory} {c : Call} {x : Reply} → Made m c x m′ → m′ ≡ afterCall m c
 unfolding afterCall
 made-memory (begun q o k a e) = ap (λ (r : Called BeginAnswer). r .memory) e
 made-memory (stepped q a e) = ap (λ (r : Called StepAnswer). r .memory) e
+made-memory (withdrew q a e) = ap (λ (r : Called WithdrawAnswer). r .memory) e
 
 ran-events : {m m′ : Memory} {cs : List Call} {es : List Event} → Ran m cs es m′ → es ≡ events m cs
 unfolding events eventOf
@@ -110,4 +115,6 @@ module _ (m₀ : Memory) (z : FileSizes) (m : Memory) (is : Formatted m₀ z m) 
         singly = λ rest x fits. singly-right sizes-given cs rest x fits;
         linearization = linearizable sizes-given cs;
         founds = founds-right sizes-given cs (linearizable sizes-given cs);
+        withdrawals = withdrawals-right sizes-given cs;
+        restores = restored sizes-given cs;
       }

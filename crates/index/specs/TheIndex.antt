@@ -1,4 +1,4 @@
--- THE INDEX as its caller has it: `format`, `begin` and `step` of src/lib.rt, called one after the other on memory that nothing else changes. Read this file first.
+-- THE INDEX as its caller has it: `format`, `begin`, `step` and `withdraw` of src/lib.rt, called one after the other on memory that nothing else changes. Read this file first.
 -- What is said of one call is the equation of that function's contract. What is said of a run is the demands of document 01, of the very events and memory that the functions made.
 -- Main definitions: Formatted; Made (one call), Ran (a list of calls); StartRight (what holds once format has answered ok), IndexRight (what holds after every list of calls). The theorems are proofs/TheIndex.antt.
 use mathlib.Core.Path.{_≡_}
@@ -10,16 +10,18 @@ use Rattle.model.specs.declared.FileSizes.{FileSizes}
 use Rattle.model.specs.declared.FormatAnswer.the-variants as FormatAnswer
 use Rattle.model.specs.declared.BeginAnswer.{BeginAnswer}
 use Rattle.model.specs.declared.StepAnswer.{StepAnswer}
+use Rattle.model.specs.declared.WithdrawAnswer.{WithdrawAnswer}
 use Rattle.model.specs.Records.{rootSized}
 use Rattle.model.specs.Memory.{Memory, partyAt}
-use Rattle.model.specs.Calls.{called, formatCall, beginCall, stepCall}
-use Rattle.model.specs.Runs.{Call, beginFor, stepFor, Reply, toBegin, toStep, callerOf, Event, events}
+use Rattle.model.specs.Calls.{called, formatCall, beginCall, stepCall, withdrawCall}
+use Rattle.model.specs.Runs.{Call, beginFor, stepFor, withdrawFor, Reply, toBegin, toStep, toWithdraw, callerOf, Event, events}
 use Rattle.model.specs.Book.{emptyBook, bookAgrees, bookAtEnd}
 use Rattle.model.specs.Progress.{progresses}
 use Rattle.theory.specs.Singly.{Wanted, partiesFit}
 use Rattle.theory.specs.Demands.{Sizes, sizesOf, start, Reached, bookReached, ScheduleRight, GrantsRight, AtRest, RunSingly, ListSingly}
 use Rattle.theory.specs.Linearization.{Linearization}
 use Rattle.theory.specs.Settings.{FoundsRight}
+use Rattle.theory.specs.Withdrawals.{Restored, WithdrawalsRight}
 
 -- ---- Calls of the functions
 
@@ -27,10 +29,11 @@ use Rattle.theory.specs.Settings.{FoundsRight}
 abbrev pub Formatted : Memory → FileSizes → Memory → Type 0
 Formatted m₀ z m = called FormatAnswer.Formatted m ≡ formatCall m₀ (z .originals) (z .capacity) (z .primaries) (z .overflow) (z .parties)
 
--- A call of `begin` or `step` on memory m got this reply and left m′.
+-- A call of `begin`, `step` or `withdraw` on memory m got this reply and left m′.
 pub data Made : Memory → Call → Reply → Memory → Type 0 where
   begun : {m m′ : Memory} (q : ℕ) (o : Operation) (k : ℕ) (a : BeginAnswer) → called a m′ ≡ beginCall m q o k → Made m (beginFor q o k) (toBegin a) m′
   stepped : {m m′ : Memory} (q : ℕ) (a : StepAnswer) → called a m′ ≡ stepCall m q → Made m (stepFor q) (toStep a) m′
+  withdrew : {m m′ : Memory} (q : ℕ) (a : WithdrawAnswer) → called a m′ ≡ withdrawCall m q → Made m (withdrawFor q) (toWithdraw a) m′
 
 -- The event of a call made on memory m: the call, the step number of its party's record before it, and the reply.
 abbrev pub happened : Memory → Call → Reply → Event
@@ -71,3 +74,7 @@ pub record IndexRight (z : FileSizes) (cs : List Call) (es : List Event) (m : Me
   pub linearization : Linearization sizes cs
   -- Change 1: each found answers the setting of the last insert that added its key and was not deleted since, in that order.
   pub founds : FoundsRight sizes cs linearization
+  -- Change 2: neither a withdrawn operation nor its withdraw alters the map; and where an operation is begun, steps alone
+  -- and is withdrawn, all lent memory is what it was before its begin.
+  pub withdrawals : WithdrawalsRight sizes cs
+  pub restores : (x : Wanted) (n : ℕ) → Restored sizes cs x n

@@ -1,11 +1,14 @@
-// The public calls in the forms that document 01 names: format, begin and step, lent the root record, the row of party records, the lock words and the page words.
+// The public calls in the forms that document 01 names: format, begin, step and withdraw, lent the root record, the
+// row of party records, the lock words and the page words.
 // They are thin: the work is that of `calls`, which takes the root and one party's record by value. Here a record is taken out of the row, and what comes back is written where it came from;
-// past the row's end begin is handed the zero record, a step is calls::step_past, and both are refused.
-// Main statements: each call answers, and leaves in every lent word, what the model's formatCall, beginCall and stepCall say, for all words and all lengths; there is nothing that a caller must see to.
+// past the row's end begin is handed the zero record, a step is calls::step_past, a withdraw calls::withdraw_past, and
+// all are refused.
+// Main statements: each call answers, and leaves in every lent word, what the model's formatCall, beginCall, stepCall
+// and withdrawCall say, for all words and all lengths; there is nothing that a caller must see to.
 
 ghost use mathlib.Core.Path.{_≡_};
 ghost use lib.ListN.{length, replicate};
-ghost use Rattle.model.specs.Calls.{called, formatCall, beginCall, stepCall};
+ghost use Rattle.model.specs.Calls.{called, formatCall, beginCall, stepCall, withdrawCall};
 ghost use Rattle.calls.specs.Lent.{lent};
 ghost use Rattle.index.specs.Answered.{isFormatted};
 use model::BeginAnswer;
@@ -15,6 +18,7 @@ use model::Operation;
 use model::Party;
 use model::Root;
 use model::StepAnswer;
+use model::WithdrawAnswer;
 
 // Every record of the row becomes `p`.
 fn fill(parties: &mut [Party], p: Party)
@@ -119,5 +123,27 @@ pub fn step(
         return stepped.answer;
     } else {
         return calls::step_past(former, parties.len(), locks.len(), pages.len(), q);
+    }
+}
+
+// Withdraw for party q: its begin is taken back.
+pub fn withdraw(
+    root: &mut Root,
+    parties: &mut [Party],
+    locks: &mut [u32],
+    pages: &mut [u32],
+    q: u32,
+) -> WithdrawAnswer
+    ensures { λ r. ⌜ called r (lent (now (root .exit)) (now (parties .exit)) (now (locks .exit)) (now (pages .exit))) ≡ withdrawCall (lent (now (root .entry)) (now (parties .entry)) (now (locks .entry)) (now (pages .entry))) q ⌝ }
+{
+    let former = *root;
+    let at = q as usize;
+    if at < parties.len() {
+        let withdrawn = calls::withdraw(former, parties[at], parties.len(), q, locks, pages);
+        *root = withdrawn.root;
+        parties[at] = withdrawn.party;
+        return withdrawn.answer;
+    } else {
+        return calls::withdraw_past(former, parties.len(), locks.len(), pages.len(), q);
     }
 }

@@ -1,5 +1,5 @@
 -- What turns prints for a schedule: the replies of the model's calls, of which the demands speak (theory's specs/Demands.antt).
--- Main statements: format-starts (a format makes the file that schedules start from), calls-printed (begins and steps after it), schedule-printed (both, in the memory that turns has).
+-- Main statements: format-starts (a format makes the file that schedules start from), calls-printed (begins, steps and withdraws after it), schedule-printed (both, in the memory that turns has).
 use mathlib.Core.Path.{_≡_, refl, sym, _∙_, ap, subst}
 use mathlib.Core.Bool.{true}
 use mathlib.Core.List.{List, [], _∷_, _++_, map}
@@ -16,7 +16,7 @@ use Rattle.model.specs.Refusals.{lengthsFit}
 use Rattle.model.specs.Memory.{Memory, formatted, formattedRoot}
 use Rattle.model.specs.Calls.{Called, called, formatCall}
 use Rattle.model.specs.Book.{Book, emptyBook}
-use Rattle.model.specs.Runs.{Call, beginFor, stepFor, replyTo, afterCall, eventOf, events, finalMemory}
+use Rattle.model.specs.Runs.{Call, beginFor, stepFor, withdrawFor, replyTo, afterCall, eventOf, events, finalMemory}
 use Rattle.model.proofs.Laws.Lists.{eqb-same}
 use Rattle.model.proofs.Invariant.Statement.{Inv}
 use Rattle.model.proofs.Theorems.Calls.{call-kept}
@@ -70,7 +70,7 @@ format-starts s m records locks pages = (ap (λ (c : Called FormatAnswer). Reply
     made : formatCall given (s .originals) (s .capacity) (s .primaries) (s .overflow) (s .parties) ≡ called FormatAnswer.Formatted (start s)
     made = format-order given (s .originals) (s .capacity) (s .primaries) (s .overflow) (s .parties) .none (s .fit) fits
 
--- ---- Begins and steps
+-- ---- Begins, steps and withdraws
 
 -- One call: its reply is the model's, and the file in what is held is the model's memory.
 call-printed : (c : Call) (m : Memory) (b : Book) → Inv (fileIn m) b
@@ -78,6 +78,7 @@ call-printed : (c : Call) (m : Memory) (b : Book) → Inv (fileIn m) b
 unfolding performed formOf replyAs replyTo afterCall
 call-printed (beginFor q o k) m b i = (refl, file-in (afterCall (fileIn m) (beginFor q o k)) _ (call-kept steps-kept (fileIn m) b i (beginFor q o k) .inv) _ _ _)
 call-printed (stepFor q) m b i = (refl, file-in (afterCall (fileIn m) (stepFor q)) _ (call-kept steps-kept (fileIn m) b i (stepFor q) .inv) _ _ _)
+call-printed (withdrawFor q) m b i = (refl, file-in (afterCall (fileIn m) (withdrawFor q)) _ (call-kept steps-kept (fileIn m) b i (withdrawFor q) .inv) _ _ _)
 
 -- A list of calls, on a file that the invariant holds of: what format makes, and what such calls make of it.
 pub calls-printed : (cs : List Call) (m x : Memory) (b : Book) → Inv x b → fileIn m ≡ x
@@ -93,7 +94,7 @@ calls-printed (c ∷ cs) m x b i e =
 
 -- ---- Both
 
--- In memory as large as turns has it, whatever its contents: for a format and the begins and steps of a schedule turns prints that it formatted, then the replies of the schedule's events.
+-- In memory as large as turns has it, whatever its contents: for a format and the calls of a schedule turns prints that it formatted, then the replies of the schedule's events.
 pub schedule-printed : (s : Sizes) (cs : List Call) (m : Memory) → length (m .parties) ≡ 16 → 257 ≤ length (m .locks) → 16384 ≤ length (m .pages)
     → formsAnswered (Form.Format (sizesGiven s) ∷ map formOf cs) m .answer ≡ Reply.Format FormatAnswer.Formatted ∷ map replyOf (events (start s) cs)
 unfolding formsAnswered formatted formattedRoot

@@ -9,7 +9,7 @@ use Rattle.model.specs.Records.{rootSized}
 use Rattle.model.specs.Memory.{Memory}
 use Rattle.model.specs.Calls.{Called, called}
 use Rattle.calls.specs.Lent.{lent}
-use Rattle.held.specs.Held.{heldFormat, heldBegin, heldStep}
+use Rattle.held.specs.Held.{heldFormat, heldBegin, heldStep, heldWithdraw}
 use Rattle.forms.specs.declared.Form.{Form}
 use Rattle.forms.specs.declared.Form.the-variants as Form
 use Rattle.forms.specs.declared.FormRead.{FormRead}
@@ -26,11 +26,12 @@ wordsFor r m = lent (m .root) (m .parties) (take (lockWords r) (m .locks)) (take
 abbrev pub withWords : {A : Type 0} → Root → Memory → (A → Reply) → Called A → Called Reply
 withWords r m f c = called (f (c .answer)) (lent (c .memory .root) (c .memory .parties) (c .memory .locks ++ drop (lockWords r) (m .locks)) (c .memory .pages ++ drop (allPageWords r) (m .pages)))
 
--- The call that a form names: a format is lent words by the sizes given, a begin and a step by those of the root record.
+-- The call that a form names: a format is lent words by the sizes given, any other call by those of the root record.
 unfoldable pub performed : Form → Memory → Called Reply
 performed (Form.Format z) m = withWords (rootSized z) m (λ a. Reply.Format a) (heldFormat (wordsFor (rootSized z) m) z)
 performed (Form.Begin q o k) m = withWords (m .root) m (λ a. Reply.Begin q a) (heldBegin (wordsFor (m .root) m) q o k)
 performed (Form.Step q) m = withWords (m .root) m (λ a. Reply.Step q a) (heldStep (wordsFor (m .root) m) q)
+performed (Form.Withdraw q) m = withWords (m .root) m (λ a. Reply.Withdraw q a) (heldWithdraw (wordsFor (m .root) m) q)
 
 -- What a line says, performed; a line that is no form alters nothing.
 unfoldable pub answeredAs : FormRead → Memory → Called Reply

@@ -5,7 +5,7 @@ use mathlib.Core.List.{List, [], _∷_}
 use Rattle.model.specs.declared.FileSizes.{FileSizes}
 use Rattle.model.specs.Memory.{Memory}
 use Rattle.model.specs.Calls.{Called, called}
-use Rattle.model.specs.Runs.{Call, beginFor, stepFor, toBegin, toStep, Event}
+use Rattle.model.specs.Runs.{Call, beginFor, stepFor, withdrawFor, callerOf, toBegin, toStep, toWithdraw, Event}
 use Rattle.model.specs.Runs as Runs
 use Rattle.theory.specs.Demands.{Sizes}
 use Rattle.held.specs.Held.{recordsLent, firstOf}
@@ -35,13 +35,13 @@ sizesGiven s = record { originals = s .originals; capacity = s .capacity; primar
 unfoldable pub formOf : Call → Form
 formOf (beginFor q o k) = Form.Begin q o k
 formOf (stepFor q) = Form.Step q
+formOf (withdrawFor q) = Form.Withdraw q
 
 -- What a call returned, as it is printed: the party stands first.
 unfoldable pub replyAs : Call → Runs.Reply → Reply
-replyAs (beginFor q o k) (toBegin a) = Reply.Begin q a
-replyAs (beginFor q o k) (toStep a) = Reply.Step q a
-replyAs (stepFor q) (toBegin a) = Reply.Begin q a
-replyAs (stepFor q) (toStep a) = Reply.Step q a
+replyAs c (toBegin a) = Reply.Begin (callerOf c) a
+replyAs c (toStep a) = Reply.Step (callerOf c) a
+replyAs c (toWithdraw a) = Reply.Withdraw (callerOf c) a
 
 abbrev pub replyOf : Event → Reply
 replyOf e = replyAs (e .call) (e .reply)

@@ -123,6 +123,25 @@ fn step(q: u32, held: Held, locks: &mut [u32], pages: &mut [u32]) -> Performed
     }
 }
 
+// A withdraw.
+fn withdraw(q: u32, held: Held, locks: &mut [u32], pages: &mut [u32]) -> Performed
+    ensures { λ r. ⌜ called (r .reply) (memoryOf (r .held) (now (locks .exit)) (now (pages .exit))) ≡ performed (Form.Withdraw q) (memoryOf held (now (locks .entry)) (now (pages .entry))) ⌝ }
+{
+    let root = held.root;
+    let l = words_lent(lock_words(root.primaries), locks.len());
+    let g = words_lent(
+        page_words(root.primaries, root.overflow, root.parties),
+        pages.len(),
+    );
+    let c = held::withdraw(held, &mut locks[0..l], &mut pages[0..g], q);
+    let after = c.held;
+    let answer = c.answer;
+    Performed {
+        held: after,
+        reply: Reply::Withdraw(q, answer),
+    }
+}
+
 // The call that a form names.
 fn perform(form: Form, held: Held, locks: &mut [u32], pages: &mut [u32]) -> Performed
     ensures { λ r. ⌜ called (r .reply) (memoryOf (r .held) (now (locks .exit)) (now (pages .exit))) ≡ performed form (memoryOf held (now (locks .entry)) (now (pages .entry))) ⌝ }
@@ -131,6 +150,7 @@ fn perform(form: Form, held: Held, locks: &mut [u32], pages: &mut [u32]) -> Perf
         Form::Format(sizes) => format(sizes, held, locks, pages),
         Form::Begin(q, operation, key) => begin(q, operation, key, held, locks, pages),
         Form::Step(q) => step(q, held, locks, pages),
+        Form::Withdraw(q) => withdraw(q, held, locks, pages),
     }
 }
 

@@ -17,6 +17,8 @@ use Rattle.model.specs.declared.Restructuring.{Restructuring}
 use Rattle.model.specs.declared.Restructuring.the-variants as Restructuring
 use Rattle.model.specs.declared.StepAnswer.{StepAnswer}
 use Rattle.model.specs.declared.StepAnswer.the-variants as StepAnswer
+use Rattle.model.specs.declared.WithdrawAnswer.{WithdrawAnswer}
+use Rattle.model.specs.declared.WithdrawAnswer.the-variants as WithdrawAnswer
 use Rattle.model.specs.Records.{findOperation, insertOperation, deleteOperation, splitMade}
 
 -- "operation (0 idle, 1 find, 2 insert, 3 delete)".
@@ -88,6 +90,10 @@ refusalNumber (StepAnswer.Refused n) = n
 unfoldable pub beginRefusal : BeginAnswer → ℕ
 beginRefusal BeginAnswer.Begun = 0
 beginRefusal (BeginAnswer.Refused n) = n
+
+unfoldable pub withdrawRefusal : WithdrawAnswer → ℕ
+withdrawRefusal WithdrawAnswer.Withdrawn = 0
+withdrawRefusal (WithdrawAnswer.Refused n) = n
 
 unfoldable pub formatRefusal : FormatAnswer → ℕ
 formatRefusal FormatAnswer.Formatted = 0

@@ -14,8 +14,10 @@ use Rattle.model.specs.declared.StepAnswer.{StepAnswer}
 use Rattle.model.specs.declared.StepAnswer.the-variants as StepAnswer
 use Rattle.model.specs.declared.BeginAnswer.{BeginAnswer}
 use Rattle.model.specs.declared.BeginAnswer.the-variants as BeginAnswer
+use Rattle.model.specs.declared.WithdrawAnswer.{WithdrawAnswer}
+use Rattle.model.specs.declared.WithdrawAnswer.the-variants as WithdrawAnswer
 use Rattle.model.specs.Answers.{foundOrAbsent, sameAnswer}
-use Rattle.model.specs.Runs.{Call, beginFor, stepFor, Reply, toBegin, toStep, Event}
+use Rattle.model.specs.Runs.{Call, beginFor, stepFor, withdrawFor, Reply, toBegin, toStep, toWithdraw, Event}
 
 -- What the book keeps beside a key that is in: its setting.
 abbrev pub Value : Type 0
@@ -110,12 +112,22 @@ unfoldable pub afterBegin : Book → ℕ → Operation → ℕ → BeginAnswer �
 afterBegin b q o k BeginAnswer.Begun = enter b q o k
 afterBegin b q o k (BeginAnswer.Refused n) = b
 
+-- "its entry goes from the book with the withdraw" (document 02, change 2); the map stays.
+unfoldable pub afterWithdraw : Book → ℕ → WithdrawAnswer → Book
+afterWithdraw b q WithdrawAnswer.Withdrawn = withEntry b q none
+afterWithdraw b q (WithdrawAnswer.Refused n) = b
+
 -- The book after an event.
 unfoldable pub bookAfter : Book → Call → ℕ → Reply → Book
 bookAfter b (beginFor q o k) number (toBegin a) = afterBegin b q o k a
 bookAfter b (beginFor q o k) number (toStep a) = b
+bookAfter b (beginFor q o k) number (toWithdraw a) = b
 bookAfter b (stepFor q) number (toBegin a) = b
 bookAfter b (stepFor q) number (toStep a) = afterReply b q number a
+bookAfter b (stepFor q) number (toWithdraw a) = b
+bookAfter b (withdrawFor q) number (toBegin a) = b
+bookAfter b (withdrawFor q) number (toStep a) = b
+bookAfter b (withdrawFor q) number (toWithdraw a) = afterWithdraw b q a
 
 -- Whether an answer is the note.
 unfoldable pub isNote : OperationAnswer → Option OperationAnswer → Bool
@@ -137,6 +149,8 @@ unfoldable pub agrees : Book → Call → ℕ → Reply → Bool
 agrees b (beginFor q o k) number x = true
 agrees b (stepFor q) number (toBegin a) = true
 agrees b (stepFor q) number (toStep a) = agreesWith b q number a
+agrees b (stepFor q) number (toWithdraw a) = true
+agrees b (withdrawFor q) number x = true
 
 -- Whether the book agrees with every answer of a list of events.
 unfoldable pub bookAgrees : Book → List Event → Bool

@@ -1,5 +1,5 @@
--- The three calls as total functions on memory of any contents and any lengths (document 01, "What it covers" and "Refused calls").
--- Main definitions: formatCall, beginCall, stepCall; each gives the answer and all lent memory afterwards.
+-- The four calls as total functions on memory of any contents and any lengths (document 01, "What it covers" and "Refused calls"; document 02, change 2).
+-- Main definitions: formatCall, beginCall, stepCall, withdrawCall; each gives the answer and all lent memory afterwards.
 use mathlib.Core.Bool.{cond}
 use Prim.Native.Nat.{ℕ}
 use lib.ListN.{set}
@@ -9,13 +9,16 @@ use Rattle.model.specs.declared.StepAnswer.{StepAnswer}
 use Rattle.model.specs.declared.StepAnswer.the-variants as StepAnswer
 use Rattle.model.specs.declared.BeginAnswer.{BeginAnswer}
 use Rattle.model.specs.declared.BeginAnswer.the-variants as BeginAnswer
+use Rattle.model.specs.declared.WithdrawAnswer.{WithdrawAnswer}
+use Rattle.model.specs.declared.WithdrawAnswer.the-variants as WithdrawAnswer
 use Rattle.model.specs.declared.FormatAnswer.{FormatAnswer}
 use Rattle.model.specs.declared.FormatAnswer.the-variants as FormatAnswer
 use Rattle.model.specs.Records.{rootOfSizes, begun}
 use Rattle.model.specs.Answers.{operationNumber, settingGiven}
 use Rattle.model.specs.Memory.{Memory, partyAt, viewOf, afterStep, formatted}
-use Rattle.model.specs.Refusals.{firstCause, formatRows, beginRows, stepRows}
+use Rattle.model.specs.Refusals.{firstCause, formatRows, beginRows, stepRows, withdrawRows}
 use Rattle.model.specs.Steps.Dispatch.{stepOf}
+use Rattle.model.specs.Withdraw.{withdrawn}
 
 -- What a call answers, and the memory it leaves.
 pub record Called (A : Type 0) : Type 0 where
@@ -53,3 +56,15 @@ unfoldable pub stepCall : Memory → ℕ → Called StepAnswer
 stepCall m q =
     let c = firstCause (stepRows m q) in
     cond (eqb c 0) (stepped m q) (called (StepAnswer.Refused c) m)
+
+-- The party's operation taken back.
+unfoldable pub withdrawnFrom : Memory → ℕ → Called WithdrawAnswer
+withdrawnFrom m q =
+    let o = withdrawn (viewOf m q) in
+    called (o .answer) (afterStep m (o .after))
+
+-- Withdraw, for party q.
+unfoldable pub withdrawCall : Memory → ℕ → Called WithdrawAnswer
+withdrawCall m q =
+    let c = firstCause (withdrawRows m q) in
+    cond (eqb c 0) (withdrawnFrom m q) (called (WithdrawAnswer.Refused c) m)

@@ -1,6 +1,6 @@
 -- What each call alters, by its answer (document 01, "Agreement": "a step that alters nothing and says moved" does not meet demand 1), and what the book is fed of it.
 -- Main definitions: AltersOwn, StepAlters (a step that moved or is done alters the party's own words, any other call of step alters nothing); WaitsForLock; Begins, BeginAlters;
--- BookFed, BookCompares, BookEnters. The theorems that they hold are in proofs/.
+-- Withdraws, WithdrawAlters; BookFed, BookCompares, BookEnters, BookLeaves. The theorems that they hold are in proofs/.
 use mathlib.Core.Path.{_≡_}
 use mathlib.Core.Logic.{_≢_}
 use mathlib.Core.Bool.{Bool, true, false}
@@ -14,15 +14,20 @@ use Rattle.model.specs.declared.OperationAnswer.{OperationAnswer}
 use Rattle.model.specs.declared.Restructuring.{Restructuring}
 use Rattle.model.specs.declared.StepAnswer.the-variants as StepAnswer
 use Rattle.model.specs.declared.BeginAnswer.the-variants as BeginAnswer
-use Rattle.model.specs.Records.{begun}
+use Rattle.model.specs.declared.WithdrawAnswer.the-variants as WithdrawAnswer
+use Rattle.model.specs.Records.{begun, idle, withFreeList}
 use Rattle.model.specs.Answers.{operationNumber, settingGiven, performs}
 use Rattle.model.specs.LockWords.{Claim}
-use Rattle.model.specs.Pages.{pageOf, linkOf, scratchPage}
-use Rattle.model.specs.LockRequests.{isGranted}
+use Rattle.model.specs.Pages.{pageOf, linkOf, scratchPage, zeroPage}
+use Rattle.model.specs.Chains.{pagesListed}
+use Rattle.model.specs.FreeList.{isAmong}
+use Rattle.model.specs.LockRequests.{isGranted, givenUp}
 use Rattle.model.specs.Steps.Dispatch.{wants}
 use Rattle.model.specs.Memory.{Memory, partyAt, viewOf}
-use Rattle.model.specs.Calls.{withBegun, beginCall, stepCall}
-use Rattle.model.specs.Runs.{Call, beginFor, stepFor, toBegin, toStep, Event, eventOf, events}
+use Rattle.model.specs.Claims.{claims}
+use Rattle.model.specs.Withdraw.{builtPages}
+use Rattle.model.specs.Calls.{withBegun, beginCall, stepCall, withdrawCall}
+use Rattle.model.specs.Runs.{Call, beginFor, stepFor, withdrawFor, toBegin, toStep, toWithdraw, Event, eventOf, events}
 use Rattle.model.specs.Book.{Book, noteFor, bookAfter, isNoteOf, agrees}
 
 -- ---- A call of step
@@ -85,6 +90,27 @@ pub record BeginAlters (m : Memory) (q : ℕ) (o : Operation) (k : ℕ) : Type 0
   pub accepted : beginCall m q o k .answer ≡ BeginAnswer.Begun → Begins m q o k
   pub refused : (n : ℕ) → beginCall m q o k .answer ≡ BeginAnswer.Refused n → beginCall m q o k .memory ≡ m
 
+-- ---- A call of withdraw
+
+-- The memory after party q's call of withdraw.
+abbrev pub withdrawAfter : Memory → ℕ → Memory
+withdrawAfter m q = withdrawCall m q .memory
+
+-- It zeroes the party's record and scratch page and gives up the locks of its step number; of the root only the free list changes, and no page is written but scratch and the pages built.
+pub record Withdraws (m : Memory) (q : ℕ) : Type 0 where
+  pub own : partyAt (withdrawAfter m q .parties) q ≡ idle
+  pub others : (j : ℕ) → j ≢ q → partyAt (withdrawAfter m q .parties) j ≡ partyAt (m .parties) j
+  pub as-many : length (withdrawAfter m q .parties) ≡ length (m .parties)
+  pub root : withdrawAfter m q .root ≡ withFreeList (withdrawAfter m q .root .head) (withdrawAfter m q .root .free) (m .root)
+  pub locks : withdrawAfter m q .locks ≡ givenUp (claims (m .root) (partyAt (m .parties) q)) (viewOf m q) .locks
+  pub scratch : pageOf (withdrawAfter m q .pages) (scratchPage (m .root) q) ≡ zeroPage
+  pub elsewhere : (x : ℕ) → x ≢ scratchPage (m .root) q → isAmong x (pagesListed (builtPages (viewOf m q))) ≡ false → pageOf (withdrawAfter m q .pages) x ≡ pageOf (m .pages) x
+
+-- A withdraw accepted leaves what Withdraws says; one refused leaves all memory.
+pub record WithdrawAlters (m : Memory) (q : ℕ) : Type 0 where
+  pub accepted : withdrawCall m q .answer ≡ WithdrawAnswer.Withdrawn → Withdraws m q
+  pub refused : (n : ℕ) → withdrawCall m q .answer ≡ WithdrawAnswer.Refused n → withdrawAfter m q ≡ m
+
 -- ---- What the book is fed
 
 -- Of every call: the call itself, the party's own step number and the answer that this very call returned; the next call meets the memory that this one left.
@@ -92,8 +118,11 @@ pub record BookFed (m : Memory) : Type 0 where
   pub of-begin : (q : ℕ) (o : Operation) (k : ℕ)
       → eventOf m (beginFor q o k) ≡ record { call = beginFor q o k; number = partyAt (m .parties) q .step; reply = toBegin (beginCall m q o k .answer) }
   pub of-step : (q : ℕ) → eventOf m (stepFor q) ≡ record { call = stepFor q; number = partyAt (m .parties) q .step; reply = toStep (stepCall m q .answer) }
+  pub of-withdraw : (q : ℕ)
+      → eventOf m (withdrawFor q) ≡ record { call = withdrawFor q; number = partyAt (m .parties) q .step; reply = toWithdraw (withdrawCall m q .answer) }
   pub begin-then : (q : ℕ) (o : Operation) (k : ℕ) (cs : List Call) → events m (beginFor q o k ∷ cs) ≡ eventOf m (beginFor q o k) ∷ events (beginCall m q o k .memory) cs
   pub step-then : (q : ℕ) (cs : List Call) → events m (stepFor q ∷ cs) ≡ eventOf m (stepFor q) ∷ events (stepCall m q .memory) cs
+  pub withdraw-then : (q : ℕ) (cs : List Call) → events m (withdrawFor q ∷ cs) ≡ eventOf m (withdrawFor q) ∷ events (withdrawCall m q .memory) cs
 
 -- Whether the book agrees with the event of a call, and the book after it.
 abbrev pub agreesTo : Book → Event → Bool
@@ -112,3 +141,10 @@ pub record BookEnters (m : Memory) (b : Book) (q : ℕ) (o : Operation) (k : ℕ
   pub own : bookThen b (eventOf m (beginFor q o k)) .entries q ≡ some (record { operation = o; key = k; note = none })
   pub others : (j : ℕ) → j ≢ q → bookThen b (eventOf m (beginFor q o k)) .entries j ≡ b .entries j
   pub contents : bookThen b (eventOf m (beginFor q o k)) .contents ≡ b .contents
+
+-- A withdraw accepted takes its party's entry out; every other entry and the map stay. One refused leaves the book.
+pub record BookLeaves (m : Memory) (b : Book) (q : ℕ) : Type 0 where
+  pub own : withdrawCall m q .answer ≡ WithdrawAnswer.Withdrawn → bookThen b (eventOf m (withdrawFor q)) .entries q ≡ none
+  pub others : (j : ℕ) → j ≢ q → bookThen b (eventOf m (withdrawFor q)) .entries j ≡ b .entries j
+  pub contents : bookThen b (eventOf m (withdrawFor q)) .contents ≡ b .contents
+  pub refused : (n : ℕ) → withdrawCall m q .answer ≡ WithdrawAnswer.Refused n → bookThen b (eventOf m (withdrawFor q)) ≡ b

@@ -1,7 +1,7 @@
 -- Locks held, derived from the calls made and not from the lock words (demand 2): each grant adds a lock, each give-up takes it away.
 -- Sizes are those of a root record z, given to format; who is under way goes by the calls (the book's entries).
--- Main definitions: tableOne (Table I, its nine entries), Hold, permitted; givesUp (what each step gives up), holdsAfter; grantRight, stepRight, beginRight (one answer); grantsRight (over a
--- whole list).
+-- Main definitions: tableOne (Table I, its nine entries), Hold, permitted; givesUp (what each step gives up), holdsAfter; grantRight, stepRight, beginRight, withdrawRight (one answer);
+-- grantsRight (over a whole list).
 use mathlib.Core.Bool.{Bool, true, false, cond, not, _&&_, _||_}
 use mathlib.Core.List.{List, [], _∷_}
 use mathlib.Core.Option.{Option, none, some}
@@ -15,17 +15,21 @@ use Rattle.model.specs.declared.StepAnswer.{StepAnswer}
 use Rattle.model.specs.declared.StepAnswer.the-variants as StepAnswer
 use Rattle.model.specs.declared.BeginAnswer.{BeginAnswer}
 use Rattle.model.specs.declared.BeginAnswer.the-variants as BeginAnswer
+use Rattle.model.specs.declared.WithdrawAnswer.{WithdrawAnswer}
+use Rattle.model.specs.declared.WithdrawAnswer.the-variants as WithdrawAnswer
 use Rattle.model.specs.LockWords.{Claim}
 use Rattle.model.specs.Memory.{Memory, partyAt}
 use Rattle.model.specs.GivenSizes.{sizedRoot}
-use Rattle.model.specs.Calls.{beginCall, stepCall}
-use Rattle.model.specs.Runs.{Call, beginFor, stepFor, afterCall}
+use Rattle.model.specs.Calls.{beginCall, stepCall, withdrawCall}
+use Rattle.model.specs.Runs.{Call, beginFor, stepFor, withdrawFor, afterCall}
 use Rattle.model.specs.Book.{Book}
 use Rattle.model.specs.Answers.{isMoved}
 use Rattle.model.specs.Progress.{underWay, bookAfterCall}
 use Rattle.model.specs.LockRequests.{rootRead, chainLock, otherLock, chainSelective, chainExclusive, rootSelective, rootExclusive}
 use Rattle.model.specs.Steps.MergeLocks.{mergeLocks}
 use Rattle.model.specs.Steps.Dispatch.{wants}
+use Rattle.model.specs.Claims.{claims}
+use Rattle.model.specs.Withdraw.{isDecided}
 
 -- Table I: a request (first) beside a lock held (second): true to grant, false to wait.
 unfoldable pub tableOne : Mode → Mode → Bool
@@ -124,9 +128,19 @@ holdsAfterStep z hs m q =
     let left = withoutAll hs q (givesUp (p .step) p a) in
     cond (isMoved a) (withHeld left q (requested (p .step) (wantedBy z m q))) left
 
+-- The locks that a withdraw of a party with record p gives up: those that its step number claims.
+unfoldable pub givesUpWithdrawn : Root → Party → WithdrawAnswer → List Claim
+givesUpWithdrawn z p WithdrawAnswer.Withdrawn = claims z p
+givesUpWithdrawn z p (WithdrawAnswer.Refused n) = []
+
+-- The holds after a withdraw of party q.
+unfoldable pub holdsAfterWithdraw : Root → List Hold → Memory → ℕ → List Hold
+holdsAfterWithdraw z hs m q = withoutAll hs q (givesUpWithdrawn (sizedRoot z (m .root)) (partyAt (m .parties) q) (withdrawCall m q .answer))
+
 unfoldable pub holdsAfter : Root → List Hold → Memory → Call → List Hold
 holdsAfter z hs m (beginFor q o k) = hs
 holdsAfter z hs m (stepFor q) = holdsAfterStep z hs m q
+holdsAfter z hs m (withdrawFor q) = holdsAfterWithdraw z hs m q
 
 -- ---- Grants
 
@@ -176,6 +190,20 @@ beginRight parties q busy a =
     let there = cond busy (beginRefusedWith 4 a) (isBegun a) in
     cond (leb parties q) (beginRefusedWith 3 a) there
 
+-- A withdraw is refused 3 where there is no such party, 5 where it has nothing under way, 7 where the decisive step is taken, and is else accepted: it never waits.
+unfoldable pub withdrawRefusedWith : ℕ → WithdrawAnswer → Bool
+withdrawRefusedWith k WithdrawAnswer.Withdrawn = false
+withdrawRefusedWith k (WithdrawAnswer.Refused n) = eqb n k
+
+unfoldable pub isWithdrawn : WithdrawAnswer → Bool
+isWithdrawn WithdrawAnswer.Withdrawn = true
+isWithdrawn (WithdrawAnswer.Refused n) = false
+
+unfoldable pub withdrawRight : ℕ → ℕ → Bool → Bool → WithdrawAnswer → Bool
+withdrawRight parties q busy decided a =
+    let there = cond busy (cond decided (withdrawRefusedWith 7 a) (isWithdrawn a)) (withdrawRefusedWith 5 a) in
+    cond (leb parties q) (withdrawRefusedWith 3 a) there
+
 -- ---- Over a list of calls
 
 unfoldable pub stepRight : Root → Book → List Hold → Memory → ℕ → Bool
@@ -186,6 +214,7 @@ stepRight z b hs m q =
 unfoldable pub callRight : Root → Book → List Hold → Memory → Call → Bool
 callRight z b hs m (beginFor q o k) = beginRight (z .parties) q (underWay b q) (beginCall m q o k .answer)
 callRight z b hs m (stepFor q) = stepRight z b hs m q
+callRight z b hs m (withdrawFor q) = withdrawRight (z .parties) q (underWay b q) (isDecided (partyAt (m .parties) q)) (withdrawCall m q .answer)
 
 -- A requesting step is granted exactly where Table I permits it against the locks held, else it waits; no step of an operation under way is refused, and every other call as the table of refusals has it.
 unfoldable pub grantsRight : Root → Book → List Hold → Memory → List Call → Bool

@@ -14,6 +14,8 @@ pub mod LockRequests
 pub mod ScratchPages
 pub mod Endings
 pub mod Steps
+pub mod Claims
+pub mod Withdraw
 pub mod Memory
 pub mod Refusals
 pub mod Calls

@@ -13,6 +13,7 @@ use Rattle.model.specs.Addresses.{span, chainCount}
 use Rattle.model.specs.Outcome.{damage}
 use Rattle.model.specs.Memory.{Memory, partyAt}
 use Rattle.model.specs.Steps.Dispatch.{hasStep}
+use Rattle.model.specs.Withdraw.{isDecided}
 
 -- One row of the table: whether its cause is met, and the number returned.
 pub record Row : Type 0 where
@@ -47,6 +48,9 @@ busyRefusal = 4
 abbrev pub idleRefusal : ℕ
 idleRefusal = 5
 
+abbrev pub decidedRefusal : ℕ
+decidedRefusal = 7
+
 -- The rows, each with the causes in document 01's words.
 abbrev pub sizeRow : Root → Row
 sizeRow r = row (not (withinLimits r)) sizeRefusal
@@ -65,6 +69,10 @@ busyRow p = row (not (isIdle p)) busyRefusal
 
 abbrev pub idleRow : Party → Row
 idleRow p = row (isIdle p) idleRefusal
+
+-- "7 when the decisive step has been taken" (document 02, change 2).
+abbrev pub decidedRow : Party → Row
+decidedRow p = row (isDecided p) decidedRefusal
 
 -- ---- Damage, on the root and the party's record
 
@@ -101,3 +109,10 @@ unfoldable pub stepRows : Memory → ℕ → List Row
 stepRows m q =
     sizeRow (m .root)
     ∷ (lengthRow (m .root) m ∷ (partyRow (m .root) q ∷ (idleRow (partyAt (m .parties) q) ∷ (damageRow (m .root) (partyAt (m .parties) q) ∷ []))))
+
+-- Withdraw, for party q: 7 is "tested after 5 (the party is idle) and before 6"; the tests of damage that go by the step number are its own.
+unfoldable pub withdrawRows : Memory → ℕ → List Row
+withdrawRows m q =
+    sizeRow (m .root)
+    ∷ (lengthRow (m .root) m ∷ (partyRow (m .root) q
+    ∷ (idleRow (partyAt (m .parties) q) ∷ (decidedRow (partyAt (m .parties) q) ∷ (damageRow (m .root) (partyAt (m .parties) q) ∷ [])))))

@@ -83,6 +83,8 @@ pub const BUSY_REFUSED: u32 = 4;
 
 pub const IDLE_REFUSED: u32 = 5;
 
+pub const DECIDED_REFUSED: u32 = 7;
+
 pub const DAMAGE: u32 = 6;
 
 // ---- Records
@@ -186,6 +188,12 @@ pub enum StepAnswer {
 // What a call of begin answers.
 pub enum BeginAnswer {
     Begun,
+    Refused(u32),
+}
+
+// What a call of withdraw answers.
+pub enum WithdrawAnswer {
+    Withdrawn,
     Refused(u32),
 }
 

@@ -1,6 +1,8 @@
 -- The causes against the model's rows, and what holds of a call that meets none.
--- Main statements: format-cause-is, begin-cause-is, step-cause-is (for every memory, with its lengths); past-row-refused (past the row's end no record is looked at);
--- place-of-begin, place-of-step, row-length, number-below (the party's record stands in the row); ready (what a step's code may take for granted).
+-- Main statements: format-cause-is, begin-cause-is, step-cause-is, withdraw-cause-is (for every memory, with its
+-- lengths); past-row-refused (past the row's end no record is looked at); place-of-begin, place-of-step,
+-- place-of-withdraw, row-length, number-below (the party's record stands in the row); ready and withdraw-ready (what
+-- the code of a step and of a withdraw may take for granted).
 use mathlib.Core.Path.{_≡_, refl, sym, _∙_}
 use mathlib.Core.Logic.{_≢_}
 use mathlib.Core.Bool.{false}
@@ -13,12 +15,13 @@ use Rattle.model.specs.declared.Root.{Root}
 use Rattle.model.specs.declared.Party.{Party}
 use Rattle.model.specs.Records.{idle}
 use Rattle.model.specs.Memory.{Memory, partyAt}
-use Rattle.model.specs.Refusals.{firstCause, lengthsFit, busyRow, idleRow, damageRow, formatRows, beginRows, stepRows}
+use Rattle.model.specs.Refusals.{firstCause, lengthsFit, busyRow, idleRow, decidedRow, damageRow, formatRows, beginRows, stepRows, withdrawRows}
 use Rattle.model.specs.Ready.{Ready, viewing}
 use Rattle.model.proofs.Laws.Lists.{All}
 use Rattle.model.proofs.Laws.Booleans.{and-left, and-right}
 use Rattle.model.proofs.Theorems.Gate as Gate
-use Rattle.refusals.specs.Causes.{lengthsAre, placeRows, formatCause, placeCause, beginCause, stepCause}
+use Rattle.model.proofs.Steps.Withdraw.{undecided-early}
+use Rattle.refusals.specs.Causes.{lengthsAre, placeRows, formatCause, placeCause, beginCause, stepCause, withdrawCause}
 use Rattle.refusals.proofs.Causes.{none-earlier}
 
 -- ---- The model's rows
@@ -38,6 +41,11 @@ module _ (m : Memory) where
         stepCause (m .root) (partyAt (m .parties) q) (length (m .parties)) (length (m .locks)) (length (m .pages)) q ≡ firstCause (stepRows m q)
     unfolding stepCause stepRows lengthsAre lengthsFit
     step-cause-is = refl
+
+    pub withdraw-cause-is :
+        withdrawCause (m .root) (partyAt (m .parties) q) (length (m .parties)) (length (m .locks)) (length (m .pages)) q ≡ firstCause (withdrawRows m q)
+    unfolding withdrawCause withdrawRows lengthsAre lengthsFit
+    withdraw-cause-is = refl
 
 -- ---- The party's place in the row
 
@@ -72,6 +80,10 @@ module _ (r : Root) (p : Party) (parties locks pages q : ℕ) where
   unfolding stepCause placeCause
   place-of-step none = none-earlier (placeRows r parties locks pages q) (idleRow p ∷ (damageRow r p ∷ [])) none
 
+  pub place-of-withdraw : withdrawCause r p parties locks pages q ≡ 0 → placeCause r parties locks pages q ≡ 0
+  unfolding withdrawCause placeCause
+  place-of-withdraw none = none-earlier (placeRows r parties locks pages q) (idleRow p ∷ (decidedRow p ∷ (damageRow r p ∷ []))) none
+
 -- The view is ready, whatever the row's other records are.
 pub ready : (r : Root) (p : Party) (parties q : ℕ) (ls ps : List ℕ) → stepCause r p parties (length ls) (length ps) q ≡ 0 → Ready (viewing r p q ls ps)
 ready r p parties q ls ps none =
@@ -81,3 +93,14 @@ ready r p parties q ls ps none =
     let long : length (m .parties) ≡ parties = length-replicate parties p in
     let accepted : firstCause (stepRows m q) ≡ 0 = sym (step-cause-is m q) ∙ rw (here, long) none in
     rw here at (Gate.ready m q accepted)
+
+-- The same of a withdraw, and the party is before its decisive step.
+pub withdraw-ready : (r : Root) (p : Party) (parties q : ℕ) (ls ps : List ℕ) → withdrawCause r p parties (length ls) (length ps) q ≡ 0 → Ready (viewing r p q ls ps) × (p .step < 12)
+withdraw-ready r p parties q ls ps none =
+    let m : Memory = record { root = r; parties = replicate parties p; locks = ls; pages = ps } in
+    let below = number-below r parties (length ls) (length ps) q (place-of-withdraw r p parties (length ls) (length ps) q none) in
+    let here : partyAt (m .parties) q ≡ p = getD-replicate parties q p idle below in
+    let long : length (m .parties) ≡ parties = length-replicate parties p in
+    let accepted : firstCause (withdrawRows m q) ≡ 0 = sym (withdraw-cause-is m q) ∙ rw (here, long) none in
+    let view = rw here at (Gate.withdraw-ready m q accepted) in
+    (view, undecided-early p (view .step-fits) (rw here at (Gate.undecided m q accepted)) .0)

@@ -1,6 +1,7 @@
 -- The first cause, row by row: an earlier cause stands whatever rows follow, and where there is none the rows that follow decide.
 -- Main statements: earlier-stands, none-earlier, later-decides (of any rows); size-refused, length-refused, file-passed; file-stands, party-refused, place-passed;
--- place-stands-at-begin, busy-refused, begin-passed; place-stands-at-step, idle-refused, damage-refused, step-passed.
+-- place-stands-at-begin, busy-refused, begin-passed; place-stands-at-step, idle-refused, damage-refused, step-passed;
+-- place-stands-at-withdraw, nothing-to-withdraw, decided-refused, damage-refused-at-withdraw, withdraw-passed.
 use mathlib.Core.Path.{_≡_, refl, _∙_}
 use mathlib.Core.Logic.{_≢_}
 use mathlib.Core.Bool.{Bool, true, false}
@@ -11,10 +12,11 @@ use borrow.Author.Tests.{le-leb, lt-leb, eq-eqb, ne-eqb}
 use Rattle.model.specs.declared.Root.{Root}
 use Rattle.model.specs.declared.Party.{Party}
 use Rattle.model.specs.Sizes.{withinLimits}
-use Rattle.model.specs.Refusals.{Row, firstCause, recordSound, partyRow, busyRow, idleRow, damageRow}
+use Rattle.model.specs.Refusals.{Row, firstCause, recordSound, partyRow, busyRow, idleRow, decidedRow, damageRow}
+use Rattle.model.specs.Withdraw.{isDecided}
 use Rattle.model.proofs.Laws.Lists.{All, Cmp, cmp, same, diff}
 use Rattle.model.proofs.Theorems.Gate.{none-met}
-use Rattle.refusals.specs.Causes.{lengthsAre, fileRows, placeRows, formatCause, placeCause, beginCause, stepCause}
+use Rattle.refusals.specs.Causes.{lengthsAre, fileRows, placeRows, formatCause, placeCause, beginCause, stepCause, withdrawCause}
 
 -- ---- Any rows
 
@@ -57,7 +59,7 @@ module _ (r : Root) (parties locks pages : ℕ) where
   unfolding formatCause firstCause
   file-passed s l = rw (s, l)
 
--- ---- The rows that begin and step share
+-- ---- The rows that begin, step and withdraw share
 
 module _ (r : Root) (parties locks pages q : ℕ) where
   pub file-stands : formatCause r parties locks pages ≢ 0 → formatCause r parties locks pages ≡ placeCause r parties locks pages q
@@ -77,7 +79,7 @@ module _ (r : Root) (parties locks pages q : ℕ) where
     unfolding firstCause
     place-passed h = rw (lt-leb (r .parties) q h) at past-file
 
--- ---- Begin and step, by the party's record
+-- ---- Begin, step and withdraw, by the party's record
 
 module _ (r : Root) (p : Party) (parties locks pages q : ℕ) where
   pub place-stands-at-begin : placeCause r parties locks pages q ≢ 0 → placeCause r parties locks pages q ≡ beginCause r p parties locks pages q
@@ -87,6 +89,10 @@ module _ (r : Root) (p : Party) (parties locks pages q : ℕ) where
   pub place-stands-at-step : placeCause r parties locks pages q ≢ 0 → placeCause r parties locks pages q ≡ stepCause r p parties locks pages q
   unfolding placeCause stepCause
   place-stands-at-step h = earlier-stands (placeRows r parties locks pages q) (idleRow p ∷ (damageRow r p ∷ [])) h
+
+  pub place-stands-at-withdraw : placeCause r parties locks pages q ≢ 0 → placeCause r parties locks pages q ≡ withdrawCause r p parties locks pages q
+  unfolding placeCause withdrawCause
+  place-stands-at-withdraw h = earlier-stands (placeRows r parties locks pages q) (idleRow p ∷ (decidedRow p ∷ (damageRow r p ∷ []))) h
 
   module _ (passed : placeCause r parties locks pages q ≡ 0) where
     unmet : All (λ x. x .met ≡ false) (placeRows r parties locks pages q)
@@ -120,3 +126,23 @@ module _ (r : Root) (p : Party) (parties locks pages q : ℕ) where
     pub step-passed : p .operation ≢ 0 → recordSound r p ≡ true → 0 ≡ stepCause r p parties locks pages q
     unfolding firstCause
     step-passed h s = rw (ne-eqb (p .operation) 0 h, s) at past-place-at-step
+
+    past-place-at-withdraw : firstCause (idleRow p ∷ (decidedRow p ∷ (damageRow r p ∷ []))) ≡ withdrawCause r p parties locks pages q
+    unfolding withdrawCause
+    past-place-at-withdraw = later-decides (placeRows r parties locks pages q) (idleRow p ∷ (decidedRow p ∷ (damageRow r p ∷ []))) unmet
+
+    pub nothing-to-withdraw : p .operation ≡ 0 → 5 ≡ withdrawCause r p parties locks pages q
+    unfolding firstCause
+    nothing-to-withdraw h = rw (eq-eqb (p .operation) 0 h) at past-place-at-withdraw
+
+    pub decided-refused : p .operation ≢ 0 → isDecided p ≡ true → 7 ≡ withdrawCause r p parties locks pages q
+    unfolding firstCause
+    decided-refused h d = rw (ne-eqb (p .operation) 0 h, d) at past-place-at-withdraw
+
+    pub damage-refused-at-withdraw : p .operation ≢ 0 → isDecided p ≡ false → recordSound r p ≡ false → 6 ≡ withdrawCause r p parties locks pages q
+    unfolding firstCause
+    damage-refused-at-withdraw h d s = rw (ne-eqb (p .operation) 0 h, d, s) at past-place-at-withdraw
+
+    pub withdraw-passed : p .operation ≢ 0 → isDecided p ≡ false → recordSound r p ≡ true → 0 ≡ withdrawCause r p parties locks pages q
+    unfolding firstCause
+    withdraw-passed h d s = rw (ne-eqb (p .operation) 0 h, d, s) at past-place-at-withdraw

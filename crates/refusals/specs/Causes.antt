@@ -1,5 +1,6 @@
 -- The first cause of refusal of each call, by the lent lengths as numbers (document 01, "Refused calls").
--- Main definitions: formatCause, beginCause, stepCause; placeCause (the rows that begin and step share).
+-- Main definitions: formatCause, beginCause, stepCause, withdrawCause; placeCause (the rows that begin, step and
+-- withdraw share).
 -- proofs/Accepted.antt shows that each is the model's first cause of the call's rows, for every memory of these lengths.
 use mathlib.Core.Bool.{Bool, not, _&&_}
 use mathlib.Core.List.{List, [], _∷_, _++_}
@@ -8,7 +9,7 @@ use lib.Dec.{eqb}
 use Rattle.model.specs.declared.Root.{Root}
 use Rattle.model.specs.declared.Party.{Party}
 use Rattle.model.specs.Sizes.{lockWords, allPageWords}
-use Rattle.model.specs.Refusals.{Row, row, firstCause, sizeRow, partyRow, busyRow, idleRow, damageRow}
+use Rattle.model.specs.Refusals.{Row, row, firstCause, sizeRow, partyRow, busyRow, idleRow, decidedRow, damageRow}
 
 -- "a lent length other than Q records, P+1 lock words or 16 × (P+V+Q) page words": the lengths in this order.
 unfoldable pub lengthsAre : Root → ℕ → ℕ → ℕ → Bool
@@ -18,7 +19,7 @@ lengthsAre r parties locks pages = eqb parties (r .parties) && eqb locks (lockWo
 abbrev pub fileRows : Root → ℕ → ℕ → ℕ → List Row
 fileRows r parties locks pages = sizeRow r ∷ (row (not (lengthsAre r parties locks pages)) 1 ∷ [])
 
--- The rows that begin and step share, for party q.
+-- The rows that begin, step and withdraw share, for party q.
 abbrev pub placeRows : Root → ℕ → ℕ → ℕ → ℕ → List Row
 placeRows r parties locks pages q = fileRows r parties locks pages ++ (partyRow r q ∷ [])
 
@@ -26,7 +27,7 @@ placeRows r parties locks pages q = fileRows r parties locks pages ++ (partyRow 
 unfoldable pub formatCause : Root → ℕ → ℕ → ℕ → ℕ
 formatCause r parties locks pages = firstCause (fileRows r parties locks pages)
 
--- Begin and step, before a party's record is looked at.
+-- Begin, step and withdraw, before a party's record is looked at.
 unfoldable pub placeCause : Root → ℕ → ℕ → ℕ → ℕ → ℕ
 placeCause r parties locks pages q = firstCause (placeRows r parties locks pages q)
 
@@ -37,3 +38,7 @@ beginCause r p parties locks pages q = firstCause (placeRows r parties locks pag
 -- Step for party q, whose record is p.
 unfoldable pub stepCause : Root → Party → ℕ → ℕ → ℕ → ℕ → ℕ
 stepCause r p parties locks pages q = firstCause (placeRows r parties locks pages q ++ (idleRow p ∷ (damageRow r p ∷ [])))
+
+-- Withdraw for party q, whose record is p.
+unfoldable pub withdrawCause : Root → Party → ℕ → ℕ → ℕ → ℕ → ℕ
+withdrawCause r p parties locks pages q = firstCause (placeRows r parties locks pages q ++ (idleRow p ∷ (decidedRow p ∷ (damageRow r p ∷ []))))

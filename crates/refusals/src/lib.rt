@@ -1,6 +1,7 @@
 // The tests that every call makes before it changes a word (document 01, "Refused calls"), over the root record and one party's record by value.
-// Main statements: within_limits, lengths_fit, root_sound, party_sound and has_step are the model's tests, for every word; format_cause, begin_cause and step_cause
-// are the first cause in the table's order, 0 for none. proofs/Accepted.antt: what holds once there is none.
+// Main statements: within_limits, lengths_fit, root_sound, party_sound, has_step and is_decided are the model's tests,
+// for every word; format_cause, begin_cause, step_cause and withdraw_cause are the first cause in the table's order, 0
+// for none. proofs/Accepted.antt: what holds once there is none.
 
 ghost use mathlib.Core.Path.{_≡_};
 ghost use Prim.Native.Nat.{_^_, _≤_, _<_};
@@ -9,9 +10,11 @@ ghost use Rattle.model.specs.Addresses as Addresses;
 ghost use Rattle.model.specs.Records.{rootSized};
 ghost use Rattle.model.specs.Refusals.{rootSound, partySound};
 ghost use Rattle.model.specs.Steps.Dispatch.{hasStep};
-ghost use Rattle.refusals.specs.Causes.{lengthsAre, formatCause, placeCause, beginCause, stepCause};
+ghost use Rattle.model.specs.Withdraw.{isDecided};
+ghost use Rattle.refusals.specs.Causes.{lengthsAre, formatCause, placeCause, beginCause, stepCause, withdrawCause};
 use model::BUSY_REFUSED;
 use model::DAMAGE;
+use model::DECIDED_REFUSED;
 use model::DELETE;
 use model::FIND;
 use model::FileSizes;
@@ -165,7 +168,7 @@ pub fn format_cause(sizes: FileSizes, parties: usize, locks: usize, pages: usize
     file_cause(root, parties, locks, pages)
 }
 
-// The rows that begin and step share, for party q: no party's record is looked at.
+// The rows that begin, step and withdraw share, for party q: no party's record is looked at.
 pub fn place_cause(root: Root, parties: usize, locks: usize, pages: usize, q: u32) -> u32
     ensures { λ r. ⌜ r ≡ placeCause root parties locks pages q ⌝ }
 {
@@ -217,6 +220,46 @@ pub fn step_cause(
     }
     if party.operation == IDLE {
         return IDLE_REFUSED;
+    }
+    if !root_sound(root) {
+        return DAMAGE;
+    }
+    if !party_sound(root, party) {
+        return DAMAGE;
+    }
+    NO_CAUSE
+}
+
+// "7 when the decisive step has been taken (a find at 9, a change at 12 or later)": by operation and step number
+// alone.
+pub fn is_decided(party: Party) -> bool
+    ensures { λ r. ⌜ r ≡ isDecided party ⌝ }
+{
+    let find = party.operation == FIND;
+    let change = (party.operation == INSERT) | (party.operation == DELETE);
+    (find & (party.step == 9)) | (change & (12 <= party.step))
+}
+
+// Withdraw for party q, whose record is `party`: 7 is "tested after 5 (the party is idle) and before 6".
+pub fn withdraw_cause(
+    root: Root,
+    party: Party,
+    parties: usize,
+    locks: usize,
+    pages: usize,
+    q: u32,
+) -> u32
+    ensures { λ r. ⌜ r ≡ withdrawCause root party parties locks pages q ⌝ }
+{
+    let place = place_cause(root, parties, locks, pages, q);
+    if place != NO_CAUSE {
+        return place;
+    }
+    if party.operation == IDLE {
+        return IDLE_REFUSED;
+    }
+    if is_decided(party) {
+        return DECIDED_REFUSED;
     }
     if !root_sound(root) {
         return DAMAGE;

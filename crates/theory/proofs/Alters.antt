@@ -372,7 +372,7 @@ step-effect k v = subst (λ (n : ℕ). Effect v n (getD stepTable k noStep v)) (
 waiting-not-refused : (n : ℕ) → StepAnswer.Waiting ≢ StepAnswer.Refused n
 waiting-not-refused n e = let z : _≡_ {A = ℕ} 0 1 = cc in omega arith
 
-begun-not-refused : (n : ℕ) → BeginAnswer.Begun ≢ BeginAnswer.Refused n
+pub begun-not-refused : (n : ℕ) → BeginAnswer.Begun ≢ BeginAnswer.Refused n
 begun-not-refused n e = let z : _≡_ {A = ℕ} 0 1 = cc in omega arith
 
 -- ---- A call of step

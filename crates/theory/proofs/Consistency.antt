@@ -38,7 +38,7 @@ use Rattle.model.proofs.Laws.Reading.{linked-list, length-overflow}
 use Rattle.model.proofs.Invariant.Ghost.{Extent, extent, rootExtent, size, advance, localLevel, inChain}
 use Rattle.model.proofs.Invariant.Extents.{size-is, local-rest, key-home, Restructurer, somebody, nobody-does, restructurer}
 use Rattle.model.proofs.Invariant.Statement.{liveFor, Inv, sceneOf}
-use Rattle.model.proofs.Invariant.Claims.{claimTable, noLock}
+use Rattle.model.specs.Claims.{claimTable, noLock}
 use Rattle.model.proofs.Invariant.Frame.{holds-chain}
 use Rattle.model.proofs.Invariant.Facts.{At, facts-at}
 use Rattle.model.proofs.Invariant.Turn.{turn-at}

@@ -1,5 +1,6 @@
 -- Demand 2, grants and refusals: over every list of calls from formatted memory a requesting step is granted exactly where Table I permits it against the locks held, else it waits,
--- a step that requests nothing never waits, no step of an operation under way is refused, and every other call is refused or accepted as the table of refusals says.
+-- a step that requests nothing never waits, no step of an operation under way is refused, and every other call is refused or accepted as the table of refusals says; a withdraw, which never waits, is
+-- refused only 3, 5 or 7.
 -- Which locks are held and who is under way is derived from the calls (specs/Holds.antt).
 -- Main statements: call-grants (one call, and the ledger after it); run-grants (a list from any memory with the invariant);
 -- grants-right (from formatted memory).
@@ -10,28 +11,34 @@ use mathlib.Core.Option.{Option, none, some}
 use Prim.Native.Nat.{ℕ, _+_, _-_, _≤_, _<_}
 use native.Mathlib.Omega.{arith}
 use lib.ListN.{length, set}
+use lib.Dec.{leb}
 use Rattle.model.specs.declared.Root.{Root}
 use Rattle.model.specs.declared.Party.{Party}
 use Rattle.model.specs.declared.Operation.{Operation}
 use Rattle.model.specs.declared.StepAnswer.{StepAnswer}
 use Rattle.model.specs.declared.StepAnswer.the-variants as StepAnswer
 use Rattle.model.specs.declared.BeginAnswer.{BeginAnswer}
+use Rattle.model.specs.declared.WithdrawAnswer.{WithdrawAnswer}
+use Rattle.model.specs.declared.WithdrawAnswer.the-variants as WithdrawAnswer
 use Rattle.model.specs.Sizes.{withinLimits, lockWords}
-use Rattle.model.specs.Records.{begun}
+use Rattle.model.specs.Records.{begun, idle}
 use Rattle.model.specs.Answers.{operationNumber, refusalNumber, isMoved, settingGiven}
 use Rattle.model.specs.LockWords.{Claim}
 use Rattle.model.specs.Outcome.{View, Outcome, damage}
 use Rattle.model.specs.LockRequests.{isGranted}
 use Rattle.model.specs.Memory.{Memory, partyAt, viewOf, formatted}
-use Rattle.model.specs.Calls.{Called, called, stepped, stepCall, withBegun, beginCall}
-use Rattle.model.specs.Runs.{Call, beginFor, stepFor, eventOf, afterCall}
+use Rattle.model.specs.Calls.{Called, called, stepped, stepCall, withBegun, beginCall, withdrawCall}
+use Rattle.model.specs.Runs.{Call, beginFor, stepFor, withdrawFor, eventOf, afterCall}
 use Rattle.model.specs.Book.{Book, Entered, emptyBook}
 use Rattle.model.specs.Progress.{underWay, bookAfterCall}
-use Rattle.model.specs.Holds.{Hold, permitted, withoutAll, givesUp, requested, withHeld, wantedBy, holdsAfterStep, holdsAfter, neverWaits, grantRight, answerRight, refusedWith, beginRefusedWith, isBegun, idleRight, beginRight, stepRight, callRight, grantsRight}
+use Rattle.model.specs.Holds.{Hold, permitted, withoutAll, givesUp, requested, withHeld, wantedBy, holdsAfterStep, givesUpWithdrawn, holdsAfterWithdraw, holdsAfter, neverWaits, grantRight, answerRight, refusedWith, beginRefusedWith, isBegun, idleRight, beginRight, withdrawRefusedWith, isWithdrawn, withdrawRight, stepRight, callRight, grantsRight}
 use Rattle.theory.specs.Demands.{Sizes, sizesOf, start, GrantsRight}
 use Rattle.model.specs.Steps.Dispatch.{wants}
 use Rattle.model.proofs.Laws.Lists.{both-and, eqb-true, le-leb, lt-leb}
-use Rattle.model.proofs.Invariant.Claims.{claims}
+use Rattle.model.specs.Claims.{claims}
+use Rattle.model.specs.GivenSizes.{sizedRoot}
+use Rattle.model.specs.Withdraw.{isDecided}
+use Rattle.model.proofs.Steps.Withdraw.{leftBy}
 use Rattle.model.proofs.Invariant.Statement.{factsAt, Busy, Inv, sceneOf}
 use Rattle.model.proofs.Invariant.Frame.{SameLimits}
 use Rattle.model.proofs.Invariant.Start.{party-idle, start-inv}
@@ -39,6 +46,7 @@ use Rattle.model.proofs.Theorems.RefusalOrder.{begin-order}
 use Rattle.model.proofs.Theorems.Calls.{StepsKept, within-limits, operation-some, lengths-fit, call-kept}
 use Rattle.theory.proofs.SizesStay.{limits-on, call-limits, start-limits, sized-root}
 use Rattle.theory.proofs.UnderWay.{inv-fits, entered-under, unentered-under, Met, no-party, nothing-begun, under-way, meets}
+use Rattle.theory.proofs.Withdraws.{withdrawn-not-refused, WithdrawTested, turned-away, let-through, withdraw-tested, WithdrawMet, stranger, unbegun, too-late, taken-back, withdraw-meets}
 use Rattle.theory.proofs.Answering.{unasked, asked, fairly, step-fair}
 use Rattle.theory.proofs.LockOrder.{WantedHigher, wanted-higher}
 use Rattle.theory.proofs.Ledger.{holdCount, claimCount, countFor, count-none, count-own, count-other, count-without-all, count-with, listed, LedgerOk, ledger-set, permitted-is}
@@ -168,10 +176,44 @@ module _ (kept : StepsKept) (z : Root) (m : Memory) (b : Book) (i : Inv m b) (l 
           (sym (begin-order m q o k .busy fits (lengths-fit m b i) h (operation-some (e .operation) (partyAt (m .parties) q .operation) (c .same-operation))))
           (rw (lt-leb (z .parties) q (omega (arith, l .parties=)), entered-under b q e (c .entry)) refl, ok)
 
+  -- ---- Withdraw
+
+  abbrev WithdrawGrants : ℕ → Called WithdrawAnswer → Type 0
+  WithdrawGrants q c = (withdrawRight (z .parties) q (underWay b q) (isDecided (partyAt (m .parties) q)) (c .answer) ≡ true)
+      × LedgerOk (c .memory .root) (c .memory .parties) (withoutAll hs q (givesUpWithdrawn (sizedRoot z (m .root)) (partyAt (m .parties) q) (c .answer)))
+
+  -- What a withdraw gives up is all that its party holds.
+  withdrawn-ledger : (q : ℕ) → q < m .root .parties → (r : Root) → LedgerOk r (set (m .parties) q idle) (withoutAll hs q (claims (sizedRoot z (m .root)) (partyAt (m .parties) q)))
+  unfolding claims claimCount
+  withdrawn-ledger q h r =
+      let cs = claims (sizedRoot z (m .root)) (partyAt (m .parties) q) in
+      ledger-set (m .root) r (m .parties) q idle hs _ (omega (arith, i .parties-many)) ok
+      (λ d. omega (arith, count-without-all hs q cs q d, count-own q cs d, ok .agrees q d))
+      (λ j d n. omega (arith, count-without-all hs q cs j d, count-other q cs j d n))
+
+  withdraw-grants : (q : ℕ) → WithdrawGrants q (withdrawCall m q)
+  unfolding withdrawRight withdrawRefusedWith isWithdrawn givesUpWithdrawn withoutAll
+  withdraw-grants q = go (withdraw-meets m b i q)
+    where
+      inside : q < m .root .parties → leb (z .parties) q ≡ false
+      inside h = lt-leb (z .parties) q (omega (arith, l .parties=))
+
+      accepted : q < m .root .parties → isDecided (partyAt (m .parties) q) ≡ false → underWay b q ≡ true → withdrawCall m q .answer ≡ WithdrawAnswer.Withdrawn
+          → WithdrawTested m q → WithdrawGrants q (withdrawCall m q)
+      accepted h d u a (turned-away n e) = absurd (withdrawn-not-refused n (sym a ∙ ap (λ (c : Called WithdrawAnswer). c .answer) e))
+      accepted h d u a (let-through xs _ _ _ _ e) = subst (WithdrawGrants q) (sym e) (rw (inside h, u, d) refl, withdrawn-ledger q h (leftBy (viewOf m q) xs .root))
+
+      go : WithdrawMet m b i q → WithdrawGrants q (withdrawCall m q)
+      go (stranger h n e) = subst (WithdrawGrants q) (sym e) (rw (le-leb (z .parties) q (omega (arith, l .parties=))) refl, ok)
+      go (unbegun h n e) = subst (WithdrawGrants q) (sym e) (rw (inside h, unentered-under b q n) refl, ok)
+      go (too-late h e k d c) = subst (WithdrawGrants q) (sym c) (rw (inside h, entered-under b q e (k .entry), d) refl, ok)
+      go (taken-back h e k t d a) = accepted h d (entered-under b q e (k .entry)) a (withdraw-tested m q)
+
   pub call-grants : (c : Call) → CallGrants z b hs m c
-  unfolding callRight stepRight afterCall holdsAfter holdsAfterStep
+  unfolding callRight stepRight afterCall holdsAfter holdsAfterStep holdsAfterWithdraw
   call-grants (beginFor q o k) = let g = begin-grants q o k in record { right = g .0; ledger = g .1 }
   call-grants (stepFor q) = let g = step-grants q in record { right = g .0; ledger = g .1 }
+  call-grants (withdrawFor q) = let g = withdraw-grants q in record { right = g .0; ledger = g .1 }
 
 -- ---- A list of calls
 

@@ -19,7 +19,8 @@ use Rattle.model.specs.Memory.{partyAt}
 use Rattle.model.specs.Holds.{tableOne, Hold, hold, permitted, sameMode, isHold, withoutOne, withoutAll, withHeld}
 use Rattle.model.proofs.Laws.Lists.{cond-ind, Told, holds, fails, tell, Cmp, same, diff, cmp, and-both, both-and, left-or, right-or, false≢true, eqb-true, eqb-same, eqb-diff}
 use Rattle.model.proofs.Laws.Booleans.{eq-of-iff}
-use Rattle.model.proofs.Invariant.Claims.{claims, isClaimed, claimed, bit, LocksOk}
+use Rattle.model.specs.Claims.{claims}
+use Rattle.model.proofs.Invariant.Claims.{isClaimed, claimed, bit, LocksOk}
 use Rattle.model.proofs.Invariant.LockMoves.{mode-same, claims-root, table-true, permits-true}
 use Rattle.model.proofs.Effects.Kept.{row-same, row-other}
 

@@ -1,12 +1,15 @@
--- From calls to whole lists of calls: answers, links, progress, grants, effects; operations run singly; what a step reads; a linearization. Demands has the theorems.
+-- From calls to whole lists of calls: answers, links, progress, grants, effects; operations run singly; what a step reads; a linearization; what a withdraw restores. Demands has the theorems.
 pub mod Reached
 pub mod Scratches
+pub mod OpenLinks
 pub mod Traces
 pub mod SizesStay
+pub mod Clock
 pub mod LinkRule
 pub mod Answering
 pub mod LockOrder
 pub mod UnderWay
+pub mod Withdraws
 pub mod NoDeadlock
 pub mod Ledger
 pub mod LockTrades
@@ -14,6 +17,7 @@ pub mod Grants
 pub mod Alters
 pub mod Later
 pub mod NoPage
+pub mod Restored
 pub mod BookFed
 pub mod Consistency
 pub mod Places
@@ -22,5 +26,6 @@ pub mod PlainMaps
 pub mod Singly
 pub mod Linearization
 pub mod Settings
+pub mod Withdrawals
 pub mod Demands
 pub mod Meanings

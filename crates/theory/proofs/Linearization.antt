@@ -4,7 +4,7 @@
 -- each call as a turn (StepTurns, Calls), what stands before what (Standing); a run worked out by the checker (Example).
 use mathlib.Core.Path.{_≡_, refl, sym, ap, _∙_}
 use mathlib.Core.Logic.{_≢_}
-use mathlib.Core.Bool.{Bool, true, false, cond, _||_}
+use mathlib.Core.Bool.{Bool, true, false, cond}
 use mathlib.Core.List.{List}
 use mathlib.Core.Option.{Option, none, some}
 use Prim.Native.Nat.{ℕ}
@@ -17,12 +17,14 @@ use Rattle.model.specs.Runs.{Call, events}
 use Rattle.model.specs.Book.{Book, Entered, emptyBook}
 use Rattle.theory.specs.PlainMap.{PlainMap, emptyMap}
 use Rattle.theory.specs.Demands.{Sizes, start, Reached, bookReached}
-use Rattle.theory.specs.Linearization.{IsOneOf, Operated, operationsOf, isBehind, isDecided, isAnswered, hasTakenEffect, Linearized, answersInOrder, mapAfter, Placed, Linearization}
+use Rattle.theory.specs.Linearization.{IsOneOf, Operated, operationsOf, takesEffect, hasTakenEffect, Linearized, answersInOrder, mapAfter, Placed, Linearization}
+use Rattle.model.specs.Withdraw.{isDecided}
 use Rattle.model.proofs.Laws.Lists.{Ord, lt, ge, ord}
 use Rattle.model.proofs.Invariant.Statement.{PartyOk, resting, working, Inv, sceneOf}
 use Rattle.theory.proofs.Reached.{formatted-inv, reached-inv}
 use Rattle.theory.proofs.Consistency.{always-consistent, same-map}
 use Rattle.theory.proofs.Linearization.Ordering.{away, isFixed, away-not-looking, Origin, from-rest, from-party, PlacedFrom, Begun, Suffix}
+use Rattle.theory.proofs.Linearization.Leads.{isBehind, isPast, past-decided}
 use Rattle.theory.proofs.Linearization.Notes.{mapOf}
 use Rattle.theory.proofs.Linearization.StepTurns.{statusBy, statusOf}
 use Rattle.theory.proofs.Linearization.Calls.{run-suffix}
@@ -44,8 +46,13 @@ fixed-by (some e) true h = refl
 fixed-by (some e) false h = refl
 
 module _ (m : Memory) (b : Book) (i : Inv m b) (p : ℕ) where
+  -- Of an idle party both tests fail.
+  idle-both : partyAt (m .parties) p ≡ idle → isPast (partyAt (m .parties) p) ≡ isDecided (partyAt (m .parties) p)
+  unfolding isBehind isDecided
+  idle-both e = rw e refl
+
   idle-undecided : partyAt (m .parties) p ≡ idle → isDecided (partyAt (m .parties) p) ≡ false
-  unfolding isBehind
+  unfolding isDecided
   idle-undecided e = ap (λ (x : Party). isDecided x) e
 
   entered-not : (e : Entered) → b .entries p ≡ some e → b .entries p ≢ none
@@ -59,9 +66,19 @@ module _ (m : Memory) (b : Book) (i : Inv m b) (p : ℕ) where
       go (resting e _ _ _) = idle-undecided e
       go (working e k f) = absurd (entered-not e (k .entry) n)
 
+  past-by : Ord p (m .root .parties) → isPast (partyAt (m .parties) p) ≡ isDecided (partyAt (m .parties) p)
+  past-by (ge h t) = idle-both (List·getD-eq-default (m .parties) idle (omega (arith, i .parties-many)))
+  past-by (lt h t) = go (i .parties-ok p h)
+    where
+      go : PartyOk (sceneOf m (i .ghost) b) p (partyAt (m .parties) p) → isPast (partyAt (m .parties) p) ≡ isDecided (partyAt (m .parties) p)
+      go (resting e _ _ _) = idle-both e
+      go (working e k f) = past-decided (partyAt (m .parties) p) (k .step-fits)
+
   fixed-decided : isFixed (statusOf m b p) ≡ isDecided (partyAt (m .parties) p)
   unfolding statusOf
-  fixed-decided = fixed-by (b .entries p) (isDecided (partyAt (m .parties) p)) (unentered-undecided (ord p (m .root .parties)))
+  fixed-decided =
+      ap (λ (t : Bool). isFixed (statusBy (b .entries p) t)) (past-by (ord p (m .root .parties)))
+      ∙ fixed-by (b .entries p) (isDecided (partyAt (m .parties) p)) (unentered-undecided (ord p (m .root .parties)))
 
 -- ---- From formatted memory
 
@@ -88,15 +105,15 @@ module _ (s : Sizes) (cs : List Call) where
   place x h = record {
     of-run = of-run (x .operated) (h .origin);
     after-begin = h .after-begin;
-    before-answer = h .before-answer;
+    before-end = h .before-end;
     same-answer = h .same-answer;
     decisive = h .decisive;
     last = h .last;
   }
 
-  taken : (o : Operated) → (isAnswered (o .answered) || isFixed (statusOf (Reached s cs) (bookReached s cs) (o .party))) ≡ hasTakenEffect (Reached s cs) o
+  taken : (o : Operated) → takesEffect (isFixed (statusOf (Reached s cs) (bookReached s cs) (o .party))) (o .ended) ≡ hasTakenEffect (Reached s cs) o
   unfolding hasTakenEffect
-  taken o = ap (λ (t : Bool). isAnswered (o .answered) || t) (fixed-decided (Reached s cs) (bookReached s cs) (reached-inv s cs) (o .party))
+  taken o = ap (λ (t : Bool). takesEffect t (o .ended)) (fixed-decided (Reached s cs) (bookReached s cs) (reached-inv s cs) (o .party))
 
   map-left : (k : ℕ) → mapAfter emptyMap (whole .order) k ≡ mapOf (bookReached s cs) k
   map-left k = ap (λ (z : PlainMap). mapAfter z (whole .order) k) (sym starts-empty) ∙ ap (λ (z : PlainMap). z k) (whole .left)
@@ -110,7 +127,7 @@ module _ (s : Sizes) (cs : List Call) where
     each = λ o m. whole .entered o m ∙ ap (λ (t : Bool). cond t 1 0) (taken o);
     real-time = λ x y a m n h l.
         stands-before 1 (whole .order) (whole .ascends) x y m n
-        (let before = whole .placed x m .before-answer a h in let after = whole .placed y n .after-begin in omega arith);
+        (let before = whole .placed x m .before-end a h in let after = whole .placed y n .after-begin in omega arith);
     answers = ap (λ (z : PlainMap). answersInOrder z (whole .order)) (sym starts-empty) ∙ whole .answers;
     file = always-consistent s cs;
     in-file = λ k x h. same-map s cs .in-file k x (sym (map-left k) ∙ h);

@@ -1,46 +1,53 @@
 -- The link rule (demand 3): no step of a list follows a chain's link to an overflow page given back since that link was read.
 -- The clock runs beside the invariant: a link that a party has yet to follow was read after its page was last given back, because that page has an owner who does not give it back.
--- Main statements: ClockOk (the clock beside a memory); clock-kept (a call follows no stale link and keeps ClockOk); links-fresh (every list of calls from formatted memory).
+-- Main statements: clock-kept (a call follows no stale link and keeps the clock right, Clock.antt); links-fresh (every list of calls from formatted memory).
 use mathlib.Core.Path.{_≡_, refl, sym, ap, _∙_, subst}
 use mathlib.Core.Logic.{_≢_, _⊎_, inl, inr}
 use mathlib.Core.Bool.{Bool, true, false, not, _||_, false≢true}
 use mathlib.Core.List.{List, [], _∷_, _++_}
-use Prim.Native.Nat.{ℕ, _+_, _≤_, _<_}
+use Prim.Native.Nat.{ℕ, _+_, _<_}
 use native.Mathlib.Omega.{arith}
 use lib.ListN.{length, set}
 use lib.Seq.{set-getD}
-use lib.Dec.{eqb, ltb}
+use lib.Dec.{eqb}
 use Rattle.model.specs.declared.Party.{Party}
 use Rattle.model.specs.declared.Operation.{Operation}
 use Rattle.model.specs.declared.StepAnswer.{StepAnswer}
 use Rattle.model.specs.declared.StepAnswer.the-variants as StepAnswer
+use Rattle.model.specs.declared.Root.{Root}
 use Rattle.model.specs.declared.BeginAnswer.{BeginAnswer}
+use Rattle.model.specs.declared.WithdrawAnswer.{WithdrawAnswer}
+use Rattle.model.specs.declared.WithdrawAnswer.the-variants as WithdrawAnswer
 use Rattle.model.specs.declared.Mode.the-variants.{Exclusive}
 use Rattle.model.specs.Records.{idle, begun}
 use Rattle.model.specs.Answers.{operationNumber, isMoved, performs, settingGiven}
 use Rattle.model.specs.LockWords.{chainWord}
 use Rattle.model.specs.Pages.{pageOf, linkOf, linkToFirst, primaryPage, scratchPage, linkedPage}
-use Rattle.model.specs.Chains.{sound, listFrom, pagesListed}
+use Rattle.model.specs.Chains.{Checked, sound, listFrom, pagesListed}
 use Rattle.model.specs.FreeList.{isAmong}
 use Rattle.model.specs.Outcome.{View, Outcome}
 use Rattle.model.specs.ScratchPages.{scratchOf}
 use Rattle.model.specs.Memory.{Memory, partyAt, viewOf, afterStep, formatted}
 use Rattle.model.specs.Refusals.{firstCause, stepRows, beginRows}
-use Rattle.model.specs.Calls.{Called, called, stepped, stepCall, withBegun, beginCall}
-use Rattle.model.specs.Runs.{Call, beginFor, stepFor, callerOf, replyTo, afterCall}
-use Rattle.model.specs.Book.{Book, Entered, changedAt, bookAfter, emptyBook}
-use Rattle.theory.specs.Links.{Follow, Trace, noTrace, chainPages, traceLooked, readNow, walkedFrom, traceNine, traceFourteen, traceTwentyNine, traceOf, Clock, clockStart, traceOfStep, traceOfCall, ticked, clockAfter, allFresh, linksFresh}
+use Rattle.model.specs.Calls.{Called, called, stepped, stepCall, withBegun, beginCall, withdrawCall}
+use Rattle.model.specs.Withdraw.{isDecided, builtPages}
+use Rattle.model.specs.Effects.{Withdraws}
+use Rattle.model.specs.Runs.{Call, beginFor, stepFor, withdrawFor, callerOf, replyTo, afterCall}
+use Rattle.model.specs.Book.{Book, Entered, bookAfter, emptyBook}
+use Rattle.theory.specs.Links.{Trace, trace, noTrace, chainPages, traceLooked, readNow, walkedFrom, traceTen, traceNine, traceFourteen, traceTwentyNine, traceOf, Clock, clockStart, traceOfStep, traceAnswered, traceOfWithdraw, traceOfCall, ticked, clockAfter, allFresh, linksFresh}
 use Rattle.theory.specs.Demands.{Sizes, start}
 use Rattle.model.specs.Steps.Write.{isChange}
 use Rattle.model.specs.LockRequests.{chainExclusive, otherExclusive, rootSelective}
 use Rattle.model.specs.Steps.Dispatch.{stepTable, stepOf}
-use Rattle.model.proofs.Laws.Lists.{Told, holds, fails, tell, Cmp, same, diff, cmp, cond-ind, not-both, and-both, both-and, or-either, lt-ltb, eqb-same, eqb-diff, among-first, among-append, _▸_, all-in}
+use Rattle.model.proofs.Laws.Lists.{Told, holds, fails, tell, Cmp, same, diff, cmp, cond-ind, not-both, and-both, both-and, or-either, lt-ltb, eqb-true, eqb-diff, among-first, among-append, _▸_, all-in}
 use Rattle.model.proofs.Laws.Distinct.{Outside}
-use Rattle.model.proofs.Invariant.Ghost.{Owner, inChain, oldOf, partnerOf}
+use Rattle.model.proofs.Invariant.Ghost.{Owner, inChain, oldOf, partnerOf, builtBy}
 use Rattle.model.proofs.Invariant.Owners.{own-of-member}
 use Rattle.model.proofs.Laws.Structure.{Linked}
-use Rattle.model.proofs.Laws.Reading.{linked-list, held-length, absent-outside}
-use Rattle.model.proofs.Invariant.Claims.{claims, isClaimed}
+use Rattle.model.proofs.Laws.Filling.{chain-link}
+use Rattle.model.proofs.Laws.Reading.{linked-list, held-length, held-overflow, absent-outside, outside-absent, scratch-outside}
+use Rattle.model.specs.Claims.{claims}
+use Rattle.model.proofs.Invariant.Claims.{isClaimed}
 use Rattle.model.proofs.Invariant.Statement.{Scene, Protected, in-chain, in-old, Written, unchanged, made-change, PartyOk, Inv, sceneOf}
 use Rattle.model.proofs.Invariant.Frame.{claims-at, named, later}
 use Rattle.model.proofs.Effects.Kept.{row-same, row-other}
@@ -50,41 +57,14 @@ use Rattle.model.proofs.Theorems.RefusalOrder.{begin-refused, begin-accepted, s
 use Rattle.model.proofs.Theorems.Gate.{ready}
 use Rattle.model.proofs.Invariant.Start.{start-inv, party-idle}
 use Rattle.model.proofs.Theorems.Calls.{StepsKept, call-kept}
-use Rattle.theory.proofs.Traces.{openSteps, oldOpen, open-at, OldLink, closed, read-now, kept-old, Marks, Leaves, Traced, stays, goes, moves-by-link, step-traced}
+use Rattle.model.proofs.Invariant.Turn.{Turn}
+use Rattle.model.proofs.Steps.Withdraw.{undecided}
+use Rattle.theory.proofs.Withdraws.{withdraw-alters, WithdrawMet, stranger, unbegun, too-late, taken-back, withdraw-meets}
+use Rattle.theory.proofs.Clock.{ClockOk, fresh-now, fresh-append, fresh-walked, given-none, scratch-now, old-later, old-now, Spared, clock-moves, clock-ticks}
+use Rattle.theory.proofs.OpenLinks.{openSteps, scratchOpen, oldOpen, open-at, OldLink, closed, read-now, kept-old, Marks}
+use Rattle.theory.proofs.Traces.{Leaves, Traced, stays, goes, moves-by-link, step-traced}
 
--- ---- The clock beside a memory
-
--- No page was given back later than now, and every link that a party has yet to follow was read after its page was last given back: the link in the scratch page of a find that
--- walks, and an old link.
-pub record ClockOk (k : Clock) (m : Memory) : Type 0 where
-  pub past : (x : ℕ) → k .givenAt x ≤ k .calls
-  pub scratch-fresh : (q : ℕ) → q < m .root .parties → partyAt (m .parties) q .step ≡ 9 → linkOf (scratchOf (viewOf m q)) ≢ 0
-      → k .givenAt (linkedPage (linkOf (scratchOf (viewOf m q)))) < k .scratchRead q
-  pub old-fresh : (q : ℕ) → q < m .root .parties → oldOpen (partyAt (m .parties) q) ≡ true → partyAt (m .parties) q .old ≢ 0
-      → k .givenAt (linkedPage (partyAt (m .parties) q .old)) < k .oldRead q
-
--- ---- Links followed
-
-module _ (k : Clock) where
-  fresh-now : (t : ℕ) (xs : List ℕ) → ((x : ℕ) → k .givenAt x < t) → allFresh k (readNow t xs) ≡ true
-  unfolding allFresh
-  fresh-now t [] h = refl
-  fresh-now t (x ∷ xs) h = both-and (lt-ltb (k .givenAt x) t (h x)) (fresh-now t xs h)
-
-  fresh-append : (fs gs : List Follow) → allFresh k fs ≡ true → allFresh k gs ≡ true → allFresh k (fs ++ gs) ≡ true
-  unfolding allFresh
-  fresh-append [] gs a b = b
-  fresh-append (f ∷ fs) gs a b =
-      let t = and-both (ltb (k .givenAt (f .page)) (f .readAt)) (allFresh k fs) a in
-      both-and (t .0) (fresh-append fs gs (t .1) b)
-
-  -- A list walked by a link read earlier.
-  fresh-walked : (s t l : ℕ) (xs : List ℕ) → l ≡ linkToFirst xs → (l ≢ 0 → k .givenAt (linkedPage l) < s) → ((x : ℕ) → k .givenAt x < t) → allFresh k (walkedFrom s t xs) ≡ true
-  unfolding allFresh walkedFrom linkToFirst
-  fresh-walked s t l [] e f h = refl
-  fresh-walked s t l (x ∷ xs) e f h =
-      let there : linkedPage l ≡ x = omega arith in
-      both-and (lt-ltb (k .givenAt x) s (subst (λ (y : ℕ). k .givenAt y < s) there (f (omega arith)))) (fresh-now t xs h)
+-- ---- Links of step numbers
 
 -- The step numbers that follow or read links, or give pages back.
 abbrev linkSteps : List ℕ
@@ -111,96 +91,6 @@ leads-in l (x ∷ xs) e n =
     let there : linkedPage l ≡ x = omega arith in
     subst (λ (y : ℕ). isAmong y (x ∷ xs) ≡ true) (sym there) (among-first x xs)
 
--- ---- The clock after a call
-
-module _ (k : Clock) (q : ℕ) (t : Trace) where
-  given-same : (x : ℕ) → isAmong x (t .gives) ≡ false → ticked k q t .givenAt x ≡ k .givenAt x
-  unfolding ticked
-  given-same x h = rw h refl
-
-  given-none : (x : ℕ) → t .gives ≡ [] → ticked k q t .givenAt x ≡ k .givenAt x
-  unfolding isAmong
-  given-none x h = given-same x (ap (isAmong x) h)
-
-  given-past : ((x : ℕ) → k .givenAt x ≤ k .calls) → (x : ℕ) → ticked k q t .givenAt x ≤ ticked k q t .calls
-  unfolding ticked
-  given-past h x = cond-ind (λ (n : ℕ). n ≤ k .calls + 1) (isAmong x (t .gives)) (k .calls + 1) (k .givenAt x) (λ _. omega arith) (λ _. omega (arith, h x))
-
-  scratch-other : (j : ℕ) → j ≢ q → ticked k q t .scratchRead j ≡ k .scratchRead j
-  unfolding ticked changedAt
-  scratch-other j n = cond-ind (λ (f : ℕ → ℕ). f j ≡ k .scratchRead j) (t .intoScratch) _ _ (λ _. rw (eqb-diff j q n) refl) (λ _. refl)
-
-  scratch-now : t .intoScratch ≡ true → ticked k q t .scratchRead q ≡ k .calls + 1
-  unfolding ticked changedAt
-  scratch-now h = rw (h, eqb-same q q refl) refl
-
-  old-other : (j : ℕ) → j ≢ q → ticked k q t .oldRead j ≡ k .oldRead j
-  unfolding ticked changedAt
-  old-other j n = cond-ind (λ (f : ℕ → ℕ). f j ≡ k .oldRead j) (t .intoOld) _ _ (λ _. rw (eqb-diff j q n) refl) (λ _. refl)
-
-  -- A link is not read earlier than it was.
-  old-later : (n : ℕ) → n < k .oldRead q → n ≤ k .calls → n < ticked k q t .oldRead q
-  unfolding ticked changedAt
-  old-later n h l = cond-ind (λ (f : ℕ → ℕ). n < f q) (t .intoOld) _ _ (λ _. rw (eqb-same q q refl) (omega arith)) (λ _. h)
-
-  old-now : t .intoOld ≡ true → ticked k q t .oldRead q ≡ k .calls + 1
-  unfolding ticked changedAt
-  old-now h = rw (h, eqb-same q q refl) refl
-
--- A call of party q from memory m to memory u: the other parties keep their records and scratch pages, and none of the pages they have yet to follow is given back.
-record Spared (m u : Memory) (q : ℕ) (gives : List ℕ) : Type 0 where
-  parties= : u .root .parties ≡ m .root .parties
-  record= : (j : ℕ) → j ≢ q → partyAt (u .parties) j ≡ partyAt (m .parties) j
-  scratch= : (j : ℕ) → j ≢ q → scratchOf (viewOf u j) ≡ scratchOf (viewOf m j)
-  scratch-spared : (j : ℕ) → j < m .root .parties → j ≢ q → partyAt (m .parties) j .step ≡ 9 → linkOf (scratchOf (viewOf m j)) ≢ 0
-      → isAmong (linkedPage (linkOf (scratchOf (viewOf m j)))) gives ≡ false
-  old-spared : (j : ℕ) → j < m .root .parties → j ≢ q → oldOpen (partyAt (m .parties) j) ≡ true → partyAt (m .parties) j .old ≢ 0
-      → isAmong (linkedPage (partyAt (m .parties) j .old)) gives ≡ false
-
--- Only the caller's own links are left to show.
-clock-moves : (k : Clock) (m u : Memory) → ClockOk k m → (q : ℕ) (t : Trace) → Spared m u q (t .gives)
-    → (q < m .root .parties → partyAt (u .parties) q .step ≡ 9 → ticked k q t .givenAt (linkedPage (linkOf (scratchOf (viewOf u q)))) < ticked k q t .scratchRead q)
-    → (q < m .root .parties → oldOpen (partyAt (u .parties) q) ≡ true → partyAt (u .parties) q .old ≢ 0
-    → ticked k q t .givenAt (linkedPage (partyAt (u .parties) q .old)) < ticked k q t .oldRead q)
-    → ClockOk (ticked k q t) u
-clock-moves k m u ok q t s own-scratch own-old = record {
-  past = given-past k q t (ok .past);
-  scratch-fresh = λ j l e n. scratch j (rw (s .parties=) at l) e n (cmp j q);
-  old-fresh = λ j l h n. old j (rw (s .parties=) at l) h n (cmp j q);
-}
-  where
-    after : Clock
-    after = ticked k q t
-
-    scratch : (j : ℕ) → j < m .root .parties → partyAt (u .parties) j .step ≡ 9 → linkOf (scratchOf (viewOf u j)) ≢ 0 → Cmp j q
-        → after .givenAt (linkedPage (linkOf (scratchOf (viewOf u j)))) < after .scratchRead j
-    scratch j l e n (same d) =
-        subst (λ (i : ℕ). after .givenAt (linkedPage (linkOf (scratchOf (viewOf u i)))) < after .scratchRead i) (sym d)
-        (own-scratch (omega arith) (subst (λ (i : ℕ). partyAt (u .parties) i .step ≡ 9) d e))
-    scratch j l e n (diff d) =
-        let w = s .scratch= j d in
-        let at-nine : partyAt (m .parties) j .step ≡ 9 = sym (ap (λ (p : Party). p .step) (s .record= j d)) ∙ e in
-        let some-link : linkOf (scratchOf (viewOf m j)) ≢ 0 = λ z. n (ap linkOf w ∙ z) in
-        subst (λ (x : List ℕ). after .givenAt (linkedPage (linkOf x)) < after .scratchRead j) (sym w)
-        (rw (given-same k q t (linkedPage (linkOf (scratchOf (viewOf m j)))) (s .scratch-spared j l d at-nine some-link), scratch-other k q t j d) (ok .scratch-fresh j l at-nine some-link))
-
-    old : (j : ℕ) → j < m .root .parties → oldOpen (partyAt (u .parties) j) ≡ true → partyAt (u .parties) j .old ≢ 0 → Cmp j q
-        → after .givenAt (linkedPage (partyAt (u .parties) j .old)) < after .oldRead j
-    old j l h n (same d) =
-        subst (λ (i : ℕ). after .givenAt (linkedPage (partyAt (u .parties) i .old)) < after .oldRead i) (sym d)
-        (own-old (omega arith) (subst (λ (i : ℕ). oldOpen (partyAt (u .parties) i) ≡ true) d h) (λ z. n (subst (λ (i : ℕ). partyAt (u .parties) i .old ≡ 0) (sym d) z)))
-    old j l h n (diff d) =
-        let p = s .record= j d in
-        let was-open : oldOpen (partyAt (m .parties) j) ≡ true = sym (ap oldOpen p) ∙ h in
-        let some-link : partyAt (m .parties) j .old ≢ 0 = λ z. n (ap (λ (x : Party). x .old) p ∙ z) in
-        subst (λ (x : Party). after .givenAt (linkedPage (x .old)) < after .oldRead j) (sym p)
-        (rw (given-same k q t (linkedPage (partyAt (m .parties) j .old)) (s .old-spared j l d was-open some-link), old-other k q t j d) (ok .old-fresh j l was-open some-link))
-
--- A call that performs no step, and changes nothing.
-clock-ticks : (k : Clock) (m : Memory) → ClockOk k m → (q : ℕ) → ClockOk (ticked k q noTrace) m
-unfolding ticked isAmong
-clock-ticks k m ok q = record { past = λ x. omega (arith, ok .past x); scratch-fresh = ok .scratch-fresh; old-fresh = ok .old-fresh }
-
 -- ---- Whose pages are to be followed, and whose are given back
 
 module _ (m : Memory) (b : Book) (i : Inv m b) where
@@ -220,6 +110,30 @@ module _ (m : Memory) (b : Book) (i : Inv m b) where
     next-protected e n =
         let f = facts-at 8 before j p e (i .parties-ok j in-row) .facts in
         f .protected (linkedPage (linkOf (scratchOf (viewOf m j)))) (leads-in (linkOf (scratchOf (viewOf m j))) (f .rest) (f .link) n)
+
+    -- At 11 the link in scratch leads to the party's built pages.
+    built-link : p .step ≡ 11 → linkOf (scratchOf (viewOf m j)) ≡ linkToFirst (i .ghost .held (builtBy j))
+    built-link e =
+        let f = facts-at 10 before j p e (i .parties-ok j in-row) .facts in
+        chain-link (m .root .capacity) (m .pages) (scratchPage (m .root) j) _ (f .after) (i .ghost .held (builtBy j))
+        (record { primary = f .building .scratch-is; overflow = f .building .built })
+
+    -- The page that its scratch link names: one that a find would walk to next, or one that the party has built.
+    data NextPage (x : ℕ) : Type 0 where
+      walked-next : p .step ≡ 9 → Protected before (p .chain) x → NextPage x
+      built-next : i .ghost .own x ≡ builtBy j → NextPage x
+
+    next-page : scratchOpen (p .step) ≡ true → linkOf (scratchOf (viewOf m j)) ≢ 0 → NextPage (linkedPage (linkOf (scratchOf (viewOf m j))))
+    next-page h n = go (or-either (eqb (p .step) 9) (eqb (p .step) 11) h)
+      where
+        x : ℕ
+        x = linkedPage (linkOf (scratchOf (viewOf m j)))
+
+        go : (eqb (p .step) 9 ≡ true) ⊎ (eqb (p .step) 11 ≡ true) → NextPage x
+        go (inl t) = let e = eqb-true (p .step) 9 t in walked-next e (next-protected e n)
+        go (inr t) =
+            let e = built-link (eqb-true (p .step) 11 t) in
+            built-next (own-of-member (i .pages-ok .owned) (builtBy j) x (leads-in (linkOf (scratchOf (viewOf m j))) (i .ghost .held (builtBy j)) e n))
 
     -- An old link leads to the party's own pages to give back, or still to the pages of its chain.
     abbrev OldIs : Type 0
@@ -262,11 +176,11 @@ module _ (m : Memory) (b : Book) (i : Inv m b) where
     abbrev me : Party
     me = partyAt (m .parties) q
 
-    -- A page that party q gives back: its own, and nobody else holds the chain.
-    record GivenBy (x : ℕ) : Type 0 where
-      owner-is : (i .ghost .own x ≡ oldOf q) ⊎ (i .ghost .own x ≡ partnerOf q)
-      chain-fits : me .chain < m .root .primaries
-      holds-chain : isClaimed (claims (m .root) me) (chainWord (me .chain)) Exclusive ≡ true
+    -- A page that party q gives back is its own: an old one, and nobody else holds the chain, or one that it has built.
+    data GivenBy (x : ℕ) : Type 0 where
+      gives-old : (i .ghost .own x ≡ oldOf q) ⊎ (i .ghost .own x ≡ partnerOf q) → me .chain < m .root .primaries
+          → isClaimed (claims (m .root) me) (chainWord (me .chain)) Exclusive ≡ true → GivenBy x
+      gives-built : i .ghost .own x ≡ builtBy q → GivenBy x
 
     kind-of : {a c : Owner} → a ≡ c → a .kind ≡ c .kind
     kind-of e = ap (λ (o : Owner). o .kind) e
@@ -275,24 +189,28 @@ module _ (m : Memory) (b : Book) (i : Inv m b) where
     index-of e = ap (λ (o : Owner). o .index) e
 
     walk-spared : (j : ℕ) → j ≢ q → partyAt (m .parties) j .step ≡ 9 → (x : ℕ) → Protected before (partyAt (m .parties) j .chain) x → GivenBy x → ⊥
-    walk-spared j n e x pr g = go pr (g .owner-is)
-      where
-        go : Protected before (partyAt (m .parties) j .chain) x → (i .ghost .own x ≡ oldOf q) ⊎ (i .ghost .own x ≡ partnerOf q) → ⊥
-        go (in-chain y) (inl o) = omega (arith, kind-of (sym y ∙ o))
-        go (in-chain y) (inr o) = omega (arith, kind-of (sym y ∙ o))
-        go (in-old k y c) (inl o) =
-            let mine : k ≡ q = index-of (sym y ∙ o) in
-            no-reader m b i q (g .chain-fits) (g .holds-chain) j n e (sym c ∙ ap (λ (a : ℕ). partyAt (m .parties) a .chain) mine)
-        go (in-old k y c) (inr o) = omega (arith, kind-of (sym y ∙ o))
+    walk-spared j n e x (in-chain y) (gives-old (inl o) fits alone) = omega (arith, kind-of (sym y ∙ o))
+    walk-spared j n e x (in-chain y) (gives-old (inr o) fits alone) = omega (arith, kind-of (sym y ∙ o))
+    walk-spared j n e x (in-chain y) (gives-built o) = omega (arith, kind-of (sym y ∙ o))
+    walk-spared j n e x (in-old k y c) (gives-old (inl o) fits alone) =
+        let mine : k ≡ q = index-of (sym y ∙ o) in
+        no-reader m b i q fits alone j n e (sym c ∙ ap (λ (a : ℕ). partyAt (m .parties) a .chain) mine)
+    walk-spared j n e x (in-old k y c) (gives-old (inr o) fits alone) = omega (arith, kind-of (sym y ∙ o))
+    walk-spared j n e x (in-old k y c) (gives-built o) = omega (arith, kind-of (sym y ∙ o))
+
+    next-spared : (j : ℕ) → (l : j < m .root .parties) → j ≢ q → (x : ℕ) → NextPage j l x → GivenBy x → ⊥
+    next-spared j l n x (walked-next e y) g = walk-spared j n e x y g
+    next-spared j l n x (built-next y) (gives-old (inl o) fits alone) = omega (arith, kind-of (sym y ∙ o))
+    next-spared j l n x (built-next y) (gives-old (inr o) fits alone) = omega (arith, kind-of (sym y ∙ o))
+    next-spared j l n x (built-next y) (gives-built o) = n (index-of (sym y ∙ o))
 
     old-spared : (j : ℕ) → j ≢ q → (x d : ℕ) → (i .ghost .own x ≡ oldOf j) ⊎ (i .ghost .own x ≡ inChain d) → GivenBy x → ⊥
-    old-spared j n x d w g = go w (g .owner-is)
-      where
-        go : (i .ghost .own x ≡ oldOf j) ⊎ (i .ghost .own x ≡ inChain d) → (i .ghost .own x ≡ oldOf q) ⊎ (i .ghost .own x ≡ partnerOf q) → ⊥
-        go (inl y) (inl o) = n (index-of (sym y ∙ o))
-        go (inl y) (inr o) = omega (arith, kind-of (sym y ∙ o))
-        go (inr y) (inl o) = omega (arith, kind-of (sym y ∙ o))
-        go (inr y) (inr o) = omega (arith, kind-of (sym y ∙ o))
+    old-spared j n x d (inl y) (gives-old (inl o) fits alone) = n (index-of (sym y ∙ o))
+    old-spared j n x d (inl y) (gives-old (inr o) fits alone) = omega (arith, kind-of (sym y ∙ o))
+    old-spared j n x d (inl y) (gives-built o) = omega (arith, kind-of (sym y ∙ o))
+    old-spared j n x d (inr y) (gives-old (inl o) fits alone) = omega (arith, kind-of (sym y ∙ o))
+    old-spared j n x d (inr y) (gives-old (inr o) fits alone) = omega (arith, kind-of (sym y ∙ o))
+    old-spared j n x d (inr y) (gives-built o) = omega (arith, kind-of (sym y ∙ o))
 
     -- ---- What the step does with links
 
@@ -319,11 +237,14 @@ module _ (m : Memory) (b : Book) (i : Inv m b) where
       fair-looked : (xs : List ℕ) (o : Bool) → Fair (traceLooked now xs o)
       fair-looked xs o = record { fresh = fresh-now k now xs earlier; given = none-given }
 
+      fair-ten : (xs : List ℕ) (o : Bool) → Fair (traceTen now xs o)
+      fair-ten xs o = record { fresh = fresh-now k now xs earlier; given = none-given }
+
       fair-walked : me .step ≡ 9 → (a : StepAnswer) → (isMoved a ≡ true → linkOf (scratchOf (viewOf m q)) ≢ 0) → Fair (traceNine (viewOf m q) (k .scratchRead q) a)
       unfolding traceNine allFresh
       fair-walked e a n =
           cond-ind Fair (isMoved a) _ _
-          (λ h. record { fresh = both-and (lt-ltb _ (k .scratchRead q) (ok .scratch-fresh q in-row e (n h))) refl; given = none-given }) (λ _. fair-none)
+          (λ h. record { fresh = both-and (lt-ltb _ (k .scratchRead q) (ok .scratch-fresh q in-row (ap scratchOpen e) (n h))) refl; given = none-given }) (λ _. fair-none)
 
       -- The old link of a party that gives its pages back.
       walked-old : oldOpen me ≡ true → me .old ≡ linkToFirst (i .ghost .held (oldOf q)) → allFresh k (walkedFrom (k .oldRead q) now (i .ghost .held (oldOf q))) ≡ true
@@ -337,11 +258,8 @@ module _ (m : Memory) (b : Book) (i : Inv m b) where
           rw (list-held (oldOf q) (me .old) (trash .link) (trash .linked))
           (record {
             fresh = walked-old (open-at me 14 e) (trash .link);
-            given = λ x h. record {
-              owner-is = inl (own-of-member (i .pages-ok .owned) (oldOf q) x h);
-              chain-fits = f .busy .chain-fits;
-              holds-chain = rw (claims-at (m .root) me 14 e) (named [] (chainWord (me .chain)) Exclusive);
-            };
+            given = λ x h.
+                gives-old (inl (own-of-member (i .pages-ok .owned) (oldOf q) x h)) (f .busy .chain-fits) (rw (claims-at (m .root) me 14 e) (named [] (chainWord (me .chain)) Exclusive));
           })
 
       fair-twenty-nine : me .step ≡ 29 → Fair (traceTwentyNine (viewOf m q) (k .oldRead q) now)
@@ -354,12 +272,10 @@ module _ (m : Memory) (b : Book) (i : Inv m b) where
           rw (list-held (oldOf q) (me .old) (x .trash .link) (x .trash .linked), list-held (partnerOf q) (linkOf (pageOf (m .pages) (primaryPage (me .other)))) (x .partner-link) (x .partner-linked))
           (record {
             fresh = fresh-append k (walkedFrom (k .oldRead q) now olds) (readNow now partners) (walked-old (open-at me 29 e) (x .trash .link)) (fresh-now k now partners earlier);
-            given = λ y h. record {
-              owner-is = whose y (or-either (isAmong y olds) (isAmong y partners) (sym (among-append y olds partners) ∙ h));
-              chain-fits = f .busy .chain-fits;
-              holds-chain = rw (claims-at (m .root) me 29 e)
-                  (later rootSelective (chainExclusive me ∷ (otherExclusive me ∷ [])) (chainWord (me .chain)) Exclusive (named (otherExclusive me ∷ []) (chainWord (me .chain)) Exclusive));
-            };
+            given = λ y h.
+                gives-old (whose y (or-either (isAmong y olds) (isAmong y partners) (sym (among-append y olds partners) ∙ h))) (f .busy .chain-fits)
+                (rw (claims-at (m .root) me 29 e)
+                (later rootSelective (chainExclusive me ∷ (otherExclusive me ∷ [])) (chainWord (me .chain)) Exclusive (named (otherExclusive me ∷ []) (chainWord (me .chain)) Exclusive)));
           })
         where
           whose : (y : ℕ) → (isAmong y (i .ghost .held (oldOf q)) ≡ true) ⊎ (isAmong y (i .ghost .held (partnerOf q)) ≡ true)
@@ -385,7 +301,7 @@ module _ (m : Memory) (b : Book) (i : Inv m b) where
               all-in (λ (n : ℕ). me .step ≡ n → FairAt (me .step)) (me .step) linkSteps
               ((λ e. by 6 e (record { fresh = fair-none .fresh; given = none-given }))
               ▸ (λ e. by 9 e (fair-walked e a (linked e)))
-              ▸ (λ e. by 10 e (fair-looked (chainPages (viewOf m q) (me .chain)) (eqb next 11)))
+              ▸ (λ e. by 10 e (fair-ten (chainPages (viewOf m q) (me .chain)) (eqb next 11)))
               ▸ (λ e. by 14 e (fair-fourteen e))
               ▸ (λ e. by 17 e (fair-looked (chainPages (viewOf m q) (me .chain)) (isMoved a)))
               ▸ (λ e. by 26 e (fair-looked (chainPages (viewOf m q) (me .chain) ++ chainPages (viewOf m q) (me .other)) (isMoved a)))
@@ -453,7 +369,7 @@ module _ (k : Clock) (m : Memory) (ok : ClockOk k m) (q : ℕ) where
         parties= = l .sizes .parties=;
         record= = λ j n. ap (λ (x : ℕ). partyAt (set (m .parties) x (o .after .party)) j) (l .number=) ∙ row-other (m .parties) q j (o .after .party) n;
         scratch= = λ j n. ap (λ (x : ℕ). pageOf (o .after .pages) x) (page= j) ∙ l .spares .others j n;
-        scratch-spared = λ j h n e w. not-given (linkedPage (linkOf (scratchOf (viewOf m j)))) (λ g. walk-spared m b i q in-row j n e _ (next-protected m b i j h e w) g);
+        scratch-spared = λ j h n e w. not-given (linkedPage (linkOf (scratchOf (viewOf m j)))) (λ g. next-spared m b i q in-row j h n _ (next-page m b i j h e w) g);
         old-spared = λ j h n e w. not-given (linkedPage (partyAt (m .parties) j .old)) (λ g. old-spared m b i q in-row j n _ (partyAt (m .parties) j .chain) (old-owner m b i j h e w) g);
       }
         where
@@ -467,7 +383,7 @@ module _ (k : Clock) (m : Memory) (ok : ClockOk k m) (q : ℕ) where
               go (holds h) = absurd (f (fair .given x h))
               go (fails h) = h
 
-      own-scratch : o .after .party .step ≡ 9 → (x : ℕ) → ticked k q t .givenAt x < ticked k q t .scratchRead q
+      own-scratch : scratchOpen (o .after .party .step) ≡ true → (x : ℕ) → ticked k q t .givenAt x < ticked k q t .scratchRead q
       own-scratch e x =
           let r = marks .scratch-link (k .calls + 1) (k .scratchRead q) (k .oldRead q) e in
           rw (given-none k q t x (r .keeps-all), scratch-now k q t (r .reads)) (omega (arith, ok .past x))
@@ -495,7 +411,7 @@ module _ (k : Clock) (m : Memory) (ok : ClockOk k m) (q : ℕ) where
             clock = subst (λ (s : Trace). ClockOk (ticked k q s) (stepCall m q .memory)) (sym is)
                 (subst (λ (c : Called StepAnswer). ClockOk (ticked k q t) (c .memory)) (sym e)
                 (clock-moves k m u ok q t spared
-                (λ _. subst (λ (p : Party). p .step ≡ 9 → ticked k q t .givenAt (linkedPage (linkOf (scratchOf (viewOf u q)))) < ticked k q t .scratchRead q) (sym own-record)
+                (λ _. subst (λ (p : Party). scratchOpen (p .step) ≡ true → ticked k q t .givenAt (linkedPage (linkOf (scratchOf (viewOf u q)))) < ticked k q t .scratchRead q) (sym own-record)
                 (λ s. own-scratch s (linkedPage (linkOf (scratchOf (viewOf u q))))))
                 (λ _. subst (λ (p : Party). oldOpen p ≡ true → p .old ≢ 0 → ticked k q t .givenAt (linkedPage (p .old)) < ticked k q t .oldRead q) (sym own-record) own-old)));
           }
@@ -536,7 +452,7 @@ module _ (k : Clock) (m : Memory) (ok : ClockOk k m) (q : ℕ) where
     begun-clock : length (m .parties) ≡ m .root .parties → ClockOk (ticked k q noTrace) (withBegun m q op key)
     unfolding oldOpen isAmong
     begun-clock e =
-        clock-moves k m (withBegun m q op key) ok q noTrace begun-spared (λ h s. absurd (omega (arith, sym (ap (λ (p : Party). p .step) (begun-record e h)) ∙ s)))
+        clock-moves k m (withBegun m q op key) ok q noTrace begun-spared (λ h s. absurd (false≢true (sym (ap (λ (p : Party). scratchOpen (p .step)) (begun-record e h)) ∙ s)))
         (λ h s n. absurd (false≢true (sym (ap oldOpen (begun-record e h)) ∙ s)))
 
     begin-fresh : (b : Book) → Inv m b → CallFresh k m (beginFor q op key)
@@ -549,9 +465,96 @@ module _ (k : Clock) (m : Memory) (ok : ClockOk k m) (q : ℕ) where
             subst (λ (c : Called BeginAnswer). ClockOk (ticked k q noTrace) (c .memory)) (sym (begin-refused m (firstCause (beginRows m q)) (omega arith) q op key refl))
             (clock-ticks k m ok q)
 
+  -- ---- Withdraw
+
+  -- Refused: nothing is followed, and nothing changes.
+  kept-fresh : (n : ℕ) → withdrawCall m q ≡ called (WithdrawAnswer.Refused n) m → CallFresh k m (withdrawFor q)
+  unfolding traceOfCall clockAfter afterCall allFresh traceOfWithdraw traceAnswered
+  kept-fresh n e = record {
+    fresh = ap (λ (c : Called WithdrawAnswer). allFresh k (traceAnswered k m q (c .answer) .follows)) e;
+    clock = subst (λ (c : Called WithdrawAnswer). ClockOk (ticked k q (traceAnswered k m q (c .answer))) (c .memory)) (sym e) (clock-ticks k m ok q);
+  }
+
+  -- Accepted: at 11 the list that scratch leads to is walked and given back.
+  module _ (b : Book) (now : Turn m b q (partyAt (m .parties) q .step)) (undone : isDecided (partyAt (m .parties) q) ≡ false)
+      (accepted : withdrawCall m q .answer ≡ WithdrawAnswer.Withdrawn) where
+    abbrev builts : List ℕ
+    builts = now .inv .ghost .held (builtBy q)
+
+    abbrev left : Memory
+    left = withdrawCall m q .memory
+
+    built-now : builtPages (viewOf m q) ≡ sound builts
+    built-now = undecided m b q now undone .built
+
+    abbrev back : Trace
+    back = trace (walkedFrom (k .scratchRead q) (k .calls + 1) builts) false false builts
+
+    trace-is : traceOfWithdraw k m q ≡ back
+    unfolding traceOfWithdraw traceAnswered pagesListed
+    trace-is = rw (accepted, built-now) refl
+
+    back-fresh : allFresh k (back .follows) ≡ true
+    unfolding allFresh walkedFrom builtPages pagesListed
+    back-fresh = go (cmp (partyAt (m .parties) q .step) 11)
+      where
+        go : Cmp (partyAt (m .parties) q .step) 11 → allFresh k (back .follows) ≡ true
+        go (same e) =
+            fresh-walked k (k .scratchRead q) (k .calls + 1) _ builts (built-link m b (now .inv) q (now .in-row) e) (ok .scratch-fresh q (now .in-row) (ap scratchOpen e))
+            (λ x. omega (arith, ok .past x))
+        go (diff n) =
+            let none : builts ≡ [] = sym (ap pagesListed (rw (eqb-diff (partyAt (m .parties) q .step) 11 n) at built-now)) in
+            rw none refl
+
+    altered : Withdraws m q
+    altered = withdraw-alters m q .accepted accepted
+
+    -- A page that a party other than q has yet to follow is none of them.
+    not-back : (x : ℕ) → (GivenBy m b (now .inv) q (now .in-row) x → ⊥) → isAmong x builts ≡ false
+    not-back x f = go (tell (isAmong x builts))
+      where
+        go : Told (isAmong x builts) → isAmong x builts ≡ false
+        go (holds h) = absurd (f (gives-built (own-of-member (now .inv .pages-ok .owned) (builtBy q) x h)))
+        go (fails h) = h
+
+    back-spared : Spared m left q builts
+    unfolding pagesListed
+    back-spared =
+        let i = now .inv in
+        record {
+          parties= = ap (λ (r : Root). r .parties) (altered .root);
+          record= = altered .others;
+          scratch= = λ j n.
+              ap (λ (r : Root). pageOf (left .pages) (scratchPage r j)) (altered .root)
+              ∙ altered .elsewhere (scratchPage (m .root) j) (λ e. n (omega arith))
+              (ap (λ (c : Checked (List ℕ)). isAmong (scratchPage (m .root) j) (pagesListed c)) built-now
+              ∙ outside-absent (scratchPage (m .root) j) builts (scratch-outside (m .root) j builts (held-overflow (m .root) (i .pages-ok .owned) (builtBy q))));
+          scratch-spared = λ j h n e w. not-back _ (λ g. next-spared m b i q (now .in-row) j h n _ (next-page m b i j h e w) g);
+          old-spared = λ j h n e w. not-back _ (λ g. old-spared m b i q (now .in-row) j n _ (partyAt (m .parties) j .chain) (old-owner m b i j h e w) g);
+        }
+
+    taken-fresh : CallFresh k m (withdrawFor q)
+    unfolding traceOfCall clockAfter afterCall oldOpen isAmong
+    taken-fresh = record {
+      fresh = ap (λ (t : Trace). allFresh k (t .follows)) trace-is ∙ back-fresh;
+      clock = subst (λ (t : Trace). ClockOk (ticked k q t) left) (sym trace-is)
+          (clock-moves k m left ok q back back-spared (λ h s. absurd (false≢true (sym (ap (λ (p : Party). scratchOpen (p .step)) (altered .own)) ∙ s)))
+          (λ h s n. absurd (false≢true (sym (ap oldOpen (altered .own)) ∙ s))));
+    }
+
+  withdraw-fresh : (b : Book) → Inv m b → CallFresh k m (withdrawFor q)
+  withdraw-fresh b i = go (withdraw-meets m b i q)
+    where
+      go : WithdrawMet m b i q → CallFresh k m (withdrawFor q)
+      go (stranger h n e) = kept-fresh 3 e
+      go (unbegun h n e) = kept-fresh 5 e
+      go (too-late h e c d f) = kept-fresh 7 f
+      go (taken-back h e c t d a) = taken-fresh b t d a
+
 pub clock-kept : (k : Clock) (m : Memory) (b : Book) → Inv m b → ClockOk k m → (c : Call) → CallFresh k m c
 clock-kept k m b i ok (beginFor q op key) = begin-fresh k m ok q op key b i
 clock-kept k m b i ok (stepFor q) = step-fresh k m ok q b i
+clock-kept k m b i ok (withdrawFor q) = withdraw-fresh k m ok q b i
 
 -- ---- A list of calls
 
@@ -568,7 +571,7 @@ start-clock : (s : Sizes) → ClockOk clockStart (start s)
 unfolding clockStart formatted oldOpen isAmong
 start-clock s = record {
   past = λ x. omega arith;
-  scratch-fresh = λ q l e n. absurd (omega (arith, sym (ap (λ (p : Party). p .step) (party-idle (s .parties) q)) ∙ e));
+  scratch-fresh = λ q l e n. absurd (false≢true (sym (ap (λ (p : Party). scratchOpen (p .step)) (party-idle (s .parties) q)) ∙ e));
   old-fresh = λ q l h n. absurd (false≢true (sym (ap oldOpen (party-idle (s .parties) q)) ∙ h));
 }
 

@@ -20,7 +20,7 @@ use Rattle.model.specs.Steps.Dispatch.{Want, wantsNone, wantsRoot, wantsChain, 
 use Rattle.model.proofs.Laws.Lists.{cond-ind, All, _▸_}
 use Rattle.model.proofs.Laws.Addresses.{span-pos, hash-next}
 use Rattle.model.proofs.Laws.Retreat.{target-before}
-use Rattle.model.proofs.Invariant.Claims.{Claims, noLock, onRoot, onOther, mergingTarget, claimTable, claims}
+use Rattle.model.specs.Claims.{Claims, noLock, onRoot, onOther, mergingTarget, claimTable, claims}
 use Rattle.model.proofs.Invariant.Statement.{Scene, Returning, Settled, Joining, Facts, factsNone, factsLocated, factsChasing, factTable, factsAt, Busy}
 
 -- A lock of the file, behind all the locks of a list.

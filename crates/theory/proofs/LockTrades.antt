@@ -45,7 +45,7 @@ use Rattle.model.specs.Steps.MergeBuild.{Pair, pairOf, joinedEntries, mergeGoes
 use Rattle.model.specs.Steps.MergeWrite.{mergedAway, partnerCleared, step27, step28, step29}
 use Rattle.model.specs.Steps.Dispatch.{hasStep, noStep, stepTable, stepOf, wantsNone, wantTable}
 use Rattle.model.proofs.Laws.Lists.{cond-ind, _▸_, Numbered, numbered-at}
-use Rattle.model.proofs.Invariant.Claims.{claims, claimTable, noLock}
+use Rattle.model.specs.Claims.{claims, claimTable, noLock}
 use Rattle.model.proofs.Invariant.Frame.{claims-at, changes-selectively}
 use Rattle.model.proofs.Effects.GiveUps.{given-up-rest}
 use Rattle.theory.proofs.Ledger.{claimCount, listed}

@@ -1,7 +1,10 @@
--- Definitions that only forbid, or that stand as a premise, said once more: a wider one would make a statement weaker and every proof of it would still stand.
--- Main statements: answers-allowed (what a plain map may answer, as a table), other-replies-refused, lengths-agree; clock-starts-at-zero, read-before-given (the link rule); accepted-replies, unanswered-comes-after-all.
+-- Definitions that only forbid, or that stand as a premise, said once more: a wider one would make a statement weaker
+-- and every proof of it would still stand.
+-- Main statements: answers-allowed (what a plain map may answer, as a table), other-replies-refused, lengths-agree;
+-- clock-starts-at-zero, read-before-given (the link rule); accepted-replies, unanswered-comes-after-all;
+-- begins-write-none, steps-write-eleven, withdraws-write-none, withdrawn-wrote-none (what alters the map).
 use mathlib.Core.Path.{_≡_, refl, ap}
-use mathlib.Core.Bool.{Bool, true, false, or-false}
+use mathlib.Core.Bool.{Bool, true, false, _&&_, or-false}
 use mathlib.Core.List.{List, [], _∷_, map}
 use mathlib.Core.Option.{Option, none, some}
 use Prim.Native.Nat.{ℕ}
@@ -13,19 +16,24 @@ use Rattle.model.specs.declared.OperationAnswer.the-variants as OperationAnswer
 use Rattle.model.specs.declared.Restructuring.{Restructuring}
 use Rattle.model.specs.declared.StepAnswer.{StepAnswer}
 use Rattle.model.specs.declared.StepAnswer.the-variants as StepAnswer
-use Rattle.model.specs.Answers.{answerNumber, foundOrAbsent, settingFound, sameAnswer}
+use Rattle.model.specs.declared.WithdrawAnswer.the-variants as WithdrawAnswer
+use Rattle.model.specs.Answers.{answerNumber, foundOrAbsent, performs, settingFound, sameAnswer}
+use Rattle.model.specs.Runs.{beginFor, stepFor, withdrawFor, Reply, toStep, toWithdraw}
 use Rattle.model.specs.Book.{Value}
 use Rattle.theory.specs.PlainMap.{PlainMap, plainAnswer, mayLackPages, isNoPage, answersAsMap}
 use Rattle.theory.specs.Links.{Clock, clockStart, follow, allFresh}
 use Rattle.theory.specs.Singly.{Wanted, answersAsMaps}
 use Rattle.theory.specs.Linearization.{isBefore}
 use Rattle.theory.specs.Reads.{isAccepted}
+use Rattle.theory.specs.NoPage.{isWriting}
+use Rattle.theory.specs.Withdrawals.{writesMap, unwritten}
 
 -- The six answers, in the order of their numbers, found with the setting y.
 abbrev pub answersWith : Value → List OperationAnswer
 answersWith y = OperationAnswer.Inserted ∷ OperationAnswer.Present ∷ OperationAnswer.Deleted ∷ OperationAnswer.Absent ∷ OperationAnswer.NoPage ∷ OperationAnswer.Found y ∷ []
 
--- Which of them a plain map may give to an operation, by the setting that it has for the key: found with that setting alone.
+-- Which of them a plain map may give to an operation, by the setting that it has for the key: found with that setting
+-- alone.
 abbrev pub allowed : Operation → Option Value → Value → List Bool
 allowed Operation.Find (some x) y = false ∷ false ∷ false ∷ false ∷ false ∷ eqb y x ∷ []
 allowed Operation.Find none y = false ∷ false ∷ false ∷ true ∷ false ∷ false ∷ []
@@ -73,7 +81,25 @@ pub accepted-replies :
 unfolding isAccepted
 accepted-replies a r n = refl
 
--- Every call comes before an answer that is not given.
+-- Every call comes before an end that has not come.
 pub unanswered-comes-after-all : (j : ℕ) → isBefore j none ≡ true
 unfolding isBefore
 unanswered-comes-after-all j = refl
+
+-- No begin alters the map, and no withdraw; a step does where it is an 11 performed, and then only.
+pub begins-write-none : (q : ℕ) (o : Operation) (k number : ℕ) (r : Reply) → writesMap (beginFor q o k) number r ≡ false
+unfolding writesMap
+begins-write-none q o k number r = refl
+
+pub steps-write-eleven : (q number : ℕ) (a : StepAnswer) → writesMap (stepFor q) number (toStep a) ≡ (performs a && eqb number 11)
+unfolding writesMap isWriting
+steps-write-eleven q number a = refl
+
+pub withdraws-write-none : (q number : ℕ) (r : Reply) → writesMap (withdrawFor q) number r ≡ false
+unfolding writesMap
+withdraws-write-none q number r = refl
+
+-- An operation that has performed an 11 is not withdrawn.
+pub withdrawn-wrote-none : (w : ℕ → Bool) (q : ℕ) → w q ≡ true → unwritten w (withdrawFor q) (toWithdraw WithdrawAnswer.Withdrawn) ≡ false
+unfolding unwritten
+withdrawn-wrote-none w q h = rw h refl

@@ -31,7 +31,8 @@ use Rattle.model.specs.Progress.{isEntered, underWay, canMove, someBelow, progr
 use Rattle.theory.specs.Demands.{Sizes, start, Reached, bookReached}
 use Rattle.model.specs.Steps.Dispatch.{stepOf, wants}
 use Rattle.model.proofs.Laws.Lists.{Told, holds, fails, tell, Cmp, same, diff, cmp, Ord, lt, ge, ord, and-both, both-and, or-either, left-or, right-or, not-both, not-true, eqb-true, All}
-use Rattle.model.proofs.Invariant.Claims.{claims, isClaimed}
+use Rattle.model.specs.Claims.{claims}
+use Rattle.model.proofs.Invariant.Claims.{isClaimed}
 use Rattle.model.proofs.Invariant.LockMoves.{permits-true}
 use Rattle.model.proofs.Theorems.RefusalOrder.{step-order}
 use Rattle.model.proofs.Invariant.Statement.{factsAt, Busy, PartyOk, resting, working, sceneOf, Inv}

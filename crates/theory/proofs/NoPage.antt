@@ -13,17 +13,19 @@ use Rattle.model.specs.declared.Operation.{Operation}
 use Rattle.model.specs.declared.StepAnswer.{StepAnswer}
 use Rattle.model.specs.declared.StepAnswer.the-variants as StepAnswer
 use Rattle.model.specs.declared.BeginAnswer.{BeginAnswer}
+use Rattle.model.specs.declared.WithdrawAnswer.{WithdrawAnswer}
 use Rattle.model.specs.Sizes.{withinLimits}
 use Rattle.model.specs.Records.{idle, begun}
 use Rattle.model.specs.Answers.{operationNumber, answerNumber, answerOf, performs, settingGiven}
 use Rattle.model.specs.Outcome.{Outcome}
 use Rattle.model.specs.Memory.{Memory, partyAt, viewOf}
-use Rattle.model.specs.Calls.{Called, called, stepped, stepCall, withBegun, beginCall}
-use Rattle.model.specs.Runs.{Call, beginFor, stepFor, callerOf, replyTo, afterCall, eventOf, events}
+use Rattle.model.specs.Calls.{Called, called, stepped, stepCall, withBegun, beginCall, withdrawCall}
+use Rattle.model.specs.Runs.{Call, beginFor, stepFor, withdrawFor, callerOf, replyTo, afterCall, eventOf, events}
 use Rattle.model.specs.Book.{Book, Entered, changedAt, emptyBook}
 use Rattle.theory.specs.PlainMap.{isNoPage}
+use Rattle.model.specs.Effects.{Withdraws}
 use Rattle.model.specs.Progress.{bookAfterCall}
-use Rattle.theory.specs.NoPage.{noneWrote, wroteBegin, wroteStep, wroteAfter, endsNoPage, noPageRight, noPageKept}
+use Rattle.theory.specs.NoPage.{isWriting, noneWrote, wroteBegin, wroteStep, wroteAfter, endsNoPage, noPageRight, noPageKept}
 use Rattle.model.specs.Steps.Write.{isChange}
 use Rattle.model.specs.Steps.Dispatch.{hasStep, stepOf}
 use Rattle.theory.specs.Demands.{Sizes, start}
@@ -37,6 +39,7 @@ use Rattle.theory.proofs.Reached.{formatted-inv}
 use Rattle.theory.proofs.LockTrades.{step-trades}
 use Rattle.theory.proofs.Alters.{nothing-altered}
 use Rattle.theory.proofs.UnderWay.{Met, no-party, nothing-begun, under-way, meets}
+use Rattle.theory.proofs.Withdraws.{WithdrawTested, turned-away, let-through, withdraw-tested, withdraws}
 use Rattle.theory.proofs.Later.{Later, stays, goes, ends, later-at}
 
 -- Where a party that has performed step 11 since its begin stands: its operation is over, or it is at 12 or further with a change for its answer.
@@ -105,12 +108,12 @@ module _ (m : Memory) (b : Book) (i : Inv m b) (w : ℕ → Bool) (ok : WroteOk 
       × WroteOk (c .memory) (wroteStep w q (partyAt (m .parties) q .step) (c .answer))
 
   refused-clean : (q n : ℕ) → StepClean q (called (StepAnswer.Refused n) m)
-  unfolding endsNoPage wroteStep performs
+  unfolding endsNoPage wroteStep isWriting performs
   refused-clean q n = (refl, ok)
 
   -- What a call that performs nothing leaves.
   idle-clean : (q : ℕ) → performs (stepCall m q .answer) ≡ false → StepClean q (stepCall m q)
-  unfolding wroteStep
+  unfolding wroteStep isWriting
   idle-clean q h = (
     rw (idle-ends (stepCall m q .answer) h) refl,
     λ j x. subst (λ (t : Memory). Past (partyAt (t .parties) j)) (sym (nothing-altered m q h)) (ok j (rw h at x)),
@@ -152,7 +155,7 @@ module _ (m : Memory) (b : Book) (i : Inv m b) (w : ℕ → Bool) (ok : WroteOk 
         go (late l c) = (l, c)
 
     wrote-change : (a : StepAnswer) → wroteStep w q number a q ≡ true → (11 ≤ number) × (isChange (p .answer) ≡ true)
-    unfolding wroteStep
+    unfolding wroteStep isWriting
     wrote-change a h = go (tell (performs a && eqb number 11))
       where
         go : Told (performs a && eqb number 11) → (11 ≤ number) × (isChange (p .answer) ≡ true)
@@ -161,7 +164,7 @@ module _ (m : Memory) (b : Book) (i : Inv m b) (w : ℕ → Bool) (ok : WroteOk 
 
     -- The other parties.
     elsewhere : (a : StepAnswer) (j : ℕ) → j ≢ q → wroteStep w q number a j ≡ true → w j ≡ true
-    unfolding wroteStep changedAt
+    unfolding wroteStep isWriting changedAt
     elsewhere a j d h = go (tell (performs a && eqb number 11))
       where
         go : Told (performs a && eqb number 11) → w j ≡ true
@@ -206,10 +209,25 @@ module _ (m : Memory) (b : Book) (i : Inv m b) (w : ℕ → Bool) (ok : WroteOk 
       go (nothing-begun _ _ _ _ e) = subst (StepClean q) (sym e) (refused-clean q 5)
       go (under-way h e k x c) = under-way-clean q h e k x c
 
+  -- ---- Withdraw
+
+  -- Its operation is over.
+  withdraw-clean : (q : ℕ) → WroteOk (withdrawCall m q .memory) w
+  withdraw-clean q = go (withdraw-tested m q)
+    where
+      each : Withdraws m q → (j : ℕ) → w j ≡ true → Cmp j q → Past (partyAt (withdrawCall m q .memory .parties) j)
+      each x j h (same e) = over (ap (partyAt (withdrawCall m q .memory .parties)) e ∙ x .own)
+      each x j h (diff d) = subst Past (sym (x .others j d)) (ok j h)
+
+      go : WithdrawTested m q → WroteOk (withdrawCall m q .memory) w
+      go (turned-away n e) = subst (λ (c : Called WithdrawAnswer). WroteOk (c .memory) w) (sym e) ok
+      go (let-through xs z d _ _ e) = λ j h. each (withdraws m q xs z d e) j h (cmp j q)
+
   pub call-clean : (c : Call) → CallClean m w c
   unfolding noPageRight wroteAfter replyTo afterCall
   call-clean (beginFor q o k) = record { right = refl; wrote = begin-clean q o k }
   call-clean (stepFor q) = let g = step-clean q in record { right = g .0; wrote = g .1 }
+  call-clean (withdrawFor q) = record { right = refl; wrote = withdraw-clean q }
 
 -- ---- A list of calls
 

@@ -14,12 +14,12 @@ use Rattle.model.specs.declared.OperationAnswer.{OperationAnswer}
 use Rattle.model.specs.declared.OperationAnswer.the-variants as OperationAnswer
 use Rattle.model.specs.declared.BeginAnswer.the-variants as BeginAnswer
 use Rattle.model.specs.Answers.{answerNumber, foundOrAbsent, sameAnswer}
-use Rattle.model.specs.Runs.{Call, beginFor, stepFor, Reply, toBegin, toStep, Event, events}
+use Rattle.model.specs.Runs.{Call, beginFor, stepFor, withdrawFor, Reply, toBegin, toStep, toWithdraw, Event, events}
 use Rattle.model.specs.Book.{Value, isIn, changedAt}
 use Rattle.model.specs.Steps.Write.{isChange}
 use Rattle.theory.specs.PlainMap.{PlainMap, emptyMap, plainAnswer, keptOr, plainAfter, mayLackPages, isNoPage, answersAsMap, mapLeftBy}
 use Rattle.theory.specs.Demands.{Sizes, start}
-use Rattle.theory.specs.Linearization.{IsOneOf, Answered, Operated, entering, operationsFrom, operationsOf, hasTakenEffect, Linearized, timesIn, answersInOrder, mapAfter, Linearization}
+use Rattle.theory.specs.Linearization.{IsOneOf, Ended, Operated, entering, operationsFrom, operationsOf, hasTakenEffect, Linearized, timesIn, answersInOrder, mapAfter, Linearization}
 use Rattle.theory.specs.Settings.{changesKey, leavesKey, LastAdded, FoundInOrder, FoundsRight}
 use Rattle.model.proofs.Laws.Lists.{Cmp, same, diff, cmp, eqb-true, eqb-diff, and-both, both-and, or-either}
 use Rattle.model.proofs.Laws.Answers.{answers-same}
@@ -192,7 +192,9 @@ module _ (n : ℕ) (es : List Event) (o p : Operated) (same-call : o .begun ≡ 
   entering-once (beginFor q x k) (toBegin BeginAnswer.Begun) s t = first-once _ refl (List·Memᴰ·cases-cons s) (List·Memᴰ·cases-cons t)
   entering-once (beginFor q x k) (toBegin (BeginAnswer.Refused z)) s t = later s t
   entering-once (beginFor q x k) (toStep a) s t = later s t
+  entering-once (beginFor q x k) (toWithdraw a) s t = later s t
   entering-once (stepFor q) r s t = later s t
+  entering-once (withdrawFor q) r s t = later s t
 
 begun-once : (n : ℕ) (es : List Event) (o p : Operated) → o .begun ≡ p .begun → List·Memᴰ o (operationsFrom n es) → List·Memᴰ p (operationsFrom n es) → o ≡ p
 unfolding operationsFrom
@@ -232,14 +234,15 @@ pub founds-right : (s : Sizes) (cs : List Call) (l : Linearization s cs) → Fou
 unfolding hasTakenEffect
 founds-right s cs l = record { found = in-order }
   where
-    in-order : (o : Operated) (a : Answered) (x : ℕ) → IsOneOf o (operationsOf (events (start s) cs)) → o .answered ≡ some a → a .answer ≡ OperationAnswer.Found x
+    in-order : (o : Operated) (a : Ended) (x : ℕ) → IsOneOf o (operationsOf (events (start s) cs)) → o .ended ≡ some a → a .answer ≡ some (OperationAnswer.Found x)
         → FoundInOrder o x (l .order)
     in-order o a x m answered found =
-        let once : timesIn (o .begun) (l .order) ≡ 1 = l .each o m ∙ rw answered refl in
+        let once : timesIn (o .begun) (l .order) ≡ 1 = l .each o m ∙ rw (answered, found) refl in
         let p = place-of (o .begun) (l .order) (λ z. omega (arith, once, z)) in
         let placed = l .placed (p .here) (p .one-of) in
         let own : p .here .operated ≡ o = begun-once 1 (events (start s) cs) (p .here .operated) o (p .its-call) (placed .of-run) m in
-        let its-answer : p .here .answer ≡ OperationAnswer.Found x = sym (placed .same-answer a (ap (λ (u : Operated). u .answered) own ∙ answered)) ∙ found in
+        let given : _≡_ {A = Option OperationAnswer} (some (p .here .answer)) (some (OperationAnswer.Found x)) = sym (placed .same-answer a (ap (λ (u : Operated). u .ended) own ∙ answered)) ∙ found in
+        let its-answer : p .here .answer ≡ OperationAnswer.Found x = cc in
         let cut = answers-cut emptyMap (p .earlier) (p .here) (p .later) (ap (answersInOrder emptyMap) (sym (p .parts)) ∙ l .answers) in
         let has = found-has (mapAfter emptyMap (p .earlier)) (p .here .operated .operation) (p .here .operated .key) x
         (ap (answersAsMap (mapAfter emptyMap (p .earlier)) (p .here .operated .operation) (p .here .operated .key)) (sym its-answer) ∙ cut .1) in

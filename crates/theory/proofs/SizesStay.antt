@@ -8,13 +8,14 @@ use Rattle.model.specs.declared.Root.{Root}
 use Rattle.model.specs.declared.Operation.{Operation}
 use Rattle.model.specs.declared.StepAnswer.{StepAnswer}
 use Rattle.model.specs.declared.BeginAnswer.{BeginAnswer}
+use Rattle.model.specs.declared.WithdrawAnswer.{WithdrawAnswer}
 use Rattle.model.specs.Records.{rootOfSizes}
 use Rattle.model.specs.Outcome.{View, Outcome}
 use Rattle.model.specs.Memory.{Memory, partyAt, viewOf, formatted, formattedRoot}
 use Rattle.model.specs.GivenSizes.{sizedRoot, sizedMemory}
 use Rattle.model.specs.Refusals.{firstCause, beginRows, stepRows}
-use Rattle.model.specs.Calls.{Called, withBegun, beginCall, stepped, stepCall}
-use Rattle.model.specs.Runs.{Call, beginFor, stepFor, afterCall, finalMemory}
+use Rattle.model.specs.Calls.{Called, withBegun, beginCall, stepped, stepCall, withdrawCall}
+use Rattle.model.specs.Runs.{Call, beginFor, stepFor, withdrawFor, afterCall, finalMemory}
 use Rattle.theory.specs.Demands.{Sizes, sizesOf, start, Reached, SizesStay}
 use Rattle.model.specs.Steps.Dispatch.{stepOf}
 use Rattle.model.proofs.Laws.Lists.{Cmp, same, diff, cmp}
@@ -23,6 +24,7 @@ use Rattle.model.proofs.Effects.OwnRecord.{same-limits}
 use Rattle.model.proofs.Theorems.RefusalOrder.{begin-refused, begin-accepted, step-refused, step-accepted}
 use Rattle.model.proofs.Theorems.Gate.{ready}
 use Rattle.theory.proofs.Traces.{Traced, stays, goes, step-traced}
+use Rattle.theory.proofs.Withdraws.{WithdrawTested, turned-away, let-through, withdraw-tested}
 
 pub limits-on : (r s t : Root) → SameLimits r s → SameLimits s t → SameLimits r t
 limits-on r s t x y = record {
@@ -67,10 +69,19 @@ begin-limits m q o k = limits-is (m .root) (beginCall m q o k .memory .root) (go
     go (same e) = ap (λ (c : Called BeginAnswer). c .memory .root) (begin-accepted m q o k e)
     go (diff d) = ap (λ (c : Called BeginAnswer). c .memory .root) (begin-refused m (firstCause (beginRows m q)) (omega arith) q o k refl)
 
+-- A withdraw changes of the root its free list alone.
+withdraw-limits : (m : Memory) (q : ℕ) → SameLimits (m .root) (withdrawCall m q .memory .root)
+withdraw-limits m q = go (withdraw-tested m q)
+  where
+    go : WithdrawTested m q → SameLimits (m .root) (withdrawCall m q .memory .root)
+    go (turned-away n e) = limits-is (m .root) (withdrawCall m q .memory .root) (ap (λ (c : Called WithdrawAnswer). c .memory .root) e)
+    go (let-through xs _ _ _ _ e) = rw e (record { originals= = refl; capacity= = refl; primaries= = refl; overflow= = refl; parties= = refl })
+
 pub call-limits : (m : Memory) (c : Call) → SameLimits (m .root) (afterCall m c .root)
 unfolding afterCall
 call-limits m (beginFor q o k) = begin-limits m q o k
 call-limits m (stepFor q) = step-limits m q
+call-limits m (withdrawFor q) = withdraw-limits m q
 
 -- ---- A list of calls
 

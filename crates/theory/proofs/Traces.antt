@@ -1,8 +1,8 @@
 -- What each of the thirty steps leaves of links: the other parties' scratch pages, and in the party's own record a scratch link and an old link that were read in this call or kept.
--- Main statements: chain-followed, list-followed (what a trace calls a chain's pages); oldOpen (the old link is yet to be followed); Marks (what the record then says of links), Leaves, Traced; step-traced (of every step number); moves-by-link (a find goes on only by a link).
-use mathlib.Core.Path.{_≡_, refl, ap, _∙_}
+-- Main statements: chain-followed, list-followed (what a trace calls a chain's pages); Leaves, Traced; step-traced (of every step number); moves-by-link (a find goes on only by a link).
+use mathlib.Core.Path.{_≡_, refl, _∙_}
 use mathlib.Core.Logic.{_≢_}
-use mathlib.Core.Bool.{Bool, true, false, cond, not, _&&_, _||_}
+use mathlib.Core.Bool.{Bool, true, false, cond, not, _&&_}
 use mathlib.Core.List.{List, [], _∷_, _++_}
 use Prim.Native.Nat.{ℕ, _+_, _-_}
 use native.Mathlib.Omega.{arith}
@@ -32,7 +32,7 @@ use Rattle.model.specs.ScratchPages.{scratchOf, primaryWritten}
 use Rattle.model.specs.Endings.{done, finished, onward, oldPagesFirst, endedWith}
 use Rattle.model.specs.LockRequests.{isGranted, withHold, request, isHeld, heldAll, withoutHold, givenUp, release, chainLock, chainSelective, chainExclusive, rootSelective, rootExclusive}
 use Rattle.model.specs.Ready.{Ready}
-use Rattle.theory.specs.Links.{Trace, traceOf, traceNine, chainPages, listPages}
+use Rattle.theory.specs.Links.{traceOf, traceNine, chainPages, listPages}
 use Rattle.model.specs.Steps.Locate.{located, step01, step02, step03, step04, step05}
 use Rattle.model.specs.Steps.Chase.{chaseOf, arrived, chasing, step06, step07, step08}
 use Rattle.model.specs.Steps.Find.{answered, lookedOn, step09}
@@ -46,12 +46,12 @@ use Rattle.model.specs.Steps.MergeLocks.{mergeStops, merging, step23, step24, s
 use Rattle.model.specs.Steps.MergeBuild.{Pair, pairOf, joinedEntries, mergeGoes, combined, combineWith, step26}
 use Rattle.model.specs.Steps.MergeWrite.{rootMovedBack, mergedAway, partnerCleared, step27, step28, step29}
 use Rattle.model.specs.Steps.Dispatch.{noStep, stepTable, stepOf}
-use Rattle.model.proofs.Laws.Lists.{cond-ind, not-both, and-both, right-or, eqb-false, All, _▸_, Numbered, numbered-at, all-append, all-from, all-in, among-take, among-drop}
+use Rattle.model.proofs.Laws.Lists.{cond-ind, not-both, and-both, right-or, All, _▸_, Numbered, numbered-at, all-append, all-from, all-in, among-take, among-drop}
 use Rattle.model.proofs.Laws.Pages.{length-pageOf, length-zeroPage, length-withLocalLevel}
 use Rattle.model.proofs.Laws.Filling.{IsOverflow, length-primaryOf}
 use Rattle.model.proofs.Invariant.Frame.{SameLimits}
 use Rattle.model.proofs.Effects.OwnRecord.{same-limits}
-use Rattle.model.proofs.Effects.Moves.{at-its-step}
+use Rattle.theory.proofs.OpenLinks.{oldOpen, open-at, closed, read-now, Marks, passes, keeps, reads-old}
 use Rattle.theory.proofs.Scratches.{IfSound, if-sound, if-then, names-page, names-linked, sound-link, taken-overflow, list-overflow, Spares, spares-all, scratch-writable, primary-writable, has-page, spares-written, spares-filled, spares-given}
 
 -- The links that a step follows are those of the chain, or of the list, as the step's own memory has it.
@@ -63,37 +63,7 @@ pub list-followed : (v : View) (l : ℕ) (xs : List ℕ) → listFrom (v .root) 
 unfolding pagesListed
 list-followed v l xs e = rw e refl
 
--- ---- The old link
-
--- The step numbers at which a party may have an old link to follow.
-abbrev pub openSteps : List ℕ
-openSteps = 11 ∷ (12 ∷ (13 ∷ (14 ∷ (18 ∷ (19 ∷ (20 ∷ (21 ∷ (22 ∷ (27 ∷ (28 ∷ (29 ∷ [])))))))))))
-
--- Whether the old link is yet to be followed: at 12 where a change was made.
-unfoldable pub oldOpen : Party → Bool
-oldOpen p = isAmong (p .step) openSteps && (not (eqb (p .step) 12) || isChange (p .answer))
-
--- A party whose step number is known.
-pub open-at : (p : Party) (n : ℕ) → p .step ≡ n → oldOpen p ≡ oldOpen (atStep n p)
-open-at p n e = ap oldOpen (at-its-step p n e)
-
--- ---- What a step says of links
-
--- A link that was read in this call, which gave no page back.
-pub record ReadNow (into : Bool) (gives : List ℕ) : Type 0 where
-  pub reads : into ≡ true
-  pub keeps-all : gives ≡ []
-
--- The old link of the record p that the step leaves: there is none to follow, it was read in this call, or it is the one found.
-pub data OldLink (v : View) (p : Party) (t : Trace) : Type 0 where
-  closed : oldOpen p ≡ false → OldLink v p t
-  read-now : ReadNow (t .intoOld) (t .gives) → OldLink v p t
-  kept-old : p .old ≡ v .party .old → oldOpen (v .party) ≡ true → t .gives ≡ [] → OldLink v p t
-
--- Step number n answers a and leaves the record p: what the record then says of links, at whatever time the step is made.
-pub record Marks (n : ℕ) (v : View) (a : StepAnswer) (p : Party) : Type 0 where
-  pub scratch-link : (t s o : ℕ) → p .step ≡ 9 → ReadNow (traceOf t n v a (p .step) s o .intoScratch) (traceOf t n v a (p .step) s o .gives)
-  pub old-link : (t s o : ℕ) → OldLink v p (traceOf t n v a (p .step) s o)
+-- ---- What a step leaves
 
 -- The sizes and the other parties' scratch pages stay.
 pub record Leaves (v u : View) : Type 0 where
@@ -105,24 +75,6 @@ pub record Leaves (v u : View) : Type 0 where
 pub data Traced (n : ℕ) (v : View) (o : Outcome) : Type 0 where
   stays : performs (o .answer) ≡ false → o .after ≡ v → Traced n v o
   goes : performs (o .answer) ≡ true → Leaves v (o .after) → Marks n v (o .answer) (o .after .party) → Traced n v o
-
--- ---- Marks
-
-module _ (n : ℕ) (v : View) (a : StepAnswer) (p : Party) (not-nine : eqb (p .step) 9 ≡ false) where
-  no-walk : p .step ≡ 9 → ⊥
-  no-walk = eqb-false (p .step) 9 not-nine
-
-  -- On to a step with no old link to follow.
-  passes : oldOpen p ≡ false → Marks n v a p
-  passes h = record { scratch-link = λ t s o e. absurd (no-walk e); old-link = λ t s o. closed h }
-
-  -- On with the same old link.
-  keeps : p .old ≡ v .party .old → oldOpen (v .party) ≡ true → ((t s o : ℕ) → traceOf t n v a (p .step) s o .gives ≡ []) → Marks n v a p
-  keeps e h g = record { scratch-link = λ t s o e. absurd (no-walk e); old-link = λ t s o. kept-old e h (g t s o) }
-
-  -- With an old link read in this call.
-  reads-old : ((t s o : ℕ) → ReadNow (traceOf t n v a (p .step) s o .intoOld) (traceOf t n v a (p .step) s o .gives)) → Marks n v a p
-  reads-old h = record { scratch-link = λ t s o e. absurd (no-walk e); old-link = λ t s o. read-now (h t s o) }
 
 -- ---- The ways in which steps are put together
 
@@ -337,7 +289,7 @@ rebuild-traced v ready c (changed a es) h =
       sizes = free-limits (v .root) _ _;
       spares = built-spares v ready (c .level) es (t .pages) over;
     })
-    (reads-old 10 v _ _ refl (λ x s o. record { reads = refl; keeps-all = refl }))))
+    (record { scratch-link = λ x s o h. record { reads = refl; keeps-all = refl }; old-link = λ x s o. read-now (record { reads = refl; keeps-all = refl }) })))
 
 traced-10 : TracedAt 10 step10
 unfolding step10

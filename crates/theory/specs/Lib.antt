@@ -1,4 +1,4 @@
--- What the demands say of whole lists of calls, in the order in which they build on one another; Demands and Linearization are the statements to read.
+-- What the demands say of whole lists of calls, in the order in which they build on one another; Demands, Linearization and Withdrawals are the statements to read.
 pub mod Links
 pub mod PlainMap
 pub mod NoPage
@@ -8,3 +8,4 @@ pub mod Reads
 pub mod Demands
 pub mod Linearization
 pub mod Settings
+pub mod Withdrawals

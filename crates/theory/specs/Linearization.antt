@@ -1,7 +1,8 @@
 -- A linearization (Herlihy and Wing 1990) of a run: an order of its operations, each at one call between its begin and
--- its answer, in which a plain map gives every answer.
+-- its answer, in which a plain map gives every answer. "A withdrawn operation has no answer and does not count in the
+-- one-at-a-time order" (document 02, change 2).
 -- It speaks of the calls and what they returned, and of the memory at the end; of no book. Calls are numbered from 1.
--- Main definitions: Operated and operationsOf (the operations of a run); decisiveStep, isDecided and hasTakenEffect (when
+-- Main definitions: Ended, Operated and operationsOf (the operations of a run); decisiveStep and hasTakenEffect (when
 -- one takes effect, and whether it has); Linearized and Placed (an operation in its place), StandsBefore;
 -- answersInOrder and mapAfter (the plain map, operation by operation); Linearization.
 -- The theorem that every list of calls has one is in proofs/Linearization.antt.
@@ -11,16 +12,17 @@ use mathlib.Core.List.{List, [], _∷_, _++_, List·Memᴰ}
 use mathlib.Core.Option.{Option, none, some}
 use Prim.Native.Nat.{ℕ, _+_, _<_}
 use lib.Dec.{eqb, ltb, leb}
-use Rattle.model.specs.declared.Party.{Party}
 use Rattle.model.specs.declared.Operation.{Operation}
 use Rattle.model.specs.declared.Operation.the-variants as Operation
 use Rattle.model.specs.declared.OperationAnswer.{OperationAnswer}
 use Rattle.model.specs.declared.StepAnswer.the-variants as StepAnswer
 use Rattle.model.specs.declared.BeginAnswer.the-variants as BeginAnswer
+use Rattle.model.specs.declared.WithdrawAnswer.the-variants as WithdrawAnswer
 use Rattle.model.specs.Answers.{answerNumber, performs}
 use Rattle.model.specs.Steps.Write.{isChange}
+use Rattle.model.specs.Withdraw.{isDecided}
 use Rattle.model.specs.Memory.{Memory, partyAt}
-use Rattle.model.specs.Runs.{Call, beginFor, stepFor, Reply, toBegin, toStep, Event, events}
+use Rattle.model.specs.Runs.{Call, beginFor, stepFor, withdrawFor, Reply, toBegin, toStep, toWithdraw, Event, events}
 use Rattle.theory.specs.PlainMap.{PlainMap, emptyMap, answersAsMap, mapLeftBy}
 use Rattle.model.specs.Book.{Value}
 use Rattle.model.specs.Consistency.{Consistent, InFile}
@@ -32,51 +34,56 @@ IsOneOf x xs = List·Memᴰ x xs
 
 -- ---- The operations of a run, read off its events
 
--- An operation's answer: the number of the call that returned it, and the answer.
-pub record Answered : Type 0 where
+-- How an operation ended: the number of the call, and the answer that it returned; none where it was withdrawn.
+pub record Ended : Type 0 where
   pub call : ℕ
-  pub answer : OperationAnswer
+  pub answer : Option OperationAnswer
 
--- An operation: the number of the begin that entered it, its party, which operation with which key, and its answer if it
+-- An operation: the number of the begin that entered it, its party, which operation with which key, and its end if it
 -- has one.
 pub record Operated : Type 0 where
   pub begun : ℕ
   pub party : ℕ
   pub operation : Operation
   pub key : ℕ
-  pub answered : Option Answered
+  pub ended : Option Ended
 
--- The answer that a reply carries: that of a done.
-unfoldable pub answerIn : Reply → Option OperationAnswer
-answerIn (toBegin x) = none
-answerIn (toStep StepAnswer.Waiting) = none
-answerIn (toStep StepAnswer.Moved) = none
-answerIn (toStep (StepAnswer.Done a s)) = some a
-answerIn (toStep (StepAnswer.Refused n)) = none
+-- The end that a reply is: a done, with its answer, or a withdraw accepted, without one.
+unfoldable pub endIn : Reply → Option (Option OperationAnswer)
+endIn (toBegin x) = none
+endIn (toStep StepAnswer.Waiting) = none
+endIn (toStep StepAnswer.Moved) = none
+endIn (toStep (StepAnswer.Done a s)) = some (some a)
+endIn (toStep (StepAnswer.Refused n)) = none
+endIn (toWithdraw WithdrawAnswer.Withdrawn) = some none
+endIn (toWithdraw (WithdrawAnswer.Refused n)) = none
 
--- The answer that a call gives to party q.
-unfoldable pub answerTo : ℕ → Call → Reply → Option OperationAnswer
-answerTo q (beginFor j o k) x = none
-answerTo q (stepFor j) x = cond (eqb j q) (answerIn x) none
+-- The end that a call brings to party q.
+unfoldable pub endTo : ℕ → Call → Reply → Option (Option OperationAnswer)
+endTo q (beginFor j o k) x = none
+endTo q (stepFor j) x = cond (eqb j q) (endIn x) none
+endTo q (withdrawFor j) x = cond (eqb j q) (endIn x) none
 
--- The answer of call n, or else a later one.
-unfoldable pub orLater : ℕ → Option OperationAnswer → Option Answered → Option Answered
+-- The end at call n, or else a later one.
+unfoldable pub orLater : ℕ → Option (Option OperationAnswer) → Option Ended → Option Ended
 orLater n none later = later
 orLater n (some a) later = some (record { call = n; answer = a })
 
--- The first answer to party q, in events of calls numbered from n on.
-unfoldable pub firstAnswer : ℕ → ℕ → List Event → Option Answered
-firstAnswer q n [] = none
-firstAnswer q n (e ∷ es) = orLater n (answerTo q (e .call) (e .reply)) (firstAnswer q (n + 1) es)
+-- The first end for party q, in events of calls numbered from n on.
+unfoldable pub firstEnd : ℕ → ℕ → List Event → Option Ended
+firstEnd q n [] = none
+firstEnd q n (e ∷ es) = orLater n (endTo q (e .call) (e .reply)) (firstEnd q (n + 1) es)
 
--- A begin answered ok enters its operation, whose answer is the first one that its party gets after it; no other call
+-- A begin answered ok enters its operation, whose end is the first one that its party gets after it; no other call
 -- enters any.
 unfoldable pub entering : ℕ → Call → Reply → List Event → List Operated → List Operated
 entering n (beginFor q o k) (toBegin BeginAnswer.Begun) later rest =
-    record { begun = n; party = q; operation = o; key = k; answered = firstAnswer q (n + 1) later } ∷ rest
+    record { begun = n; party = q; operation = o; key = k; ended = firstEnd q (n + 1) later } ∷ rest
 entering n (beginFor q o k) (toBegin (BeginAnswer.Refused x)) later rest = rest
 entering n (beginFor q o k) (toStep x) later rest = rest
+entering n (beginFor q o k) (toWithdraw x) later rest = rest
 entering n (stepFor q) x later rest = rest
+entering n (withdrawFor q) x later rest = rest
 
 -- The operations entered in events of calls numbered from n on, in the order of their begins.
 unfoldable pub operationsFrom : ℕ → List Event → List Operated
@@ -109,31 +116,28 @@ unfoldable pub stepMarks : ℕ → ℕ → Call → Reply → Bool
 stepMarks q number (beginFor j o k) x = false
 stepMarks q number (stepFor j) (toBegin x) = false
 stepMarks q number (stepFor j) (toStep a) = eqb j q && performs a && (eqb number 6 || eqb number 10 || eqb number 11)
+stepMarks q number (stepFor j) (toWithdraw x) = false
+stepMarks q number (withdrawFor j) x = false
 
 -- The same of a call that there may be or not.
 unfoldable pub marks : ℕ → Option Event → Bool
 marks q none = false
 marks q (some e) = stepMarks q (e .number) (e .call) (e .reply)
 
--- Whether a step number is behind the decisive step: a 6 leads to 9 where it is a find's last, a 10 to 12 where nothing
--- changes and else to 11, an 11 to 12; from 9 a find stays there or is done, and from 12 on all numbers are 12 or above.
--- (proofs/Linearization/Leads.antt shows it of every step.)
-unfoldable pub isBehind : ℕ → Bool
-isBehind k = eqb k 9 || leb 12 k
-
--- Whether the decisive step of a party's operation under way is done.
-abbrev pub isDecided : Party → Bool
-isDecided p = isBehind (p .step)
-
 -- Whether there is an answer.
-abbrev pub isAnswered : Option Answered → Bool
-isAnswered none = false
-isAnswered (some y) = true
+abbrev pub isAnswer : Option OperationAnswer → Bool
+isAnswer none = false
+isAnswer (some a) = true
 
--- Whether an operation has taken effect when the memory m is reached: it is answered, or it is under way and its decisive
--- step is done.
+-- Whether an operation has taken effect: where it has ended, if it was answered, so not if it was withdrawn; where it is
+-- under way, if its decisive step is done. (isDecided goes by the step number that the decisive step leads to.)
+abbrev pub takesEffect : Bool → Option Ended → Bool
+takesEffect decided none = decided
+takesEffect decided (some y) = isAnswer (y .answer)
+
+-- The same when the memory m is reached.
 unfoldable pub hasTakenEffect : Memory → Operated → Bool
-hasTakenEffect m o = isAnswered (o .answered) || isDecided (partyAt (m .parties) (o .party))
+hasTakenEffect m o = takesEffect (isDecided (partyAt (m .parties) (o .party))) (o .ended)
 
 -- ---- An order of operations
 
@@ -165,21 +169,21 @@ unfoldable pub mapAfter : PlainMap → List Linearized → PlainMap
 mapAfter s [] = s
 mapAfter s (x ∷ xs) = let o = x .operated in mapAfter (mapLeftBy s (o .operation) (o .key) (x .answer)) xs
 
--- Whether call j comes before an answer; before none, every call does.
-unfoldable pub isBefore : ℕ → Option Answered → Bool
+-- Whether call j comes before an end; before none, every call does.
+unfoldable pub isBefore : ℕ → Option Ended → Bool
 isBefore j none = true
 isBefore j (some y) = ltb j (y .call)
 
--- An operation of the run in its place: it takes effect after its begin and before its answer, and the answer is the one
+-- An operation of the run in its place: it takes effect after its begin and before its end, which is its answer, the one
 -- that it was given; the call at which it does is its decisive step, and no later call of it performs a 6, a 10 or an 11.
 pub record Placed (es : List Event) (x : Linearized) : Type 0 where
   pub of-run : IsOneOf (x .operated) (operationsOf es)
   pub after-begin : x .operated .begun < x .point
-  pub before-answer : (y : Answered) → x .operated .answered ≡ some y → x .point < y .call
-  pub same-answer : (y : Answered) → x .operated .answered ≡ some y → y .answer ≡ x .answer
+  pub before-end : (y : Ended) → x .operated .ended ≡ some y → x .point < y .call
+  pub same-answer : (y : Ended) → x .operated .ended ≡ some y → y .answer ≡ some (x .answer)
   pub decisive : eventAt es (x .point)
       ≡ some (record { call = stepFor (x .operated .party); number = decisiveStep (x .operated .operation) (x .answer); reply = toStep StepAnswer.Moved })
-  pub last : (j : ℕ) → x .point < j → isBefore j (x .operated .answered) ≡ true → marks (x .operated .party) (eventAt es j) ≡ false
+  pub last : (j : ℕ) → x .point < j → isBefore j (x .operated .ended) ≡ true → marks (x .operated .party) (eventAt es j) ≡ false
 
 -- x stands before y in an order.
 pub record StandsBefore (x y : Linearized) (xs : List Linearized) : Type 0 where
@@ -194,10 +198,11 @@ pub record Linearization (s : Sizes) (cs : List Call) : Type 0 where
   pub order : List Linearized
   pub ascending : ascendingFrom 1 order ≡ true
   pub placed : (x : Linearized) → IsOneOf x order → Placed (events (start s) cs) x
-  -- Each operation answered, and each under way whose decisive step is done, stands in it once; no other does.
+  -- Each operation answered, and each under way whose decisive step is done, stands in it once; no other does, so none
+  -- that was withdrawn.
   pub each : (o : Operated) → IsOneOf o (operationsOf (events (start s) cs)) → timesIn (o .begun) order ≡ cond (hasTakenEffect (Reached s cs) o) 1 0
   -- Real time: an operation answered before another begins stands before it.
-  pub real-time : (x y : Linearized) (a : Answered) → IsOneOf x order → IsOneOf y order → x .operated .answered ≡ some a → a .call < y .operated .begun → StandsBefore x y order
+  pub real-time : (x y : Linearized) (a : Ended) → IsOneOf x order → IsOneOf y order → x .operated .ended ≡ some a → a .call < y .operated .begun → StandsBefore x y order
   -- From the empty map on, a plain map gives every answer. "No page" stands only for an insert of a missing key or a
   -- delete of a present one, and leaves the map.
   pub answers : answersInOrder emptyMap order ≡ true

@@ -1,21 +1,28 @@
--- The link rule (document 01, "The set book", last paragraph, and demand 3): no step follows a chain's link to an overflow page given back since that link was read.
--- Calls are numbered from 1. Two readings outlive their call: the link in a party's scratch page (read at 6 or 9) and the old link in its record (read at 10, 17 or 26).
--- Main definitions: Clock (when each link was read and each page given back), Trace and traceOf (what each step follows, reads and gives back); linksFresh (over a whole list).
+-- The link rule (document 01, "The set book", last paragraph, and demand 3): no step follows a chain's link to an
+-- overflow page given back since that link was read.
+-- Calls are numbered from 1. Two readings outlive their call: the link in a party's scratch page (read at 6 or 9; at 10
+-- made with the pages that it leads to, and followed by a withdraw at 11) and the old link in its record (read at 10,
+-- 17 or 26).
+-- Main definitions: Clock (when each link was read and each page given back), Trace, traceOf and traceOfWithdraw (what
+-- each step, and a withdraw, follows, reads and gives back); linksFresh (over a whole list).
 use mathlib.Core.Bool.{Bool, true, false, cond, _&&_}
 use mathlib.Core.List.{List, [], _∷_, _++_, map}
 use Prim.Native.Nat.{ℕ, _+_}
 use lib.Dec.{ltb, eqb}
 use Rattle.model.specs.declared.StepAnswer.{StepAnswer}
 use Rattle.model.specs.declared.StepAnswer.the-variants as StepAnswer
+use Rattle.model.specs.declared.WithdrawAnswer.{WithdrawAnswer}
+use Rattle.model.specs.declared.WithdrawAnswer.the-variants as WithdrawAnswer
 use Rattle.model.specs.Answers.{isMoved, performs}
 use Rattle.model.specs.Pages.{pageOf, linkOf, primaryPage, linkedPage}
-use Rattle.model.specs.Chains.{Checked, Chain, chainOf, listFrom, pagesIn, pagesListed}
+use Rattle.model.specs.Chains.{chainOf, listFrom, pagesIn, pagesListed}
 use Rattle.model.specs.FreeList.{isAmong}
 use Rattle.model.specs.Outcome.{View}
 use Rattle.model.specs.ScratchPages.{scratchOf}
 use Rattle.model.specs.Memory.{Memory, partyAt, viewOf}
-use Rattle.model.specs.Calls.{stepCall}
-use Rattle.model.specs.Runs.{Call, beginFor, stepFor, afterCall}
+use Rattle.model.specs.Withdraw.{builtPages}
+use Rattle.model.specs.Calls.{stepCall, withdrawCall}
+use Rattle.model.specs.Runs.{Call, beginFor, stepFor, withdrawFor, afterCall}
 use Rattle.model.specs.Book.{changedAt}
 
 -- A link followed: the page it names, and the call at which it was read.
@@ -26,7 +33,8 @@ pub record Follow : Type 0 where
 abbrev pub follow : ℕ → ℕ → Follow
 follow t x = record { page = x; readAt = t }
 
--- What a step does with links: those it follows, whether it reads one into scratch or into the old link, and the pages it gives back.
+-- What a call does with links: those it follows, whether it reads one into scratch, or makes one there, or reads one
+-- into the old link, and the pages it gives back.
 pub record Trace : Type 0 where
   pub follows : List Follow
   pub intoScratch : Bool
@@ -63,6 +71,10 @@ traceNine v s a = cond (isMoved a) (trace (follow s (linkedPage (linkOf (scratch
 abbrev pub traceLooked : ℕ → List ℕ → Bool → Trace
 traceLooked t xs o = trace (readNow t xs) false o []
 
+-- 10: where it goes on to 11 the link in scratch is made too.
+abbrev pub traceTen : ℕ → List ℕ → Bool → Trace
+traceTen t xs built = trace (readNow t xs) built built []
+
 -- 14: the old list walked and given back.
 unfoldable pub traceFourteen : View → ℕ → ℕ → Trace
 traceFourteen v s t =
@@ -76,14 +88,14 @@ traceTwentyNine v s t =
     let ys = listPages v (linkOf (pageOf (v .pages) (primaryPage (v .party .other)))) in
     trace (walkedFrom s t xs ++ readNow t ys) false false (xs ++ ys)
 
--- What the step performed in call t does with links: its number, the view it met, its answer, the record's step number after it; s and o are the calls at which
--- the party's scratch link and old link were read.
+-- What the step performed in call t does with links: its number, the view it met, its answer, the record's step number
+-- after it; s and o are the calls at which the party's scratch link and old link were read.
 unfoldable pub traceOf : ℕ → ℕ → View → StepAnswer → ℕ → ℕ → ℕ → Trace
 traceOf t k v a next s o =
     let c = v .party .chain in
     cond (eqb k 6) (trace [] true false [])
     (cond (eqb k 9) (traceNine v s a)
-    (cond (eqb k 10) (traceLooked t (chainPages v c) (eqb next 11))
+    (cond (eqb k 10) (traceTen t (chainPages v c) (eqb next 11))
     (cond (eqb k 14) (traceFourteen v o t)
     (cond (eqb k 17) (traceLooked t (chainPages v c) (isMoved a))
     (cond (eqb k 26) (traceLooked t (chainPages v c ++ chainPages v (v .party .other)) (isMoved a))
@@ -91,7 +103,8 @@ traceOf t k v a next s o =
 
 -- ---- Over a run
 
--- The number of calls made; by party, the calls at which its scratch link and its old link were read; by page, the call that gave it back last, 0 for none.
+-- The number of calls made; by party, the calls at which its scratch link and its old link were read; by page, the call
+-- that gave it back last, 0 for none.
 pub record Clock : Type 0 where
   pub calls : ℕ
   pub scratchRead : ℕ → ℕ
@@ -109,9 +122,21 @@ traceOfStep k m q =
     cond (performs (c .answer))
     (traceOf (k .calls + 1) (partyAt (m .parties) q .step) (viewOf m q) (c .answer) next (k .scratchRead q) (k .oldRead q)) noTrace
 
+-- A withdraw accepted at 11: the list that scratch leads to, walked and given back. At every other step number it has
+-- no pages.
+unfoldable pub traceAnswered : Clock → Memory → ℕ → WithdrawAnswer → Trace
+traceAnswered k m q WithdrawAnswer.Withdrawn =
+    let xs = pagesListed (builtPages (viewOf m q)) in
+    trace (walkedFrom (k .scratchRead q) (k .calls + 1) xs) false false xs
+traceAnswered k m q (WithdrawAnswer.Refused n) = noTrace
+
+unfoldable pub traceOfWithdraw : Clock → Memory → ℕ → Trace
+traceOfWithdraw k m q = traceAnswered k m q (withdrawCall m q .answer)
+
 unfoldable pub traceOfCall : Clock → Memory → Call → Trace
 traceOfCall k m (beginFor q o key) = noTrace
 traceOfCall k m (stepFor q) = traceOfStep k m q
+traceOfCall k m (withdrawFor q) = traceOfWithdraw k m q
 
 -- The clock after a call of party q.
 unfoldable pub ticked : Clock → ℕ → Trace → Clock
@@ -125,6 +150,7 @@ ticked k q t = record {
 unfoldable pub clockAfter : Clock → Memory → Call → Clock
 clockAfter k m (beginFor q o key) = ticked k q noTrace
 clockAfter k m (stepFor q) = ticked k q (traceOfStep k m q)
+clockAfter k m (withdrawFor q) = ticked k q (traceOfWithdraw k m q)
 
 -- Whether no page followed was given back since its link was read.
 unfoldable pub allFresh : Clock → List Follow → Bool

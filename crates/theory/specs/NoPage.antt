@@ -8,7 +8,7 @@ use Rattle.model.specs.declared.StepAnswer.{StepAnswer}
 use Rattle.model.specs.declared.StepAnswer.the-variants as StepAnswer
 use Rattle.model.specs.declared.BeginAnswer.{BeginAnswer}
 use Rattle.model.specs.declared.BeginAnswer.the-variants as BeginAnswer
-use Rattle.model.specs.Runs.{Call, beginFor, stepFor, Reply, toBegin, toStep, Event}
+use Rattle.model.specs.Runs.{Call, beginFor, stepFor, withdrawFor, Reply, toBegin, toStep, toWithdraw, Event}
 use Rattle.model.specs.Book.{changedAt}
 use Rattle.model.specs.Answers.{performs}
 use Rattle.theory.specs.PlainMap.{isNoPage}
@@ -17,20 +17,27 @@ use Rattle.theory.specs.PlainMap.{isNoPage}
 unfoldable pub noneWrote : ℕ → Bool
 noneWrote q = false
 
+-- Whether a step of this number, answered so, is a step 11 performed.
+unfoldable pub isWriting : ℕ → StepAnswer → Bool
+isWriting number a = performs a && eqb number 11
+
 -- After a begin of party q, and after a step of it of this number.
 unfoldable pub wroteBegin : (ℕ → Bool) → ℕ → BeginAnswer → ℕ → Bool
 wroteBegin w q BeginAnswer.Begun = changedAt w q false
 wroteBegin w q (BeginAnswer.Refused n) = w
 
 unfoldable pub wroteStep : (ℕ → Bool) → ℕ → ℕ → StepAnswer → ℕ → Bool
-wroteStep w q number a = cond (performs a && eqb number 11) (changedAt w q true) w
+wroteStep w q number a = cond (isWriting number a) (changedAt w q true) w
 
 -- After an event.
 unfoldable pub wroteAfter : (ℕ → Bool) → Call → ℕ → Reply → ℕ → Bool
 wroteAfter w (beginFor q o k) number (toBegin a) = wroteBegin w q a
 wroteAfter w (beginFor q o k) number (toStep a) = w
+wroteAfter w (beginFor q o k) number (toWithdraw a) = w
 wroteAfter w (stepFor q) number (toBegin a) = w
 wroteAfter w (stepFor q) number (toStep a) = wroteStep w q number a
+wroteAfter w (stepFor q) number (toWithdraw a) = w
+wroteAfter w (withdrawFor q) number x = w
 
 -- Whether an operation ends with no page.
 unfoldable pub endsNoPage : StepAnswer → Bool
@@ -44,6 +51,8 @@ unfoldable pub noPageRight : (ℕ → Bool) → Call → ℕ → Reply → Bool
 noPageRight w (beginFor q o k) number x = true
 noPageRight w (stepFor q) number (toBegin a) = true
 noPageRight w (stepFor q) number (toStep a) = not (endsNoPage a && wroteStep w q number a q)
+noPageRight w (stepFor q) number (toWithdraw a) = true
+noPageRight w (withdrawFor q) number x = true
 
 -- Over the events of a run.
 unfoldable pub noPageKept : (ℕ → Bool) → List Event → Bool

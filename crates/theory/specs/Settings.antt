@@ -15,7 +15,7 @@ use Rattle.model.specs.Answers.{answerNumber}
 use Rattle.model.specs.Runs.{Call, events}
 use Rattle.model.specs.Steps.Write.{isChange}
 use Rattle.theory.specs.Demands.{Sizes, start}
-use Rattle.theory.specs.Linearization.{IsOneOf, Answered, Operated, operationsOf, Linearized, Linearization}
+use Rattle.theory.specs.Linearization.{IsOneOf, Ended, Operated, operationsOf, Linearized, Linearization}
 
 -- Whether an operation added or removed key k: it has this key, and answers inserted or deleted.
 unfoldable pub changesKey : ℕ → Linearized → Bool
@@ -48,5 +48,5 @@ pub record FoundInOrder (o : Operated) (x : ℕ) (order : List Linearized) : Typ
 
 -- Each operation of a run that a call answers found, with a setting, finds the one that was added last.
 pub record FoundsRight (s : Sizes) (cs : List Call) (l : Linearization s cs) : Type 0 where
-  pub found : (o : Operated) (a : Answered) (x : ℕ) → IsOneOf o (operationsOf (events (start s) cs)) → o .answered ≡ some a → a .answer ≡ OperationAnswer.Found x
+  pub found : (o : Operated) (a : Ended) (x : ℕ) → IsOneOf o (operationsOf (events (start s) cs)) → o .ended ≡ some a → a .answer ≡ some (OperationAnswer.Found x)
       → FoundInOrder o x (l .order)

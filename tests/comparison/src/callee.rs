@@ -13,12 +13,13 @@ pub enum Call {
     /// Party, operation, key and setting.
     Begin(u32, u32, u32, u32),
     Step(u32),
+    Withdraw(u32),
 }
 
 /// The steps that request a lock, and so can wait.
 pub const REQUESTING: [usize; 9] = [1, 4, 7, 13, 15, 16, 23, 24, 25];
 
-/// The five words of a step's reply; a format or begin has its number in the first and zeros.
+/// The five words of a step's reply; any other call has its number in the first and zeros.
 pub type Reply = [u32; 5];
 
 pub fn code_reply(code: u32) -> Reply {
@@ -86,6 +87,13 @@ impl Port {
                     self.cause = Some(cause);
                 }
                 step_reply(BeadReply::of(result))
+            }
+            Call::Withdraw(party) => {
+                let result = calls::withdraw::<Cause>(root, parties, locks, pages, words, party);
+                if let Err(Refusal::Damaged(cause)) = result {
+                    self.cause = Some(cause);
+                }
+                code_reply(code_of(result))
             }
         }
     }

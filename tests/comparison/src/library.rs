@@ -43,6 +43,16 @@ type Step = unsafe extern "C" fn(
     usize,
     u32,
 ) -> BeadReply;
+type Withdraw = unsafe extern "C" fn(
+    *mut Root,
+    *mut Party,
+    usize,
+    *mut u32,
+    usize,
+    *mut u32,
+    usize,
+    u32,
+) -> u32;
 
 mod linked {
     use super::{BeadReply, Party, Root};
@@ -85,14 +95,25 @@ mod linked {
             ng: usize,
             party: u32,
         ) -> BeadReply;
+        pub fn bead_withdraw(
+            root: *mut Root,
+            parties: *mut Party,
+            np: usize,
+            locks: *mut u32,
+            nl: usize,
+            pages: *mut u32,
+            ng: usize,
+            party: u32,
+        ) -> u32;
     }
 }
 
-/// The three calls of a C face.
+/// The four calls of a C face.
 pub struct Library {
     format: Format,
     begin: Begin,
     step: Step,
+    withdraw: Withdraw,
 }
 
 impl Library {
@@ -102,17 +123,19 @@ impl Library {
             format: linked::bead_format,
             begin: linked::bead_begin,
             step: linked::bead_step,
+            withdraw: linked::bead_withdraw,
         }
     }
 
     /// The port's own C face.
     #[cfg(test)]
     pub fn of_port() -> Library {
-        use bead_port::c_face::{bead_begin, bead_format, bead_step};
+        use bead_port::c_face::{bead_begin, bead_format, bead_step, bead_withdraw};
         Library {
             format: bead_format,
             begin: bead_begin,
             step: bead_step,
+            withdraw: bead_withdraw,
         }
     }
 }
@@ -135,6 +158,9 @@ impl Callee for Library {
                 Call::Step(party) => {
                     step_reply((self.step)(root, parties, np, locks, nl, pages, ng, party))
                 }
+                Call::Withdraw(party) => code_reply((self.withdraw)(
+                    root, parties, np, locks, nl, pages, ng, party,
+                )),
             }
         }
     }

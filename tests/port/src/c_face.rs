@@ -1,4 +1,4 @@
-//! The C face: the three calls over pointers and lengths. The only unsafe code of the port, which makes slices of them.
+//! The C face: the four calls over pointers and lengths. The only unsafe code of the port, which makes slices of them.
 #![allow(unsafe_code)]
 
 use crate::calls;
@@ -129,6 +129,27 @@ pub unsafe extern "C" fn bead_step(
     let locks = std::slice::from_raw_parts_mut(locks, nl);
     let pages = pages_of(std::slice::from_raw_parts_mut(pages, ng));
     BeadReply::of(calls::step::<Unnamed>(
+        &mut *root, parties, locks, pages, ng, party,
+    ))
+}
+
+/// # Safety
+/// As for `bead_format`.
+#[cfg_attr(feature = "c-names", no_mangle)]
+pub unsafe extern "C" fn bead_withdraw(
+    root: *mut Root,
+    parties: *mut Party,
+    np: usize,
+    locks: *mut u32,
+    nl: usize,
+    pages: *mut u32,
+    ng: usize,
+    party: u32,
+) -> u32 {
+    let parties = std::slice::from_raw_parts_mut(parties, np);
+    let locks = std::slice::from_raw_parts_mut(locks, nl);
+    let pages = pages_of(std::slice::from_raw_parts_mut(pages, ng));
+    code_of(calls::withdraw::<Unnamed>(
         &mut *root, parties, locks, pages, ng, party,
     ))
 }

@@ -1,8 +1,8 @@
-//! The three calls: format, begin and step, with the refusal table's tests in its order.
+//! The four calls: format, begin, step and withdraw, with the refusal table's tests in its order.
 //! Pages are lent as whole pages beside the count of lent words, so that a length that is no multiple of sixteen is refused too.
 
 use crate::damage::{Cause, Damage};
-use crate::memory::{Page, Party, Root, EMPTY_PAGE, INSERT, LINK};
+use crate::memory::{Page, Party, Root, DELETE, EMPTY_PAGE, FIND, INSERT, LINK};
 use crate::reply::{Outcome, Refusal};
 use crate::steps;
 use std::marker::PhantomData;
@@ -118,7 +118,45 @@ pub fn step<D: Damage>(
     Ok(steps::perform(&mut lent)?)
 }
 
-/// The tests that begin and step share: refusals 2, 1 and 3.
+/// "Withdraw takes back a begin": "7 when the decisive step has been taken", "tested after 5 (the party is idle) and before 6".
+pub fn withdraw<D: Damage>(
+    root: &mut Root,
+    parties: &mut [Party],
+    locks: &mut [u32],
+    pages: &mut [Page],
+    page_words: usize,
+    number: u32,
+) -> Result<(), Refusal<D>> {
+    let party = tested_party(root, parties, locks.len(), page_words, number)?;
+    if party.operation == 0 {
+        return Err(Refusal::Idle);
+    }
+    if is_decided(party) {
+        return Err(Refusal::Decided);
+    }
+    let mut lent: Lent<D> = Lent {
+        root,
+        party,
+        locks,
+        pages,
+        number,
+        damage: PhantomData,
+    };
+    lent.test_root()?;
+    lent.test_party()?;
+    Ok(steps::withdraw(&mut lent)?)
+}
+
+/// "A find at 9, a change at 12 or later", by the numbers alone.
+fn is_decided(party: &Party) -> bool {
+    match party.operation {
+        FIND => party.step == 9,
+        INSERT | DELETE => party.step >= 12,
+        _ => false,
+    }
+}
+
+/// The tests that begin, step and withdraw share: refusals 2, 1 and 3.
 #[inline(always)]
 fn tested_party<'a, D>(
     root: &Root,

@@ -1,4 +1,4 @@
-//! A plain port of the index: the lent memory, the three calls and the thirty steps, with the C face of the compiled library.
+//! A plain port of the index: the lent memory, the four calls and the thirty steps, with the C face of the compiled library.
 #![deny(unsafe_code)]
 
 pub mod c_face;

@@ -8,6 +8,7 @@ pub enum Refusal<D> {
     PartyNumber,
     NotIdle,
     Idle,
+    Decided,
     Damaged(D),
 }
 
@@ -20,6 +21,7 @@ impl<D> Refusal<D> {
             Refusal::PartyNumber => 3,
             Refusal::NotIdle => 4,
             Refusal::Idle => 5,
+            Refusal::Decided => 7,
             Refusal::Damaged(_) => 6,
         }
     }

@@ -1,10 +1,11 @@
-// The strip under the slider: where the script waits, ends operations, is refused or cannot be read.
+// The strip under the slider: where the script waits, ends or withdraws operations, is refused or cannot be read.
 
 // The kinds of lines that the strip shows, the more notable later, with their colours in the style.
 const stripKinds = {
   begun: "--begun",
   formatted: "--formatted",
   done: "--done",
+  withdrawn: "--withdrawn",
   waiting: "--waiting",
   refused: "--refused",
   unread: "--unread",

@@ -9,6 +9,7 @@ pub enum Form {
     Format(Sizes),
     Begin(u32, Operation),
     Step(u32),
+    Withdraw(u32),
 }
 
 /// Reads one line without its newline. Single spaces, nothing before or after.
@@ -21,6 +22,7 @@ pub fn read(line: &[u8]) -> Option<Form> {
             Some(Form::Begin(number(party)?, operation(nested)?))
         }
         "step" => number(rest).map(Form::Step),
+        "withdraw" => number(rest).map(Form::Withdraw),
         _ => None,
     }
 }
@@ -74,6 +76,7 @@ pub enum Reply {
     Format(Result<(), Refusal>),
     Begin(u32, Result<(), Refusal>),
     Step(u32, Result<Outcome, Refusal>),
+    Withdraw(u32, Result<(), Refusal>),
 }
 
 impl Reply {
@@ -81,7 +84,9 @@ impl Reply {
     pub fn refusal(&self) -> Option<Refusal> {
         match *self {
             Reply::Unread => None,
-            Reply::Format(result) | Reply::Begin(_, result) => result.err(),
+            Reply::Format(result) | Reply::Begin(_, result) | Reply::Withdraw(_, result) => {
+                result.err()
+            }
             Reply::Step(_, result) => result.err(),
         }
     }
@@ -93,6 +98,7 @@ impl Reply {
             _ if self.refusal().is_some() => "refused",
             Reply::Format(_) => "formatted",
             Reply::Begin(..) => "begun",
+            Reply::Withdraw(..) => "withdrawn",
             Reply::Step(_, Ok(Outcome::Waiting)) => "waiting",
             Reply::Step(_, Ok(Outcome::Done { .. })) => "done",
             Reply::Step(..) => "moved",
@@ -108,6 +114,7 @@ impl fmt::Display for Reply {
             Reply::Unread => out.write_str("(unread)"),
             Reply::Format(result) => write!(out, "(format {})", ok(result)),
             Reply::Begin(party, result) => write!(out, "(begin {party} {})", ok(result)),
+            Reply::Withdraw(party, result) => write!(out, "(withdraw {party} {})", ok(result)),
             Reply::Step(party, result) => {
                 write!(
                     out,
@@ -159,6 +166,7 @@ mod tests {
             Some(Form::Begin(0, Operation::insert(7, 5)))
         );
         assert_eq!(read(b"(step 007)"), Some(Form::Step(7)));
+        assert_eq!(read(b"(withdraw 3)"), Some(Form::Withdraw(3)));
     }
 
     #[test]
@@ -185,6 +193,9 @@ mod tests {
             "(begin 0 (insert 7  5))",
             "(begin 0 (find 7 5))",
             "(begin 0 (delete 7 5))",
+            "(withdraw)",
+            "(withdraw 0 7)",
+            "(withdraw (0))",
         ] {
             assert_eq!(read(line.as_bytes()), None, "{line}");
         }

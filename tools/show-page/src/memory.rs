@@ -60,6 +60,9 @@ impl Memory {
             Form::Step(party) => {
                 Reply::Step(party, self.file().and_then(|mut file| file.step(party)))
             }
+            Form::Withdraw(party) => {
+                Reply::Withdraw(party, self.file().and_then(|mut file| file.withdraw(party)))
+            }
         }
     }
 

@@ -38,6 +38,33 @@ struct Run {
     words: StepWords,
 }
 
+/// A party before a call: its record, the locks that it holds, and the new pages behind its scratch page.
+#[derive(Default)]
+struct Party {
+    record: PartyRecord,
+    held: Vec<String>,
+    built: Vec<String>,
+}
+
+impl Party {
+    /// What its withdraw means: the locks given up, and the pages in the order in which they go back.
+    fn withdrawn(&self, party: u32) -> String {
+        let operation = view::operation(&self.record);
+        let locks = match self.held[..] {
+            [] => "It held no lock".to_string(),
+            _ => format!("It gives up {}", self.held.join(" and ")),
+        };
+        let pages: Vec<&str> = self.built.iter().rev().map(String::as_str).collect();
+        let pages = match pages[..] {
+            [] => String::new(),
+            [page] => format!(", and page {page} goes back"),
+            _ => format!(", and pages {} go back", pages.join(", ")),
+        };
+        let step = self.record.step;
+        format!("Party {party} ({operation}) is withdrawn before step {step}. {locks}{pages}.")
+    }
+}
+
 impl Run {
     fn new() -> Self {
         Run {
@@ -53,7 +80,7 @@ impl Run {
 
     fn turn(&mut self, line: &[u8]) -> Turn {
         let form = forms::read(line);
-        let before = form.and_then(|form| self.record(form));
+        let before = form.and_then(|form| self.party_of(form));
         let reply = form.map_or(Reply::Unread, |form| self.memory.call(form));
         Turn {
             form: script::shown(line),
@@ -64,18 +91,23 @@ impl Run {
         }
     }
 
-    /// The record of the party that a form names.
-    fn record(&self, form: Form) -> Option<PartyRecord> {
+    /// The party that a form names, as it stands.
+    fn party_of(&self, form: Form) -> Option<Party> {
         match form {
             Form::Format(_) => None,
-            Form::Begin(party, _) | Form::Step(party) => {
-                self.memory.parties.get(party as usize).copied()
-            }
+            Form::Begin(party, _) | Form::Step(party) | Form::Withdraw(party) => Some(Party {
+                record: *self.memory.parties.get(party as usize)?,
+                held: view::held_by(&self.memory, party),
+                built: view::new_pages(&self.memory, party)
+                    .iter()
+                    .map(|page| page.number.to_string())
+                    .collect(),
+            }),
         }
     }
 
-    /// What a reply means, in words; the record is the party's before the call.
-    fn meaning(&mut self, form: Option<Form>, reply: Reply, record: &PartyRecord) -> String {
+    /// What a reply means, in words; the party is as before the call.
+    fn meaning(&mut self, form: Option<Form>, reply: Reply, before: &Party) -> String {
         if let Some(refusal) = reply.refusal() {
             return format!("Refused: {refusal}. Nothing is altered.");
         }
@@ -89,9 +121,10 @@ impl Run {
                 format!("Party {party} begins: {operation}.")
             }
             (Some(Form::Step(party)), Reply::Step(_, Ok(outcome))) => {
-                self.step_meaning(party, outcome, record)
+                self.step_meaning(party, outcome, &before.record)
             }
             (Some(Form::Step(_)), _) => String::new(),
+            (Some(Form::Withdraw(party)), _) => before.withdrawn(party),
         }
     }
 
@@ -108,5 +141,51 @@ impl Run {
             Outcome::Moved => format!("{who} performed step {step}: {words}."),
             done => format!("{who} performed step {step}: {words}. It is {done}."),
         }
+    }
+}
+
+#[cfg(test)]
+mod tests {
+    use super::*;
+
+    /// What a script's last line means.
+    fn meaning(lines: &[&str]) -> String {
+        let mut run = Run::new();
+        let turns = lines.iter().map(|line| run.turn(line.as_bytes()));
+        turns.last().map_or(String::new(), |turn| turn.meaning)
+    }
+
+    /// An insert of a third key, begun and stepped so often, then withdrawn.
+    fn withdrawn_after(steps: usize) -> String {
+        let mut lines = vec!["(format 1 1 1 4 1)"];
+        for begin in ["(begin 0 (insert 1 5))", "(begin 0 (insert 2 5))"] {
+            lines.push(begin);
+            lines.extend(["(step 0)"; 12]);
+        }
+        lines.push("(begin 0 (insert 3 5))");
+        lines.extend(vec!["(step 0)"; steps]);
+        lines.push("(withdraw 0)");
+        meaning(&lines)
+    }
+
+    #[test]
+    fn a_withdraw_says_what_is_given_up() {
+        for (steps, said) in [
+            (0, "step 1. It held no lock."),
+            (1, "step 2. It gives up root read."),
+            (4, "step 5. It gives up root read and chain 0 selective."),
+            (6, "step 10. It gives up chain 0 selective."),
+            (
+                7,
+                "step 11. It gives up chain 0 selective, and pages 3, 2 go back.",
+            ),
+        ] {
+            let said = format!("Party 0 (insert 3=5) is withdrawn before {said}");
+            assert_eq!(withdrawn_after(steps), said);
+        }
+        assert_eq!(
+            withdrawn_after(8),
+            "Refused: the party's operation has taken its decisive step (refusal 7). Nothing is altered."
+        );
     }
 }

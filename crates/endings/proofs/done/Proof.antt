@@ -1,19 +1,11 @@
 -- `endings::done` meets its contract.
-use mathlib.Core.Path.{refl, _∙_}
-use Rattle.model.specs.Pages.{zeroPage, filledPage, wordsOf}
-use Rattle.records.proofs.Words.{party-is, all-zero}
+use mathlib.Core.Path.{refl}
 use borrow.Author.Needs.{needs}
 use Rattle.endings.proofs.done.Statement.{statement}
 use Rattle.endings.proofs.done.Tie as tie
 
-scratch-page-requires : tie.Need-scratch-page-requires
-scratch-page-requires c κs = search needs
-
-store-requires : tie.Need-store-requires
-store-requires c κs = search needs
-
-zero-requires : tie.Need-zero-requires
-zero-requires c κs = search needs
+clear-requires : tie.Need-clear-requires
+clear-requires c κs = search needs
 
 same-length : tie.Need-same-length
 same-length c = search needs
@@ -22,14 +14,7 @@ same-length-2 : tie.Need-same-length-2
 same-length-2 c = search needs
 
 returns : tie.Need-returns
-unfolding zeroPage filledPage wordsOf
-returns c = λ p ls.
-    let stored = c .before .before .before .before .before .before in
-    let start = stored .before .before .before .before .before in
-    let zeroed = c .before .before .zero .ensures in
-    rw (zeroed, all-zero _ (start .pre .0), stored .store .ensures, stored .before .scratch-page .ensures) refl
+returns c = λ p ls. let cleared = c .before .before .before .before .clear .ensures in rw (cleared .0, cleared .1) refl
 
 pub done-spec : {M : Type 1} → statement M
-done-spec =
-    tie.close
-    (tie.spec scratch-page-requires store-requires zero-requires same-length same-length-2 returns)
+done-spec = tie.close (tie.spec clear-requires same-length same-length-2 returns)

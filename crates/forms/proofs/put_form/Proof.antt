@@ -35,6 +35,16 @@ fill-requires-2 : tie.Need-fill-requires-2
 unfolding longest
 fill-requires-2 c κs = room _ _ _ _ _ tt (c .before .before .before .before .before .before .pre)
 
+enum-known-form-4 : tie.Need-enum-known-form-4
+enum-known-form-4 c = search needs
+
+slice-aggregate-fill-3 : tie.Need-slice-aggregate-fill-3
+slice-aggregate-fill-3 c = search needs
+
+fill-requires-3 : tie.Need-fill-requires-3
+unfolding longest
+fill-requires-3 c κs = room _ _ _ _ _ tt (c .before .before .before .before .before .before .pre)
+
 same-length : tie.Need-same-length
 same-length c = search needs
 
@@ -55,6 +65,13 @@ returns-3 : tie.Need-returns-3
 unfolding formText formPattern formNumbers sizeNumbers filled symbolText numbersAfter
 returns-3 c = put-as _ _ _ _ (sym (ap (λ (x : Form). formText x) (c .before .before .before .before .before .before .form3 .given .1))) (c .before .before .fill2 .ensures)
 
+same-length-4 : tie.Need-same-length-4
+same-length-4 c = search needs
+
+returns-4 : tie.Need-returns-4
+unfolding formText formPattern formNumbers sizeNumbers filled symbolText numbersAfter
+returns-4 c = put-as _ _ _ _ (sym (ap (λ (x : Form). formText x) (c .before .before .before .before .before .before .form4 .given .1))) (c .before .before .fill3 .ensures)
+
 pub put-form-spec : {M : Type 1} → statement M
 put-form-spec =
     tie.close
@@ -67,9 +84,14 @@ put-form-spec =
     enum-known-form-3
     slice-aggregate-fill-2
     fill-requires-2
+    enum-known-form-4
+    slice-aggregate-fill-3
+    fill-requires-3
     same-length
     returns
     same-length-2
     returns-2
     same-length-3
-    returns-3)
+    returns-3
+    same-length-4
+    returns-4)

@@ -37,6 +37,12 @@ enum-known-reply-3 c = search needs
 put-step-reply-requires : tie.Need-put-step-reply-requires
 put-step-reply-requires c κs = search needs
 
+enum-known-reply-4 : tie.Need-enum-known-reply-4
+enum-known-reply-4 c = search needs
+
+put-withdraw-reply-requires : tie.Need-put-withdraw-reply-requires
+put-withdraw-reply-requires c κs = search needs
+
 same-length : tie.Need-same-length
 same-length c = search needs
 
@@ -62,6 +68,12 @@ same-length-4 c = search needs
 returns-4 : tie.Need-returns-4
 returns-4 c = put-as _ _ _ _ (sym (ap (λ (x : Reply). replyText x) (c .before .before .before .before .before .reply3 .given .1))) (c .before .before .put-step-reply .ensures)
 
+same-length-5 : tie.Need-same-length-5
+same-length-5 c = search needs
+
+returns-5 : tie.Need-returns-5
+returns-5 c = put-as _ _ _ _ (sym (ap (λ (x : Reply). replyText x) (c .before .before .before .before .before .reply4 .given .1))) (c .before .before .put-withdraw-reply .ensures)
+
 pub put-reply-spec : {M : Type 1} → statement M
 put-reply-spec =
     tie.close
@@ -75,6 +87,8 @@ put-reply-spec =
     put-begin-reply-requires
     enum-known-reply-3
     put-step-reply-requires
+    enum-known-reply-4
+    put-withdraw-reply-requires
     same-length
     returns
     same-length-2
@@ -82,4 +96,6 @@ put-reply-spec =
     same-length-3
     returns-3
     same-length-4
-    returns-4)
+    returns-4
+    same-length-5
+    returns-5)

@@ -57,12 +57,12 @@ returns-3 : tie.Need-returns-3
 unfolding readBegin wholly
 returns-3 c = row-left _ _ _ _ (c .before .before .before .before .before .before .before .before .match-rest .ensures) (c .before .before .before .before .before .before .before .if1 .left) (row-left _ _ _ _ (c .before .before .before .before .before .match-rest2 .ensures) (c .before .before .before .before .if2 .left) (row-taken _ _ _ _ (c .before .before .match-rest3 .ensures) (c .before .if3 .taken) refl))
 
-read-format-requires : tie.Need-read-format-requires
-read-format-requires c κs = search needs
+read-withdraw-requires : tie.Need-read-withdraw-requires
+read-withdraw-requires c κs = search needs
 
 returns-4 : tie.Need-returns-4
 unfolding readBegin wholly
-returns-4 c = row-left _ _ _ _ (c .before .before .before .before .before .before .before .before .match-rest .ensures) (c .before .before .before .before .before .before .before .if1 .left) (row-left _ _ _ _ (c .before .before .before .before .before .match-rest2 .ensures) (c .before .before .before .before .if2 .left) (row-left _ _ _ _ (c .before .before .match-rest3 .ensures) (c .before .if3 .left) (c .read-format .ensures)))
+returns-4 c = row-left _ _ _ _ (c .before .before .before .before .before .before .before .before .match-rest .ensures) (c .before .before .before .before .before .before .before .if1 .left) (row-left _ _ _ _ (c .before .before .before .before .before .match-rest2 .ensures) (c .before .before .before .before .if2 .left) (row-left _ _ _ _ (c .before .before .match-rest3 .ensures) (c .before .if3 .left) (c .read-withdraw .ensures)))
 
 pub read-begin-spec : {M : Type 1} → statement M
 read-begin-spec =
@@ -84,5 +84,5 @@ read-begin-spec =
     array-read-t39
     array-read-t43
     returns-3
-    read-format-requires
+    read-withdraw-requires
     returns-4)

@@ -9,7 +9,7 @@ use Rattle.model.specs.Pages.{withPage}
 use Rattle.model.specs.Chains.{listFrom}
 use Rattle.model.specs.FreeList.{givenBack}
 use Rattle.free_list.specs.Giving.{listed}
-use Rattle.free_list.proofs.Giving.{ToGive, all-to-give, next-within, one-given, all-given, listed-length, returned-all}
+use Rattle.free_list.proofs.Giving.{ToGive, all-to-give, first-within, one-given, all-given, listed-length, returned-all}
 use borrow.Author.Needs.{needs}
 use Rattle.free_list.proofs.give_back.Statement.{statement}
 use Rattle.free_list.proofs.give_back.Tie as tie
@@ -30,14 +30,14 @@ sub-t12 : tie.Need-sub-t12 Inv-loop μ-loop
 sub-t12 c =
     let a = c .before .before .before .args in
     let l = c .before .loop in
-    let w = next-within (a .root) _ (l .pages) (l .head) (l .left) (c .loop-test .taken) (l .l) (l .inv .1) in
+    let w = first-within (a .root) (l .pages) (l .l) _ (l .inv .1 .list) (omega (arith, l .inv .1 .count, c .loop-test .taken)) in
     omega arith
 
 load-requires : tie.Need-load-requires Inv-loop μ-loop
 load-requires c κs =
     let a = c .before .before .before .before .args in
     let l = c .before .before .loop in
-    let w = next-within (a .root) _ (l .pages) (l .head) (l .left) (c .before .loop-test .taken) (l .l) (l .inv .1) in
+    let w = first-within (a .root) (l .pages) (l .l) _ (l .inv .1 .list) (omega (arith, l .inv .1 .count, c .before .loop-test .taken)) in
     omega arith
 
 free-page-requires : tie.Need-free-page-requires Inv-loop μ-loop
@@ -47,7 +47,7 @@ store-requires : tie.Need-store-requires Inv-loop μ-loop
 store-requires c κs =
     let a = c .before .before .before .before .before .before .before .args in
     let l = c .before .before .before .before .before .loop in
-    let w = next-within (a .root) _ (l .pages) (l .head) (l .left) (c .before .before .before .before .loop-test .taken) (l .l) (l .inv .1) in
+    let w = first-within (a .root) (l .pages) (l .l) _ (l .inv .1 .list) (omega (arith, l .inv .1 .count, c .before .before .before .before .loop-test .taken)) in
     omega arith
 
 link-of-requires : tie.Need-link-of-requires Inv-loop μ-loop
@@ -67,7 +67,7 @@ loop-again c =
     let stored = c .before .before .before .store in
     let fits : pageWords * (a .root .primaries + a .root .overflow) ≤ length (l .pages) = omega arith in (
       stored .kept .0 ∙ l .inv .0,
-      one-given (a .root) _ (l .pages) (l .head) (l .left) more (l .l) fits (l .inv .1)
+      one-given (a .root) _ (l .pages) (l .head) (l .l) (l .left) more fits (l .inv .1)
           (stored .ensures ∙ ap (λ (w : List ℕ). withPage (l .pages) (l .l - 1) w) (c .before .before .before .before .before .free-page .ensures))
           (search needs)
           (cc)

@@ -25,6 +25,12 @@ enum-known-form-3 c = search needs
 step-requires : tie.Need-step-requires
 step-requires c κs = search needs
 
+enum-known-form-4 : tie.Need-enum-known-form-4
+enum-known-form-4 c = search needs
+
+withdraw-requires : tie.Need-withdraw-requires
+withdraw-requires c κs = search needs
+
 same-length : tie.Need-same-length
 same-length c = search needs
 
@@ -58,6 +64,17 @@ returns-3 c =
     let a = c .before .before .before .before .before .before .before .before .before .before .before .before .args in
     c .before .before .before .before .step .ensures ∙ ap (λ (f : Form). performed f (memoryOf (a .held) (a .locks .now) (a .pages .now))) (sym (c .before .before .before .before .before .before .before .before .form3 .given .1))
 
+same-length-7 : tie.Need-same-length-7
+same-length-7 c = search needs
+
+same-length-8 : tie.Need-same-length-8
+same-length-8 c = search needs
+
+returns-4 : tie.Need-returns-4
+returns-4 c =
+    let a = c .before .before .before .before .before .before .before .before .before .before .before .before .args in
+    c .before .before .before .before .withdraw .ensures ∙ ap (λ (f : Form). performed f (memoryOf (a .held) (a .locks .now) (a .pages .now))) (sym (c .before .before .before .before .before .before .before .before .form4 .given .1))
+
 pub perform-spec : {M : Type 1} → statement M
 perform-spec =
     tie.close
@@ -68,6 +85,8 @@ perform-spec =
     begin-requires
     enum-known-form-3
     step-requires
+    enum-known-form-4
+    withdraw-requires
     same-length
     same-length-2
     returns
@@ -76,4 +95,7 @@ perform-spec =
     returns-2
     same-length-5
     same-length-6
-    returns-3)
+    returns-3
+    same-length-7
+    same-length-8
+    returns-4)

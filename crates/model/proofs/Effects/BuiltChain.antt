@@ -1,7 +1,8 @@
 -- A live chain looked through whole, and one chain built beside the file in pages taken from the free list, its
 -- primary page in scratch (steps 10 and 26).
--- Main statements: chain-found; taken-one (the free list gives the pages); building-then, kept-by, none-new (what the
--- party then has), Onward and built-parts (the parts of the invariant after such a step).
+-- Main statements: chain-found; taken-one (the free list gives the pages); memory-long, built-off (the page memory
+-- then); building-then, kept-by, none-new (what the party then has), Onward and built-parts (the parts of the invariant
+-- after such a step).
 use mathlib.Core.Path.{_≡_, refl, sym, ap, _∙_, subst}
 use mathlib.Core.Logic.{_≢_}
 use mathlib.Core.Bool.{true, false, false≢true}
@@ -133,14 +134,14 @@ module _ {m : Memory} {b : Book} {q k : ℕ} (t : Turn m b q k) (level : ℕ) (e
   scratch-has : Has filled (scratchPage r q)
   scratch-has = record { fits = omega (arith, filled-long, t .inv .pages-many) }
 
-  memory-long : length builtMemory ≡ length (m .pages)
+  pub memory-long : length builtMemory ≡ length (m .pages)
   memory-long = length-withPage filled (scratchPage r q) primary scratch-has primary-long ∙ filled-long
 
   scratch-off : (x : ℕ) → x ≢ scratchPage r q → pageOf builtMemory x ≡ pageOf filled x
   scratch-off x n = page-other filled (scratchPage r q) primary scratch-has primary-long x n
 
-  off : (x : ℕ) → x ≢ scratchPage r q → isAmong x xs ≡ false → pageOf builtMemory x ≡ pageOf (m .pages) x
-  off x n h = scratch-off x n ∙ overflowWritten-other (r .capacity) (t .inv .limits .keys-fit) (m .pages) xs es xs-has x (absent-outside x xs h)
+  pub built-off : (x : ℕ) → x ≢ scratchPage r q → isAmong x xs ≡ false → pageOf builtMemory x ≡ pageOf (m .pages) x
+  built-off x n h = scratch-off x n ∙ overflowWritten-other (r .capacity) (t .inv .limits .keys-fit) (m .pages) xs es xs-has x (absent-outside x xs h)
 
   -- A page taken is an overflow page.
   bounds : (x : ℕ) → isAmong x xs ≡ true → (r .primaries ≤ x) × (x < r .primaries + r .overflow)
@@ -183,7 +184,7 @@ module _ {m : Memory} {b : Book} {q k : ℕ} (t : Turn m b q k) (level : ℕ) (e
 
     module _ (on : Onward) where
       dead-then : (d : ℕ) → size (r .originals) (t .inv .ghost .live) ≤ d → d < r .primaries → ((j : ℕ) → uses (partyAt (set (m .parties) q p) j) d ≡ false) → pageOf builtMemory (primaryPage d) ≡ zeroPage
-      dead-then d far fits u = off d (omega arith) (primary-off d fits) ∙ t .inv .pages-ok .dead d far fits (λ j. unused j (cmp j q))
+      dead-then d far fits u = built-off d (omega arith) (primary-off d fits) ∙ t .inv .pages-ok .dead d far fits (λ j. unused j (cmp j q))
         where
           unused : (j : ℕ) → Cmp j q → uses (partyAt (m .parties) j) d ≡ false
           unused j (same e) = rw e (uses-none t (on .uses-no-page) d)
@@ -197,7 +198,7 @@ module _ {m : Memory} {b : Book} {q k : ℕ} (t : Turn m b q k) (level : ℕ) (e
           taking-parts t need 0 want builtMemory p c []
           (record {
             long = memory-long;
-            off = λ x n _ h _. off x n h;
+            off = λ x n _ h _. built-off x n h;
             touch-extra = λ x h. absurd (false≢true h);
             extra-primary = λ x h. absurd (false≢true h);
             entries= = on .entries=;

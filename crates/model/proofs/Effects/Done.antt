@@ -21,7 +21,8 @@ use Rattle.model.specs.Memory.{Memory, viewOf}
 use Rattle.model.specs.Book.{Book, changedAt, withEntry, noteFor, agreesWith, afterReply, isNote, isNoteOf}
 use Rattle.model.proofs.Laws.Lists.{All, all-map, eqb-same, eqb-diff, or-neither}
 use Rattle.model.proofs.Laws.Pages.{length-zeroPage}
-use Rattle.model.proofs.Invariant.Claims.{claims, isClaimed, claimed}
+use Rattle.model.specs.Claims.{claims}
+use Rattle.model.proofs.Invariant.Claims.{isClaimed, claimed}
 use Rattle.model.proofs.Invariant.Statement.{ExtentsOk, NoPages, resting, Inv}
 use Rattle.model.proofs.Invariant.Frame.{named, later}
 use Rattle.model.proofs.Invariant.Facts.{no-pages-held}

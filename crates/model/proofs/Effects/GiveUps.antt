@@ -1,5 +1,5 @@
 -- Several locks given up in one step: each is found held, and the words then say that the party holds none of them.
--- Main statements: Apart (locks of different words), held-all, given-up-locks, given-up-rest (nothing but lock words changes), release-all (a party that gives up all it holds).
+-- Main statements: Apart (locks of different words), held-all, given-up-locks, given-up-rest (nothing but lock words changes), given-up-alike, release-all (a party that gives up all it holds).
 use mathlib.Core.Path.{_≡_, refl, _∙_}
 use mathlib.Core.Logic.{_≢_}
 use mathlib.Core.Bool.{Bool, true, false, cond, not, _&&_, _||_, and-true, and-false, and-not-self, or-false}
@@ -15,7 +15,8 @@ use Rattle.model.specs.LockRequests.{isHeld, heldAll, withoutHold, given
 use Rattle.model.specs.Memory.{Memory, viewOf}
 use Rattle.model.specs.Holds.{sameMode}
 use Rattle.model.proofs.Laws.Lists.{Cmp, same, diff, cmp, All, all-zip, eqb-same, eqb-diff}
-use Rattle.model.proofs.Invariant.Claims.{claims, isClaimed, claimed, LocksOk}
+use Rattle.model.specs.Claims.{claims}
+use Rattle.model.proofs.Invariant.Claims.{isClaimed, claimed, LocksOk}
 use Rattle.model.proofs.Invariant.LockMoves.{held-true, locks-released, locks-same, locks-move}
 use Rattle.model.proofs.Effects.Requests.{claim-more}
 use Rattle.model.specs.Book.{Book}
@@ -32,6 +33,12 @@ pub given-up-rest : (cs : List Claim) (v : View) → givenUp cs v ≡ withLocks 
 unfolding givenUp withoutHold
 given-up-rest [] v = refl
 given-up-rest (c ∷ cs) v = given-up-rest cs (withoutHold c v)
+
+-- What becomes of them goes by the lock words and the party's number alone.
+pub given-up-alike : (cs : List Claim) (v w : View) → w .locks ≡ v .locks → w .number ≡ v .number → givenUp cs w .locks ≡ givenUp cs v .locks
+unfolding givenUp withoutHold
+given-up-alike [] v w e n = e
+given-up-alike (c ∷ cs) v w e n = given-up-alike cs (withoutHold c v) (withoutHold c w) (rw (e, n) refl) n
 
 -- A party that holds all of them is found to.
 pub held-all : {n : ℕ} {h : ℕ → ℕ → Mode → Bool} (v : View) → LocksOk n (v .locks) h → (cs : List Claim) → All (λ c. c .word < n) cs

@@ -1,8 +1,9 @@
--- Pages given back to the free list (steps 14 and 29): those that the party's old link leads to and, after a merge,
--- those of the partner.
--- Main statements: no-reader (of a chain held exclusively); given-room (the free count stays within V), given-long,
--- given-sizes; old-given, partner-given, given-kept, no-pages-given (who has what then); GivesBack (what else such a
--- step leaves), giving-parts (the parts of the invariant after it).
+-- Pages given back to the free list: those that the party's old link leads to and, after a merge, those of the partner
+-- (steps 14 and 29); those that it has built (withdraw).
+-- Main statements: no-reader (of a chain held exclusively); Kinds (the two kinds of pages that are given back), oldKinds,
+-- builtKinds; given-room (the free count stays within V), given-long, given-sizes; one-given, two-given, given-kept,
+-- no-pages-given, no-pages-withdrawn (who has what then); GivesBack (what else such a call leaves), giving-parts (the
+-- parts of the invariant after it).
 use mathlib.Core.Path.{_≡_, refl, sym, ap, _∙_, subst}
 use mathlib.Core.Logic.{_≢_, _⊎_, inl, inr}
 use mathlib.Core.Bool.{true, false}
@@ -30,9 +31,10 @@ use Rattle.model.proofs.Laws.Reading.{has-overflow, held-overflow, held
 use Rattle.model.proofs.Laws.FreeList.{given-head, given-free, given-other, length-given}
 use Rattle.model.proofs.Invariant.Ghost.{Owner, owner, Named, nobody, free, inChain, oldOf, partnerOf, builtBy, newBy, sameOwner, count, size, Ghost, Owned, ownAfter, heldAfter}
 use Rattle.model.proofs.Invariant.Owners.{kinds-apart, indices-apart, own-of-member, member-of-own, overflow-bounds, held-after-same, held-after-other, own-after-moved, own-after-other, handed, handed-all-onto, same-from}
-use Rattle.model.proofs.Invariant.Claims.{claims, isClaimed, claimed, LocksOk}
+use Rattle.model.specs.Claims.{claims}
+use Rattle.model.proofs.Invariant.Claims.{isClaimed, claimed, LocksOk}
 use Rattle.model.proofs.Invariant.LockMoves.{exclusive-alone}
-use Rattle.model.proofs.Invariant.Statement.{ExtentsOk, uses, Scene, NothingBuilt, NoPages, PartyOk, Inv}
+use Rattle.model.proofs.Invariant.Statement.{ExtentsOk, uses, Scene, NothingBuilt, NothingOld, NoPages, PartyOk, Inv}
 use Rattle.model.proofs.Invariant.Frame.{SameSizes, claims-at, named}
 use Rattle.model.proofs.Invariant.Turn.{Turn, before}
 use Rattle.model.proofs.Effects.Kept.{Parts}
@@ -50,25 +52,40 @@ no-reader m b i q fits alone j n e same-chain =
         subst (λ (d : ℕ). claimed (m .root) (m .parties) (chainWord d) j (modeOf (partyAt (m .parties) j)) ≡ true) same-chain
         (rw (claims-at (m .root) (partyAt (m .parties) j) 9 e) (named [] (chainWord (partyAt (m .parties) j .chain)) (modeOf (partyAt (m .parties) j))))
 
--- The pages zs are given back: all that the party has to give back.
-module _ {m : Memory} {b : Book} {q k : ℕ} (t : Turn m b q k) (zs : List ℕ)
-    (mine : (x : ℕ) → count x zs ≡ count x (t .inv .ghost .held (oldOf q)) + count x (t .inv .ghost .held (partnerOf q))) where
-  abbrev olds : List ℕ
-  olds = t .inv .ghost .held (oldOf q)
+-- Two kinds of pages that a party has in hand, by the kinds of their owners.
+pub record Kinds (one two : ℕ) : Type 0 where
+  pub one-low : 3 ≤ one
+  pub one-high : one ≤ 6
+  pub two-low : 3 ≤ two
+  pub two-high : two ≤ 6
+  pub apart : one ≢ two
 
-  abbrev partners : List ℕ
-  partners = t .inv .ghost .held (partnerOf q)
+-- Old pages and the partner's; built pages and those of a split's new chain.
+pub oldKinds : Kinds 3 4
+oldKinds = record { one-low = omega arith; one-high = omega arith; two-low = omega arith; two-high = omega arith; apart = λ e. omega arith }
+
+pub builtKinds : Kinds 5 6
+builtKinds = record { one-low = omega arith; one-high = omega arith; two-low = omega arith; two-high = omega arith; apart = λ e. omega arith }
+
+-- The pages zs are given back: all that the party has of the two kinds.
+module _ {m : Memory} {b : Book} {q k : ℕ} (t : Turn m b q k) {one two : ℕ} (w : Kinds one two) (zs : List ℕ)
+    (mine : (x : ℕ) → count x zs ≡ count x (t .inv .ghost .held (owner one q)) + count x (t .inv .ghost .held (owner two q))) where
+  abbrev ones : List ℕ
+  ones = t .inv .ghost .held (owner one q)
+
+  abbrev twos : List ℕ
+  twos = t .inv .ghost .held (owner two q)
 
   abbrev frees : List ℕ
   frees = t .inv .ghost .held free
 
   abbrev held₁ : Owner → List ℕ
-  held₁ = heldAfter (heldAfter (t .inv .ghost .held) (oldOf q) []) free (reverse olds ++ frees)
+  held₁ = heldAfter (heldAfter (t .inv .ghost .held) (owner one q) []) free (reverse ones ++ frees)
 
   abbrev pub givenGhost : Ghost
   givenGhost = record {
-    own = ownAfter (ownAfter (t .inv .ghost .own) olds free) partners free;
-    held = heldAfter (heldAfter held₁ (partnerOf q) []) free (reverse zs ++ frees);
+    own = ownAfter (ownAfter (t .inv .ghost .own) ones free) twos free;
+    held = heldAfter (heldAfter held₁ (owner two q) []) free (reverse zs ++ frees);
     records = t .inv .ghost .records;
     live = t .inv .ghost .live;
     low = t .inv .ghost .low;
@@ -80,27 +97,46 @@ module _ {m : Memory} {b : Book} {q k : ℕ} (t : Turn m b q k) (zs : List ℕ)
   abbrev pub givenPages : List ℕ
   givenPages = givenBack (m .pages) (m .root .head) zs .pages
 
+  -- The two kinds, the free list and nobody are told apart.
+  one-not-free : sameOwner (owner one q) free ≡ false
+  one-not-free = kinds-apart (owner one q) free (eqb-diff one 1 (omega (arith, w .one-low)))
+
+  two-not-free : sameOwner (owner two q) free ≡ false
+  two-not-free = kinds-apart (owner two q) free (eqb-diff two 1 (omega (arith, w .two-low)))
+
+  one-some : sameOwner (owner one q) nobody ≡ false
+  one-some = kinds-apart (owner one q) nobody (eqb-diff one 0 (omega (arith, w .one-low)))
+
+  two-some : sameOwner (owner two q) nobody ≡ false
+  two-some = kinds-apart (owner two q) nobody (eqb-diff two 0 (omega (arith, w .two-low)))
+
+  one-not-two : sameOwner (owner one q) (owner two q) ≡ false
+  one-not-two = kinds-apart (owner one q) (owner two q) (eqb-diff one two (w .apart))
+
+  two-not-one : sameOwner (owner two q) (owner one q) ≡ false
+  two-not-one = kinds-apart (owner two q) (owner one q) (eqb-diff two one (λ e. w .apart (sym e)))
+
   pub given-sizes : SameSizes (m .root) givenRoot
   given-sizes = record { limits = record { originals= = refl; capacity= = refl; primaries= = refl; overflow= = refl; parties= = refl }; level= = refl; next= = refl }
 
   -- ---- The pages given back are overflow pages, each once, and none is free yet
 
-  either : (x : ℕ) → isAmong x zs ≡ true → (isAmong x olds ≡ true) ⊎ (isAmong x partners ≡ true)
-  either x h = go (tell (isAmong x olds))
+  either : (x : ℕ) → isAmong x zs ≡ true → (isAmong x ones ≡ true) ⊎ (isAmong x twos ≡ true)
+  either x h = go (tell (isAmong x ones))
     where
-      go : Told (isAmong x olds) → (isAmong x olds ≡ true) ⊎ (isAmong x partners ≡ true)
+      go : Told (isAmong x ones) → (isAmong x ones ≡ true) ⊎ (isAmong x twos ≡ true)
       go (holds k) = inl k
-      go (fails k) = inr (count-among x partners (omega (arith, among-count x zs h, mine x, absent-count x olds k)))
+      go (fails k) = inr (count-among x twos (omega (arith, among-count x zs h, mine x, absent-count x ones k)))
 
-  neither : (x : ℕ) → isAmong x zs ≡ false → (isAmong x olds ≡ false) × (isAmong x partners ≡ false)
-  neither x h = (count-absent x olds (omega (arith, mine x, absent-count x zs h)), count-absent x partners (omega (arith, mine x, absent-count x zs h)))
+  neither : (x : ℕ) → isAmong x zs ≡ false → (isAmong x ones ≡ false) × (isAmong x twos ≡ false)
+  neither x h = (count-absent x ones (omega (arith, mine x, absent-count x zs h)), count-absent x twos (omega (arith, mine x, absent-count x zs h)))
 
   bounds : (x : ℕ) → isAmong x zs ≡ true → (m .root .primaries ≤ x) × (x < m .root .primaries + m .root .overflow)
   bounds x h = go (either x h)
     where
-      go : (isAmong x olds ≡ true) ⊎ (isAmong x partners ≡ true) → (m .root .primaries ≤ x) × (x < m .root .primaries + m .root .overflow)
-      go (inl k) = overflow-bounds (t .inv .pages-ok .owned) (oldOf q) x k
-      go (inr k) = overflow-bounds (t .inv .pages-ok .owned) (partnerOf q) x k
+      go : (isAmong x ones ≡ true) ⊎ (isAmong x twos ≡ true) → (m .root .primaries ≤ x) × (x < m .root .primaries + m .root .overflow)
+      go (inl k) = overflow-bounds (t .inv .pages-ok .owned) (owner one q) x k
+      go (inr k) = overflow-bounds (t .inv .pages-ok .owned) (owner two q) x k
 
   zs-overflow : All (IsOverflow (m .root)) zs
   zs-overflow = all-from (IsOverflow (m .root)) zs (λ x h. let z = bounds x h in record { above = z .0; below = z .1 })
@@ -113,13 +149,13 @@ module _ {m : Memory} {b : Book} {q k : ℕ} (t : Turn m b q k) (zs : List ℕ)
 
   apart-free : (y : ℕ) → count y zs + count y frees ≤ 1
   apart-free y =
-      let w = t .inv .pages-ok .owned in
+      let o = t .inv .pages-ok .owned in
       omega (
         arith,
         mine y,
-        held-apart (m .root) w (oldOf q) free (kinds-apart (oldOf q) free refl) y,
-        held-apart (m .root) w (partnerOf q) free (kinds-apart (partnerOf q) free refl) y,
-        held-apart (m .root) w (oldOf q) (partnerOf q) (kinds-apart (oldOf q) (partnerOf q) refl) y,
+        held-apart (m .root) o (owner one q) free one-not-free y,
+        held-apart (m .root) o (owner two q) free two-not-free y,
+        held-apart (m .root) o (owner one q) (owner two q) one-not-two y,
       )
 
   pub given-room : leb (m .root .free + length zs) (m .root .overflow) ≡ true
@@ -135,59 +171,61 @@ module _ {m : Memory} {b : Book} {q k : ℕ} (t : Turn m b q k) (zs : List ℕ)
 
   -- ---- Who has what then
 
-  free₁ : held₁ free ≡ reverse olds ++ frees
-  free₁ = held-after-same (heldAfter (t .inv .ghost .held) (oldOf q) []) free (reverse olds ++ frees)
+  free₁ : held₁ free ≡ reverse ones ++ frees
+  free₁ = held-after-same (heldAfter (t .inv .ghost .held) (owner one q) []) free (reverse ones ++ frees)
 
-  kept₁ : (o : Owner) → sameOwner o free ≡ false → sameOwner o (oldOf q) ≡ false → held₁ o ≡ t .inv .ghost .held o
-  kept₁ o f n = held-after-other (heldAfter (t .inv .ghost .held) (oldOf q) []) free (reverse olds ++ frees) o f ∙ held-after-other (t .inv .ghost .held) (oldOf q) [] o n
+  kept₁ : (o : Owner) → sameOwner o free ≡ false → sameOwner o (owner one q) ≡ false → held₁ o ≡ t .inv .ghost .held o
+  kept₁ o f n = held-after-other (heldAfter (t .inv .ghost .held) (owner one q) []) free (reverse ones ++ frees) o f ∙ held-after-other (t .inv .ghost .held) (owner one q) [] o n
 
   owned-then : Owned (m .root .primaries) (m .root .overflow) (givenGhost .own) (givenGhost .held)
   owned-then =
-      handed (handed-all-onto (t .inv .pages-ok .owned) (oldOf q) free (kinds-apart (oldOf q) free refl) (kinds-apart (oldOf q) nobody refl) (kinds-apart free nobody refl))
-      (partnerOf q) free (kinds-apart (partnerOf q) free refl) (kinds-apart (partnerOf q) nobody refl) (kinds-apart free nobody refl) partners [] (reverse zs ++ frees)
-      (λ x. omega (arith, ap (count x) (kept₁ (partnerOf q) (kinds-apart (partnerOf q) free refl) (kinds-apart (partnerOf q) (oldOf q) refl)), count-nil x))
+      handed (handed-all-onto (t .inv .pages-ok .owned) (owner one q) free one-not-free one-some (kinds-apart free nobody refl))
+      (owner two q) free two-not-free two-some (kinds-apart free nobody refl) twos [] (reverse zs ++ frees)
+      (λ x. omega (arith, ap (count x) (kept₁ (owner two q) two-not-free two-not-one), count-nil x))
       (λ x. omega (
         arith,
         mine x,
         ap (count x) free₁,
         count-append x (reverse zs) frees,
         count-reverse x zs,
-        count-append x (reverse olds) frees,
-        count-reverse x olds,
+        count-append x (reverse ones) frees,
+        count-reverse x ones,
       ))
 
   free-then : givenGhost .held free ≡ reverse zs ++ frees
-  free-then = held-after-same (heldAfter held₁ (partnerOf q) []) free (reverse zs ++ frees)
+  free-then = held-after-same (heldAfter held₁ (owner two q) []) free (reverse zs ++ frees)
 
   -- The party has nothing left to give back, and every other list but the free list stays.
-  pub partner-given : givenGhost .held (partnerOf q) ≡ []
-  partner-given =
-      held-after-other (heldAfter held₁ (partnerOf q) []) free (reverse zs ++ frees) (partnerOf q) (kinds-apart (partnerOf q) free refl) ∙ held-after-same held₁ (partnerOf q) []
+  pub two-given : givenGhost .held (owner two q) ≡ []
+  two-given =
+      held-after-other (heldAfter held₁ (owner two q) []) free (reverse zs ++ frees) (owner two q) two-not-free ∙ held-after-same held₁ (owner two q) []
 
-  pub old-given : givenGhost .held (oldOf q) ≡ []
-  old-given =
-      held-after-other (heldAfter held₁ (partnerOf q) []) free (reverse zs ++ frees) (oldOf q) (kinds-apart (oldOf q) free refl)
-      ∙ held-after-other held₁ (partnerOf q) [] (oldOf q) (kinds-apart (oldOf q) (partnerOf q) refl)
-      ∙ held-after-other (heldAfter (t .inv .ghost .held) (oldOf q) []) free (reverse olds ++ frees) (oldOf q) (kinds-apart (oldOf q) free refl)
-      ∙ held-after-same (t .inv .ghost .held) (oldOf q) []
+  pub one-given : givenGhost .held (owner one q) ≡ []
+  one-given =
+      held-after-other (heldAfter held₁ (owner two q) []) free (reverse zs ++ frees) (owner one q) one-not-free
+      ∙ held-after-other held₁ (owner two q) [] (owner one q) one-not-two
+      ∙ held-after-other (heldAfter (t .inv .ghost .held) (owner one q) []) free (reverse ones ++ frees) (owner one q) one-not-free
+      ∙ held-after-same (t .inv .ghost .held) (owner one q) []
 
-  pub given-kept : (o : Owner) → sameOwner o free ≡ false → sameOwner o (oldOf q) ≡ false → sameOwner o (partnerOf q) ≡ false → givenGhost .held o ≡ t .inv .ghost .held o
+  pub given-kept : (o : Owner) → sameOwner o free ≡ false → sameOwner o (owner one q) ≡ false → sameOwner o (owner two q) ≡ false → givenGhost .held o ≡ t .inv .ghost .held o
   given-kept o f n p =
-      held-after-other (heldAfter held₁ (partnerOf q) []) free (reverse zs ++ frees) o f ∙ held-after-other held₁ (partnerOf q) [] o p ∙ kept₁ o f n
+      held-after-other (heldAfter held₁ (owner two q) []) free (reverse zs ++ frees) o f ∙ held-after-other held₁ (owner two q) [] o p ∙ kept₁ o f n
 
-  pub no-pages-given : NothingBuilt (before t) q → (s : Scene) → s .ghost ≡ givenGhost → NoPages s q
-  no-pages-given h s e = record {
-    nothing-built = record { no-built = stays (builtBy q) refl refl refl (h .no-built); no-new = stays (newBy q) refl refl refl (h .no-new) };
-    nothing-old = record { no-old = rw e old-given; no-partner = rw e partner-given };
-  }
-    where
-      stays : (o : Owner) → eqb (o .kind) 1 ≡ false → eqb (o .kind) 3 ≡ false → eqb (o .kind) 4 ≡ false → t .inv .ghost .held o ≡ [] → s .ghost .held o ≡ []
-      stays o f n p none = rw e (given-kept o (kinds-apart o free f) (kinds-apart o (oldOf q) n) (kinds-apart o (partnerOf q) p) ∙ none)
+  -- A list that is of neither kind, and empty, stays so.
+  stays-empty : (n : ℕ) → 3 ≤ n → n ≢ one → n ≢ two → t .inv .ghost .held (owner n q) ≡ [] → givenGhost .held (owner n q) ≡ []
+  stays-empty n l d e none =
+      given-kept (owner n q) (kinds-apart (owner n q) free (eqb-diff n 1 (omega arith))) (kinds-apart (owner n q) (owner one q) (eqb-diff n one d))
+      (kinds-apart (owner n q) (owner two q) (eqb-diff n two e))
+      ∙ none
+
+  -- Every page of the first kind is given back.
+  pub one-listed : (x : ℕ) → t .inv .ghost .own x ≡ owner one q → isAmong x zs ≡ true
+  one-listed x e = count-among x zs (omega (arith, mine x, among-count x ones (member-of-own (t .inv .pages-ok .owned) (owner one q) x one-some e)))
 
   -- ---- A step that gives them back and goes on with the record p and the book c
 
   -- The page memory is then ps: beside the pages given back the page `extra` alone may differ, scratch or a primary page outside the live file, which is then zero.
-  -- The party holds its chain exclusively.
+  -- No old page is left, and nobody reads the chain that old pages were of.
   pub record GivesBack (ps : List ℕ) (c : Book) (extra : ℕ) : Type 0 where
     pub long : length ps ≡ length givenPages
     pub off : (x : ℕ) → x ≢ extra → pageOf ps x ≡ pageOf givenPages x
@@ -195,8 +233,8 @@ module _ {m : Memory} {b : Book} {q k : ℕ} (t : Turn m b q k) (zs : List ℕ)
     pub may-touch : Touch (before t) q extra
     pub zeroed : extra < m .root .primaries → pageOf ps (primaryPage extra) ≡ zeroPage
     pub only-used : (d : ℕ) → d ≢ extra → uses (partyAt (m .parties) q) d ≡ false
-    pub holds-chain : isClaimed (claims (m .root) (partyAt (m .parties) q)) (chainWord (partyAt (m .parties) q .chain)) Exclusive ≡ true
-    pub chain-fits : partyAt (m .parties) q .chain < m .root .primaries
+    pub old-listed : (x : ℕ) → t .inv .ghost .own x ≡ oldOf q → isAmong x zs ≡ true
+    pub unread : (x : ℕ) → t .inv .ghost .own x ≡ oldOf q → (j : ℕ) → j ≢ q → partyAt (m .parties) j .step ≡ 9 → partyAt (m .parties) j .chain ≢ partyAt (m .parties) q .chain
     pub entries= : (j : ℕ) → j ≢ q → c .entries j ≡ b .entries j
     pub contents= : c .contents ≡ b .contents
 
@@ -214,9 +252,9 @@ module _ {m : Memory} {b : Book} {q k : ℕ} (t : Turn m b q k) (zs : List ℕ)
     touch : (x : ℕ) → isAmong x written ≡ true → Touch (before t) q x
     touch x h = go (first-or-rest x extra zs h)
       where
-        own : (isAmong x olds ≡ true) ⊎ (isAmong x partners ≡ true) → Touch (before t) q x
-        own (inl k) = own-page 3 (omega arith) (omega arith) (own-of-member (t .inv .pages-ok .owned) (oldOf q) x k)
-        own (inr k) = own-page 4 (omega arith) (omega arith) (own-of-member (t .inv .pages-ok .owned) (partnerOf q) x k)
+        own : (isAmong x ones ≡ true) ⊎ (isAmong x twos ≡ true) → Touch (before t) q x
+        own (inl k) = own-page one (w .one-low) (w .one-high) (own-of-member (t .inv .pages-ok .owned) (owner one q) x k)
+        own (inr k) = own-page two (w .two-low) (w .two-high) (own-of-member (t .inv .pages-ok .owned) (owner two q) x k)
 
         go : (extra ≡ x) ⊎ (isAmong x zs ≡ true) → Touch (before t) q x
         go (inl e) = subst (λ (y : ℕ). Touch (before t) q y) e (g .may-touch)
@@ -231,28 +269,27 @@ module _ {m : Memory} {b : Book} {q k : ℕ} (t : Turn m b q k) (zs : List ℕ)
       records= = refl;
       entries= = g .entries=;
       private= = λ k j a d n.
-          given-kept (owner k j) (kinds-apart (owner k j) free (eqb-diff k 1 (omega arith))) (indices-apart (owner k j) (oldOf q) n) (indices-apart (owner k j) (partnerOf q) n);
-      chains= = λ d. given-kept (inChain d) (kinds-apart (inChain d) free refl) (kinds-apart (inChain d) (oldOf q) refl) (kinds-apart (inChain d) (partnerOf q) refl);
+          given-kept (owner k j) (kinds-apart (owner k j) free (eqb-diff k 1 (omega arith))) (indices-apart (owner k j) (owner one q) n) (indices-apart (owner k j) (owner two q) n);
+      chains= = λ d. given-kept (inChain d) (kinds-apart (inChain d) free refl) (kinds-apart (inChain d) (owner one q) (eqb-diff 2 one (omega (arith, w .one-low)))) (kinds-apart (inChain d) (owner two q) (eqb-diff 2 two (omega (arith, w .two-low))));
       off = λ x h. let u = unwritten x h in g .off x (u .0) ∙ given-other (m .pages) (m .root .head) zs zs-has x (u .1);
       own-off = λ x h.
           let u = neither x (unwritten x h .1) in
-          own-after-other (ownAfter (t .inv .ghost .own) olds free) partners free x (u .1) ∙ own-after-other (t .inv .ghost .own) olds free x (u .0);
+          own-after-other (ownAfter (t .inv .ghost .own) ones free) twos free x (u .1) ∙ own-after-other (t .inv .ghost .own) ones free x (u .0);
       touch = touch;
-      stays = λ x e h.
-          absurd (not-both (isAmong x olds) (member-of-own (t .inv .pages-ok .owned) (oldOf q) x (kinds-apart (oldOf q) nobody refl) e) (neither x (unwritten x h .1) .0));
-      unread = λ x e h j n k. no-reader m b (t .inv) q (g .chain-fits) (g .holds-chain) j n k;
+      stays = λ x e h. absurd (not-both (isAmong x zs) (g .old-listed x e) (unwritten x h .1));
+      unread = λ x e h j n k. g .unread x e j n k;
     }
 
     kinds-then : (x : ℕ) → Named (givenGhost .own x)
-    kinds-then x = go (tell (isAmong x partners)) (tell (isAmong x olds))
+    kinds-then x = go (tell (isAmong x twos)) (tell (isAmong x ones))
       where
         own₁ : ℕ → Owner
-        own₁ = ownAfter (t .inv .ghost .own) olds free
+        own₁ = ownAfter (t .inv .ghost .own) ones free
 
-        go : Told (isAmong x partners) → Told (isAmong x olds) → Named (givenGhost .own x)
-        go (holds h) t = rw (own-after-moved own₁ partners free x h) (omega arith)
-        go (fails h) (holds k) = rw (own-after-other own₁ partners free x h, own-after-moved (t .inv .ghost .own) olds free x k) (omega arith)
-        go (fails h) (fails k) = rw (own-after-other own₁ partners free x h, own-after-other (t .inv .ghost .own) olds free x k) (t .inv .pages-ok .kinds x)
+        go : Told (isAmong x twos) → Told (isAmong x ones) → Named (givenGhost .own x)
+        go (holds h) t = rw (own-after-moved own₁ twos free x h) (omega arith)
+        go (fails h) (holds k) = rw (own-after-other own₁ twos free x h, own-after-moved (t .inv .ghost .own) ones free x k) (omega arith)
+        go (fails h) (fails k) = rw (own-after-other own₁ twos free x h, own-after-other (t .inv .ghost .own) ones free x k) (t .inv .pages-ok .kinds x)
 
     -- The primary pages outside the live file.
     untouched-primary : (d : ℕ) → d < m .root .primaries → d ≢ extra → isAmong d written ≡ false
@@ -303,3 +340,29 @@ module _ {m : Memory} {b : Book} {q k : ℕ} (t : Turn m b q k) (zs : List ℕ)
       self = s;
       others = keeps-touched t touches;
     }
+
+-- ---- The party has no pages then
+
+-- Old pages and the partner's were all it had.
+pub no-pages-given : {m : Memory} {b : Book} {q k : ℕ} (t : Turn m b q k) (zs : List ℕ)
+    (mine : (x : ℕ) → count x zs ≡ count x (t .inv .ghost .held (oldOf q)) + count x (t .inv .ghost .held (partnerOf q)))
+    → NothingBuilt (before t) q → (s : Scene) → s .ghost ≡ givenGhost t oldKinds zs mine → NoPages s q
+no-pages-given t zs mine h s e = record {
+  nothing-built = record {
+    no-built = rw e (stays-empty t oldKinds zs mine 5 (omega arith) (omega arith) (omega arith) (h .no-built));
+    no-new = rw e (stays-empty t oldKinds zs mine 6 (omega arith) (omega arith) (omega arith) (h .no-new));
+  };
+  nothing-old = record { no-old = rw e (one-given t oldKinds zs mine); no-partner = rw e (two-given t oldKinds zs mine) };
+}
+
+-- Pages built were all it had.
+pub no-pages-withdrawn : {m : Memory} {b : Book} {q k : ℕ} (t : Turn m b q k) (zs : List ℕ)
+    (mine : (x : ℕ) → count x zs ≡ count x (t .inv .ghost .held (builtBy q)) + count x (t .inv .ghost .held (newBy q)))
+    → NothingOld (before t) q → (s : Scene) → s .ghost ≡ givenGhost t builtKinds zs mine → NoPages s q
+no-pages-withdrawn t zs mine h s e = record {
+  nothing-built = record { no-built = rw e (one-given t builtKinds zs mine); no-new = rw e (two-given t builtKinds zs mine) };
+  nothing-old = record {
+    no-old = rw e (stays-empty t builtKinds zs mine 3 (omega arith) (omega arith) (omega arith) (h .no-old));
+    no-partner = rw e (stays-empty t builtKinds zs mine 4 (omega arith) (omega arith) (omega arith) (h .no-partner));
+  };
+}

@@ -19,7 +19,8 @@ use Rattle.model.specs.Memory.{Memory, partyAt, viewOf}
 use Rattle.model.specs.Book.{Book}
 use Rattle.model.specs.Holds.{sameMode}
 use Rattle.model.proofs.Laws.Lists.{Cmp, same, diff, cmp, All, eqb-same, eqb-diff}
-use Rattle.model.proofs.Invariant.Claims.{claims, isClaimed, claimed, LocksOk}
+use Rattle.model.specs.Claims.{claims}
+use Rattle.model.proofs.Invariant.Claims.{isClaimed, claimed, LocksOk}
 use Rattle.model.proofs.Invariant.LockMoves.{held-true, locks-released, locks-move}
 use Rattle.model.proofs.Invariant.Turn.{Turn, claimsAt, its-claims, me, party-small, row-long}
 use Rattle.model.proofs.Invariant.Frame.{claims-at, later, named}
@@ -28,7 +29,7 @@ use Rattle.model.proofs.Effects.OwnRecord.{own-kept, Moves}
 use Rattle.model.proofs.Effects.Requests.{claim-among}
 
 -- A word of which the list has no lock.
-unclaimed : (cs : List Claim) (w : ℕ) (m : Mode) → All (λ c. c .word ≢ w) cs → isClaimed cs w m ≡ false
+pub unclaimed : (cs : List Claim) (w : ℕ) (m : Mode) → All (λ c. c .word ≢ w) cs → isClaimed cs w m ≡ false
 unfolding isClaimed
 unclaimed [] w m a = refl
 unclaimed (c ∷ cs) w m a = rw (eqb-diff (c .word) w (a .0), unclaimed cs w m (a .1)) refl

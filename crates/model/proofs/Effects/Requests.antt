@@ -17,7 +17,8 @@ use Rattle.model.specs.Memory.{Memory, viewOf}
 use Rattle.model.specs.Book.{Book}
 use Rattle.model.specs.Holds.{sameMode}
 use Rattle.model.proofs.Laws.Lists.{Cmp, same, diff, cmp, cond-ind, eqb-same, eqb-diff}
-use Rattle.model.proofs.Invariant.Claims.{claims, isClaimed, claimed}
+use Rattle.model.specs.Claims.{claims}
+use Rattle.model.proofs.Invariant.Claims.{isClaimed, claimed}
 use Rattle.model.proofs.Invariant.LockMoves.{locks-granted, locks-move}
 use Rattle.model.proofs.Invariant.Turn.{Turn, claimsAt, its-claims, me, party-small, row-long}
 use Rattle.model.proofs.Invariant.Frame.{claims-at}

@@ -1,5 +1,5 @@
--- Which locks a party holds is a function of its record; every lock word is the encoding of that function over all parties.
--- Main statements: claims (the locks held, by step number), claimed; WordOk (a lock word says exactly who holds it, and an exclusive holder is alone), LocksOk.
+-- Which locks a party holds is a function of its record (specs/Claims.antt); every lock word is the encoding of that function over all parties.
+-- Main statements: isClaimed, claimed; WordOk (a lock word says exactly who holds it, and an exclusive holder is alone), LocksOk.
 use mathlib.Core.Path.{_≡_}
 use mathlib.Core.Logic.{_≢_}
 use mathlib.Core.Bool.{Bool, true, false, _&&_, _||_}
@@ -14,55 +14,9 @@ use Rattle.model.specs.declared.Mode.the-variants.{Read, Selective, Excl
 use Rattle.model.specs.LockWords.{Claim, fieldOf, readersOf, selectiveOf, exclusiveOf}
 use Rattle.model.specs.Holds.{sameMode}
 use Rattle.model.specs.Memory.{partyAt}
-use Rattle.model.specs.LockRequests.{rootRead, chainLock, otherLock, chainSelective, chainExclusive, rootSelective, rootExclusive}
-use Rattle.model.specs.Steps.MergeLocks.{mergeLocks}
+use Rattle.model.specs.Claims.{claims}
 
 -- ---- The locks that a record says its party holds
-
-abbrev pub Claims : Type 0
-Claims = Party → List Claim
-
-abbrev pub noLock : Claims
-noLock p = []
-
-abbrev pub onRoot : Claim → Claims
-onRoot c p = c ∷ []
-
-abbrev pub onRootAndChain : Claims
-onRootAndChain p = rootRead ∷ (chainLock p ∷ [])
-
-abbrev pub onChain : Claims
-onChain p = chainLock p ∷ []
-
-abbrev pub onOther : Claims
-onOther p = otherLock p ∷ []
-
-abbrev pub onBoth : Claims
-onBoth p = otherLock p ∷ (chainLock p ∷ [])
-
-abbrev pub onChainExclusive : Claims
-onChainExclusive p = chainExclusive p ∷ []
-
-abbrev pub splitting : Claims
-splitting p = rootSelective ∷ (chainSelective p ∷ [])
-
-abbrev pub mergingTarget : Claims
-mergingTarget p = rootExclusive ∷ (chainExclusive p ∷ [])
-
-abbrev pub merging : Claim → Claims
-merging c p = mergeLocks c p
-
--- By step number, from 0.
-abbrev pub claimTable : List Claims
-claimTable =
-    noLock ∷ noLock ∷ onRoot rootRead ∷ onRoot rootRead ∷ onRoot rootRead ∷ onRootAndChain ∷ onChain ∷ onOther ∷ onBoth ∷ onChain
-    ∷ onChain ∷ onChain ∷ onChain ∷ noLock ∷ onChainExclusive ∷ noLock ∷ onRoot rootSelective ∷ splitting ∷ splitting ∷ splitting
-    ∷ onRoot rootSelective ∷ onRoot rootSelective ∷ onRoot rootSelective ∷ noLock ∷ onRoot rootExclusive ∷ mergingTarget
-    ∷ merging rootExclusive ∷ merging rootExclusive ∷ merging rootSelective ∷ merging rootSelective ∷ merging rootSelective ∷ []
-
--- The locks that the party holds, by its step number; the root record does not matter.
-unfoldable pub claims : Root → Party → List Claim
-claims r p = getD claimTable (p .step) noLock p
 
 -- Whether a list of locks has the lock of word i in mode m.
 unfoldable pub isClaimed : List Claim → ℕ → Mode → Bool

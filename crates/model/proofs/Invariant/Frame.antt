@@ -28,7 +28,8 @@ use Rattle.model.specs.Steps.Dispatch.{hasStep}
 use Rattle.model.proofs.Laws.Structure.{Linked, SameOn, linked-frame, overflow-frame, chain-frame}
 use Rattle.model.proofs.Laws.Lists.{_▸_}
 use Rattle.model.proofs.Invariant.Ghost.{owner, inChain, oldOf, partnerOf, builtBy, newBy, Extent, size, localLevel}
-use Rattle.model.proofs.Invariant.Claims.{claims, claimTable, noLock, isClaimed}
+use Rattle.model.specs.Claims.{claims, claimTable, noLock}
+use Rattle.model.proofs.Invariant.Claims.{isClaimed}
 use Rattle.model.proofs.Invariant.Statement.{restructures, Scene, scratchIn, heldIn, NothingBuilt, NothingOld, NoPages, Early, Heads, Chasing, Protected, Walking, AtHome, Building, Rebuilt, Trash, Leaving, Written, unchanged, made-change, Returning, Settled, SplitChains, Dividing, Divided, MergeChains, Joining, Joined, MovedBack, Emptying, uses, Facts, factsNone, factsEarly, factsLevelRead, factsLocated, factsLocked, factsChasing, factsCoupled, factsHome, factsRebuilt, factsJoined, factsMovedBack, factsEmptying, factsMerged, factTable, Busy, PartyOk, resting, working}
 use borrow.Author.Tests.{eq-eqb, eqb-true}
 

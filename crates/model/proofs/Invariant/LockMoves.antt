@@ -1,7 +1,9 @@
 -- How lock words follow the locks held: a grant, a give-up, step 27's turn, and a party's record that changes.
--- Main statements, of one word: held-true, holds-held (what the word says is what is held); table-true, permits-true (a request is permitted where
--- Table I permits it beside every lock held); exclusive-alone, selective-one; word-granted, word-released, word-turned.
--- Of all words: locks-granted, locks-released, locks-turned, locks-same, locks-start. Of the parties' row: claimed-set, locks-move, locks-stay.
+-- Main statements, of one word: held-true, holds-held (what the word says is what is held); table-true, permits-true (a
+-- request is permitted where Table I permits it beside every lock held); exclusive-alone, selective-one; word-granted,
+-- word-released, word-restored (a grant given up at once), word-turned.
+-- Of all words: locks-granted, locks-released, locks-turned, locks-same, locks-start. Of the parties' row: claimed-set,
+-- locks-move, locks-stay.
 use mathlib.Core.Path.{_≡_, refl, sym, ap, _∙_, subst, fun-ext}
 use mathlib.Core.Logic.{_≢_}
 use mathlib.Core.Bool.{Bool, true, false, cond, not, _&&_, _||_, true≢false, false≢true, and-true, and-false, or-true, or-false}
@@ -21,9 +23,10 @@ use Rattle.model.specs.declared.Mode.the-variants.{Read, Selective, Excl
 use Rattle.model.specs.LockWords.{fieldOf, withField, readersOf, selectiveOf, exclusiveOf, permits, holds, grantedWord, releasedWord, turnedSelective}
 use Rattle.model.specs.Holds.{tableOne, sameMode}
 use Rattle.model.specs.Records.{idle}
-use Rattle.model.proofs.Invariant.Claims.{claims, isClaimed, claimed, bit, HolderIs, WordOk, LocksOk}
+use Rattle.model.specs.Claims.{claims}
+use Rattle.model.proofs.Invariant.Claims.{isClaimed, claimed, bit, HolderIs, WordOk, LocksOk}
 use Rattle.model.proofs.Laws.Booleans.{and-left, and-right}
-use Rattle.model.proofs.Laws.Fields.{field-same, field-below, field-above, bit-other, withField-26, readers-zero, reader-zero}
+use Rattle.model.proofs.Laws.Fields.{field-same, field-again, field-own, field-below, field-above, bit-other, withField-26, readers-zero, reader-zero}
 
 -- ---- Tests
 
@@ -319,6 +322,15 @@ module _ {w : ℕ} {h : ℕ → Mode → Bool} (ok : WordOk w h) where
       go Read y = read-set ok q false l (λ z. absurd (false≢true z))
       go Selective y = selective-set ok q false l (λ q′ n z. n (holder-one (ok .selective) q q′ y z)) (λ z. absurd (false≢true z))
       go Exclusive y = exclusive-set ok q false l (λ q′ n z. n (holder-one (ok .exclusive) q q′ y z)) (λ z. absurd (false≢true z))
+
+  -- A lock granted and given up: the word is what it was before.
+  pub word-restored : (q : ℕ) (m : Mode) → permits w m ≡ true → h q m ≡ false → q < 16 → releasedWord (grantedWord w q m) q m ≡ w
+  unfolding grantedWord releasedWord tableOne fieldFor
+  word-restored q Read p n l = field-again q 1 w 1 (omega arith) 0 ∙ ap (withField q 1 w) (sym (ok .readers q l ∙ ap bit n)) ∙ field-own q 1 w
+  word-restored q Selective p n l =
+      field-again 16 5 w (q + 1) (omega arith) 0 ∙ ap (withField 16 5 w) (sym (permits-zero w Selective Selective p refl)) ∙ field-own 16 5 w
+  word-restored q Exclusive p n l =
+      field-again 21 5 w (q + 1) (omega arith) 0 ∙ ap (withField 21 5 w) (sym (permits-zero w Exclusive Exclusive p refl)) ∙ field-own 21 5 w
 
 -- Step 27: after the exclusive lock is given up nothing is held, so the selective one is permitted.
 pub word-turned : {w : ℕ} {h : ℕ → Mode → Bool} → WordOk w h → (q : ℕ) → h q Exclusive ≡ true → q < 16

@@ -19,7 +19,8 @@ use Rattle.model.specs.Memory.{Memory, partyAt}
 use Rattle.model.specs.Book.{Book}
 use Rattle.model.specs.Holds.{sameMode}
 use Rattle.model.proofs.Laws.Lists.{Told, holds, fails, tell, Cmp, same, diff, cmp, and-both, or-either, leb-true, eqb-true}
-use Rattle.model.proofs.Invariant.Claims.{claims, claimTable, noLock, isClaimed, claimed, WordOk}
+use Rattle.model.specs.Claims.{claims, claimTable, noLock}
+use Rattle.model.proofs.Invariant.Claims.{isClaimed, claimed, WordOk}
 use Rattle.model.proofs.Invariant.LockMoves.{exclusive-alone, selective-one}
 use Rattle.model.proofs.Invariant.Statement.{restructures, liveFor, lowFor, uses, Inv}
 

@@ -23,7 +23,8 @@ use Rattle.model.proofs.Laws.Lists.{cond-true, cond-false, cond-ind, an
 use Rattle.model.proofs.Invariant.Ghost.{Owner, Named, nobody, free, inChain, oldOf, partnerOf, builtBy, newBy, sameOwner, extent, size, localLevel, Ghost}
 use Rattle.model.proofs.Invariant.Owners.{kinds-apart, owner-self, upFrom, owned-start}
 use Rattle.model.proofs.Laws.Structure.{ChainIs}
-use Rattle.model.proofs.Invariant.Claims.{claims, isClaimed, claimed, LocksOk}
+use Rattle.model.specs.Claims.{claims}
+use Rattle.model.proofs.Invariant.Claims.{isClaimed, claimed, LocksOk}
 use Rattle.model.proofs.Invariant.LockMoves.{locks-same, locks-start}
 use Rattle.model.proofs.Laws.Format.{length-up, first-up, length-formatted, formatted-primary, formatted-free, formatted-scratch}
 use Rattle.model.proofs.Invariant.Statement.{Limits, restructures, ExtentsOk, PagesOk, BookOk, Scene, NoPages, PartyOk, resting, sceneOf, Inv}

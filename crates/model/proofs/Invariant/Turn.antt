@@ -20,7 +20,7 @@ use Rattle.model.specs.Steps.Dispatch.{hasStep}
 use Rattle.model.proofs.Laws.Lists.{eqb-false, left-fails, or-neither}
 use Rattle.model.proofs.Invariant.Ghost.{nobody, oldOf}
 use Rattle.model.proofs.Invariant.Owners.{owns-nothing, kinds-apart}
-use Rattle.model.proofs.Invariant.Claims.{claims, claimTable, noLock}
+use Rattle.model.specs.Claims.{claims, claimTable, noLock}
 use Rattle.model.proofs.Invariant.Statement.{restructures, liveFor, lowFor, uses, Scene, NoPages, Busy, factsAt, sceneOf, Inv}
 use Rattle.model.proofs.Invariant.Frame.{claims-at, restructures-at}
 use Rattle.model.proofs.Invariant.Facts.{facts-at, still-noted}

@@ -1,6 +1,7 @@
 -- Laws of the fields of a lock word: what fieldOf reads after withField wrote.
--- Main statements: field-same, field-below, field-above, bit-other (what a field is after it, or another, was written);
--- field-lt, withField-lt, withField-26 (bounds); readers-zero, reader-zero (no reader bit is set where the readers are 0).
+-- Main statements: field-same, field-below, field-above, bit-other (what a field is after it, or another, was
+-- written); field-again (a field written twice), field-own (with its own value); field-lt, withField-lt, withField-26
+-- (bounds); readers-zero, reader-zero (no reader bit is set where the readers are 0).
 use mathlib.Core.Path.{_≡_, refl, sym, ap, _∙_}
 use mathlib.Core.Logic.{_≢_}
 use mathlib.Core.Bool.{Bool, true, false}
@@ -8,7 +9,7 @@ use Prim.Native.Nat.{ℕ, zero, suc, _+_, _-_, _*_, _/_, _%_, _^_, _≤_, _<_}
 use native.Mathlib.Nat.{mod-lt, zero-div, zero-mod}
 use native.Mathlib.Omega.{arith}
 use lib.Arith.{digits-lt}
-use lib.Pow.{pow-pos, pow-add, high, low, field, mod-mod-pow, mod-pow-add, shr-shr, shr-lt}
+use lib.Pow.{pow-pos, pow-add, split, high, low, field, mod-mod-pow, mod-pow-add, shr-shr, shr-lt}
 use lib.Dec.{ltb}
 use borrow.Author.Tests.{ltb-true, ltb-false}
 use Rattle.model.specs.LockWords.{fieldOf, withField, readersOf}
@@ -48,6 +49,14 @@ module _ (k n w v : ℕ) where
       sym (cut (withField k n w v)) ∙ ap (λ (y : ℕ). y / 2 ^ n / 2 ^ j % 2 ^ n′) above
       ∙ ap (λ (y : ℕ). y / 2 ^ j % 2 ^ n′) (high (w / 2 ^ k / 2 ^ n) n hv) ∙ cut w
 
+  -- A field written twice: the later value stands.
+  pub field-again : v < 2 ^ n → (u : ℕ) → withField k n (withField k n w v) u ≡ withField k n w u
+  unfolding withField
+  field-again hv u =
+      ap (λ (x : ℕ). (x / 2 ^ n * 2 ^ n + u) * 2 ^ k + withField k n w v % 2 ^ k) above
+      ∙ ap (λ (x : ℕ). (x * 2 ^ n + u) * 2 ^ k + withField k n w v % 2 ^ k) (high (w / 2 ^ k / 2 ^ n) n hv)
+      ∙ ap (λ (x : ℕ). (w / 2 ^ k / 2 ^ n * 2 ^ n + u) * 2 ^ k + x) below
+
   -- A word of j bits stays one, where the field lies inside them.
   pub withField-lt : v < 2 ^ n → (j : ℕ) → k + n ≤ j → w < 2 ^ j → withField k n w v < 2 ^ j
   unfolding withField
@@ -58,6 +67,11 @@ module _ (k n w v : ℕ) where
       let top : w / 2 ^ k / 2 ^ n < 2 ^ i = rw shr-shr (shr-lt i (k + n) (rw e hw)) in
       let mid : w / 2 ^ k / 2 ^ n * 2 ^ n + v < 2 ^ (i + n) = rw pow-add (digits-lt top hv) in
       rw (← e′, pow-add 2 (i + n) k) (digits-lt mid (mod-lt w (pow-pos k)))
+
+-- A field written with its own value.
+pub field-own : (k n w : ℕ) → withField k n w (fieldOf k n w) ≡ w
+unfolding withField fieldOf
+field-own k n w = ap (λ (x : ℕ). x * 2 ^ k + w % 2 ^ k) (split (w / 2 ^ k) n) ∙ split w k
 
 -- One bit written leaves every other bit.
 pub bit-other : (k w v : ℕ) → v < 2 → (j : ℕ) → j ≢ k → fieldOf j 1 (withField k 1 w v) ≡ fieldOf j 1 w

@@ -1,22 +1,26 @@
 -- The free list: pages taken from its front, and pages given back to it.
 -- That lists have no page twice, and none in common, is said by counts: no page is counted more than once in all of them.
--- Main statements: taken-from, taken-front and free-drop (pages taken, and what stays); given-head, given-free, given-other and length-given (pages given back).
-use mathlib.Core.Path.{_≡_, refl, sym, ap, _∙_}
+-- Main statements: taken-from, taken-front and free-drop (pages taken, and what stays); given-head, given-free,
+-- given-other and length-given (pages given back); given-again, head-again and length-again (pages taken and given back
+-- in reverse order).
+use mathlib.Core.Path.{_≡_, refl, sym, ap, _∙_, subst}
+use mathlib.Core.Logic.{_≢_}
 use mathlib.Core.Bool.{false}
-use mathlib.Core.List.{List, [], _∷_, _++_, reverse, reverseAux, reverseAux-eq}
+use mathlib.Core.List.{List, [], _∷_, _++_, reverse, reverseAux, reverseAux-eq, reverse-reverse}
 use Prim.Native.Nat.{ℕ, zero, suc, _+_, _≤_}
 use native.Mathlib.Omega.{arith}
-use lib.ListN.{length, take, drop}
+use lib.ListN.{length, take, drop, take-append-drop}
 use lib.Dec.{eqb}
 use Rattle.model.specs.declared.Root.{Root}
 use Rattle.model.specs.Pages.{pageOf, withPage, freePage, linkToFirst}
 use Rattle.model.specs.Chains.{sound}
 use Rattle.model.specs.FreeList.{isAmong, alsoTaken, takenFrom, pagesTaken, givenBack}
-use Rattle.model.proofs.Laws.Lists.{eqb-false, or-neither, among-count, among-first, count-absent, All, all-map}
+use Rattle.model.proofs.Laws.Lists.{Told, holds, fails, tell, not-both, eqb-false, or-neither, count-cut, count-reverse, among-count, among-first, among-take, among-drop, among-reverse, absent-count, count-absent, All, all-map, all-in, all-from}
 use Rattle.model.proofs.Laws.Distinct.{Outside, outside-count}
 use Rattle.model.proofs.Laws.Pages.{Has, length-withPage, page-same, page-other, has-withPage, link-freePage, length-freePage}
-use Rattle.model.proofs.Laws.Structure.{FreePages}
+use Rattle.model.proofs.Laws.Structure.{FreePages, free-frame}
 use Rattle.model.proofs.Invariant.Ghost.{count}
+use Rattle.model.proofs.Invariant.Owners.{same-from}
 use Rattle.model.proofs.Laws.Filling.{IsOverflow}
 use Rattle.model.proofs.Laws.Reading.{names-first, first-linked}
 
@@ -104,3 +108,56 @@ pub given-free :
     (ps fs xs : List ℕ) → All (Has ps) xs → ((y : ℕ) → count y xs + count y fs ≤ 1) → FreePages ps fs
     → FreePages (givenBack ps (linkToFirst fs) xs .pages) (reverse xs ++ fs)
 given-free ps fs xs a d f = rw reverseAux-eq at (free-onto ps fs xs a d f)
+
+-- ---- Pages taken and given back in reverse order
+
+-- A free list leaves no choice of its pages.
+free-same : (ps qs fs : List ℕ) → FreePages ps fs → FreePages qs fs → All (λ x. pageOf qs x ≡ pageOf ps x) fs
+free-same ps qs [] f g = tt
+free-same ps qs (x ∷ fs) f g = (g .0 ∙ sym (f .0), free-same ps qs fs (f .1) (g .1))
+
+-- The first k pages of the free list fs of ps were taken, and qs has other words on them and on the page `extra`, which
+-- is not of the list. Given back, last first, they are free as they were.
+module _ (ps qs fs : List ℕ) (k extra : ℕ) (frees : FreePages ps fs) (once : (y : ℕ) → count y fs ≤ 1) (has : All (Has qs) fs) (outside : isAmong extra fs ≡ false)
+    (off : (y : ℕ) → y ≢ extra → isAmong y (take k fs) ≡ false → pageOf qs y ≡ pageOf ps y) where
+  abbrev taken : List ℕ
+  taken = take k fs
+
+  abbrev given : List ℕ
+  given = givenBack qs (linkToFirst (drop k fs)) (reverse taken) .pages
+
+  back-has : All (Has qs) (reverse taken)
+  back-has = all-from (Has qs) (reverse taken) (λ x e. all-in (Has qs) x fs has (among-take x k fs (sym (among-reverse x taken) ∙ e)))
+
+  same-list : reverse (reverse taken) ++ drop k fs ≡ fs
+  same-list = ap (λ (xs : List ℕ). xs ++ drop k fs) (reverse-reverse taken) ∙ take-append-drop k fs
+
+  -- The pages that stayed free are not among those taken.
+  left-free : FreePages qs (drop k fs)
+  left-free =
+      free-frame ps qs (drop k fs)
+      (same-from ps qs (drop k fs)
+      (λ x e. off x (λ s. not-both (isAmong extra fs) (rw s at (among-drop x k fs e)) outside)
+      (count-absent x taken (omega (arith, among-count x (drop k fs) e, count-cut x k fs, once x)))))
+      (free-drop ps fs k frees)
+
+  given-frees : FreePages given fs
+  given-frees =
+      subst (FreePages given) same-list
+      (given-free qs (drop k fs) (reverse taken) back-has (λ y. omega (arith, count-reverse y taken, count-cut y k fs, once y)) left-free)
+
+  pub given-again : (y : ℕ) → y ≢ extra → pageOf given y ≡ pageOf ps y
+  given-again y n = go (tell (isAmong y fs))
+    where
+      go : Told (isAmong y fs) → pageOf given y ≡ pageOf ps y
+      go (holds e) = all-in (λ x. pageOf given x ≡ pageOf ps x) y fs (free-same ps given fs frees given-frees) e
+      go (fails e) =
+          let absent : isAmong y taken ≡ false = count-absent y taken (omega (arith, absent-count y fs e, count-cut y k fs)) in
+          given-other qs (linkToFirst (drop k fs)) (reverse taken) back-has y (among-reverse y taken ∙ absent) ∙ off y n absent
+
+  -- The head is what it was.
+  pub head-again : givenBack qs (linkToFirst (drop k fs)) (reverse taken) .head ≡ linkToFirst fs
+  head-again = given-head qs (drop k fs) (reverse taken) ∙ ap linkToFirst same-list
+
+  pub length-again : length given ≡ length qs
+  length-again = length-given qs (linkToFirst (drop k fs)) (reverse taken) back-has

@@ -1,7 +1,7 @@
 -- Tools over tests, numbers and lists that the other proof files share: ways to branch, how often a number is in a list, whether it is,
 -- and facts of every element.
 -- Main statements: cmp, ord, tell (branch by data that carry the facts); cond-ind; count-append, count-cut, count-reverse; among-counts (a number is in a list
--- where its count is not 0); All, all-in, all-from; Numbered, numbered-at (facts of a table's entries by their numbers); front-part (the front of a buffer, as it is lent).
+-- where its count is not 0); All, all-in, all-from; Numbered, numbered-at, numbered-below (facts of a table's entries by their numbers); front-part (the front of a buffer, as it is lent).
 use mathlib.Core.Path.{_≡_, refl, sym, ap, _∙_, subst}
 use mathlib.Core.Logic.{_≢_, _⊎_, inl, inr}
 use mathlib.Core.Bool.{Bool, true, false, cond, _&&_, _||_, or-assoc}
@@ -9,7 +9,7 @@ use mathlib.Core.List.{List, [], _∷_, _++_, reverse, reverseAux}
 use Prim.Native.Nat.{ℕ, zero, suc, _+_, _-_, _≤_, _<_}
 use native.Mathlib.Nat.{add-zero, add-suc, suc-add, zero-add, sub-zero}
 use native.Mathlib.Omega.{arith}
-use lib.ListN.{getD, take, drop, take-append-drop}
+use lib.ListN.{length, getD, take, drop, take-append-drop}
 use lib.Dec.{eqb, ltb}
 pub use mathlib.Core.Bool.{true≢false, false≢true}
 pub use borrow.Author.Tests.{eqb-true, eqb-false, eq-eqb as eqb-same, ne-eqb as eqb-diff, ltb-true, ltb-false, lt-ltb, le-ltb, leb-true, leb-false, le-leb, lt-leb, not-true, not-false}
@@ -255,6 +255,15 @@ module _ {A : Type 0} (P : ℕ → A → Type 0) (d : A) (past : (n : ℕ) → P
   -- From number 0 on; what holds of the default holds past the table's end.
   pub numbered-at : (xs : List A) → Numbered P 0 xs → (k : ℕ) → P k (getD xs k d)
   numbered-at xs a k = subst (λ (n : ℕ). P n (getD xs k d)) (zero-add k) (numbered-from 0 xs a k)
+
+-- The same of a number below the table's length.
+pub numbered-below : {A : Type 0} (P : ℕ → A → Type 0) (d : A) (xs : List A) → Numbered P 0 xs → (k : ℕ) → k < length xs → P k (getD xs k d)
+numbered-below {A} P d xs a k l = subst (λ (n : ℕ). P n (getD xs k d)) (zero-add k) (from 0 xs a k l)
+  where
+    from : (n : ℕ) (ys : List A) → Numbered P n ys → (i : ℕ) → i < length ys → P (n + i) (getD ys i d)
+    from n [] b i l = absurd (omega arith)
+    from n (y ∷ ys) b zero l = subst (λ (j : ℕ). P j y) (sym (add-zero n)) (b .0)
+    from n (y ∷ ys) b (suc i) l = subst (λ (j : ℕ). P j (getD ys i d)) (suc-add n i ∙ sym (add-suc n i)) (from (suc n) ys (b .1) i (omega arith))
 
 -- ---- The front of a buffer: its part from 0 to n, as code lends it
 

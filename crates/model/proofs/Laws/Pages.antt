@@ -1,14 +1,16 @@
 -- Laws of pages: what page memory and a page's fields are after a page was written.
 -- A page of the memory: Has.
--- Main statements: page-same, page-other, length-withPage; length-pageOf, word-at; withPage-pageOf, withPage-withPage, withPage-comm;
--- length-wordsOf, records-wordsOf (records as words); level-, count-, link-, entries- and length- of filledPage, freePage, zeroPage and withLocalLevel.
+-- Main statements: page-same, page-other, length-withPage; length-pageOf, word-at, same-words (pages say all words);
+-- withPage-pageOf, withPage-withPage, withPage-comm; length-wordsOf, records-wordsOf (records as words);
+-- level-, count-, link-, entries- and length- of filledPage, freePage, zeroPage and withLocalLevel.
 use mathlib.Core.Path.{_≡_, refl, sym, ap, _∙_}
 use mathlib.Core.Logic.{_≢_}
 use mathlib.Core.List.{List, [], _∷_, _++_, append-assoc}
-use Prim.Native.Nat.{ℕ, zero, suc, _+_, _-_, _*_, _≤_, _<_}
+use Prim.Native.Nat.{ℕ, zero, suc, _+_, _-_, _*_, _/_, _%_, _≤_, _<_}
+use native.Mathlib.Nat.{div-add-mod', mod-lt}
 use native.Mathlib.Omega.{arith}
 use lib.ListN.{length, getD, set, take, drop, replicate, length-append, length-drop, length-replicate, take-append-drop}
-use lib.Seq.{length-take-le, take-at, drop-at, drop-append-le, take-append-le, drop-append-add, drop-drop, take-append-seam, getD-take, getD-drop, set-comm, sets, sets-eq, length-sets}
+use lib.Seq.{ext-getD, length-take-le, take-at, drop-at, drop-append-le, take-append-le, drop-append-add, drop-drop, take-append-seam, getD-take, getD-drop, set-comm, sets, sets-eq, length-sets}
 use Rattle.model.specs.Sizes.{pageWords, mostRecords, recordWords}
 use Rattle.model.specs.declared.Entry.{Entry}
 use Rattle.model.proofs.Laws.Lists.{Ord, lt, ge, ord}
@@ -28,6 +30,13 @@ length-pageOf {ps} {p} h = length-take-le pageWords (drop (p * pageWords) ps) (r
 pub word-at : (ps : List ℕ) (p i : ℕ) → i < pageWords → getD ps (p * pageWords + i) 0 ≡ getD (pageOf ps p) i 0
 unfolding pageOf
 word-at ps p i h = rw (getD-take, getD-drop)
+
+-- Memories of one length that agree on every page are the same: word i stands on page i / 16.
+pub same-words : (ps qs : List ℕ) → length ps ≡ length qs → ((x : ℕ) → pageOf ps x ≡ pageOf qs x) → ps ≡ qs
+same-words ps qs e f = ext-getD 0 ps qs e (λ i h. word-of ps i ∙ ap (λ (w : List ℕ). getD w (i % pageWords) 0) (f (i / pageWords)) ∙ sym (word-of qs i))
+  where
+    word-of : (l : List ℕ) (i : ℕ) → getD l i 0 ≡ getD (pageOf l (i / pageWords)) (i % pageWords) 0
+    word-of l i = ap (λ (j : ℕ). getD l j 0) (sym (div-add-mod' i pageWords)) ∙ word-at l (i / pageWords) (i % pageWords) (mod-lt i {m = pageWords} (omega arith))
 
 -- ---- Writing a page: memory ps, page p, the words w
 

@@ -28,7 +28,7 @@ use Rattle.model.specs.Steps.Write.{isChange}
 use Rattle.model.specs.Steps.Dispatch.{hasStep}
 use Rattle.model.proofs.Laws.Lists.{cond-ind, eqb-same, eqb-diff, ltb-false}
 use Rattle.model.proofs.Invariant.Ghost.{free, inChain, oldOf, partnerOf, builtBy, size, localLevel}
-use Rattle.model.proofs.Invariant.Claims.{claims}
+use Rattle.model.specs.Claims.{claims}
 use Rattle.model.proofs.Invariant.LockMoves.{locks-stay}
 use Rattle.model.proofs.Invariant.Extents.{home-is}
 use Rattle.model.proofs.Invariant.Statement.{restructures, NoPages, AtHome, Rebuilt, unchanged, working, liveFor, lowFor}

@@ -34,7 +34,8 @@ use Rattle.model.proofs.Laws.Filling.{IsOverflow, length-primaryOf, ove
 use Rattle.model.proofs.Laws.Reading.{has-overflow, absent-outside}
 use Rattle.model.proofs.Invariant.Ghost.{Owner, free, inChain, oldOf, partnerOf, builtBy, newBy, rootExtent, size, localLevel, count, Ghost, Owned}
 use Rattle.model.proofs.Invariant.Owners.{same-from, kinds-apart, no-repeats, overflow-bounds, absent-elsewhere}
-use Rattle.model.proofs.Invariant.Claims.{claims, claimed, LocksOk}
+use Rattle.model.specs.Claims.{claims}
+use Rattle.model.proofs.Invariant.Claims.{claimed, LocksOk}
 use Rattle.model.proofs.Invariant.LockMoves.{locks-root, locks-stay}
 use Rattle.model.proofs.Invariant.Restructurer.{others-use-none}
 use Rattle.model.proofs.Invariant.Statement.{restructures, liveFor, lowFor, ExtentsOk, uses, Scene, NoPages, Divided, working}

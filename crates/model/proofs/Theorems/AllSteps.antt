@@ -1,13 +1,10 @@
 -- The lemmas of the thirty steps together: every step of a party under way is not refused, agrees with the book and keeps the invariant.
 -- Main statement: steps-kept.
-use mathlib.Core.Path.{_≡_, sym, _∙_, subst, ap, refl}
+use mathlib.Core.Path.{_≡_, subst, ap, refl}
 use mathlib.Core.Logic.{_⊎_, inl, inr}
 use mathlib.Core.Bool.{true, _&&_, _||_, and-false, false≢true}
-use mathlib.Core.List.{List, [], _∷_}
-use Prim.Native.Nat.{ℕ, zero, suc, _+_, _<_}
-use native.Mathlib.Nat.{add-zero, add-suc, suc-add, zero-add}
+use Prim.Native.Nat.{ℕ, _<_}
 use native.Mathlib.Omega.{arith}
-use lib.ListN.{length, getD}
 use lib.Dec.{eqb, leb}
 use Rattle.model.specs.declared.Party.{Party}
 use Rattle.model.specs.Sizes.{within}
@@ -15,7 +12,7 @@ use Rattle.model.specs.Outcome.{View, Outcome}
 use Rattle.model.specs.Memory.{Memory, partyAt, viewOf}
 use Rattle.model.specs.Book.{Book}
 use Rattle.model.specs.Steps.Dispatch.{hasStep, noStep, stepTable, stepOf}
-use Rattle.model.proofs.Laws.Lists.{and-both, or-either, leb-true, Numbered, _▸_}
+use Rattle.model.proofs.Laws.Lists.{and-both, or-either, leb-true, Numbered, numbered-below, _▸_}
 use Rattle.model.proofs.Invariant.Statement.{Inv, PartyOk, sceneOf, resting, working}
 use Rattle.model.proofs.Invariant.Turn.{Turn}
 use Rattle.model.proofs.Effects.Kept.{Kept}
@@ -89,11 +86,6 @@ module _ (m : Memory) (b : Book) (q : ℕ) where
   abbrev KeepsAt : ℕ → (View → Outcome) → Type 0
   KeepsAt n f = Turn m b q n → Kept m b q (f (viewOf m q))
 
-  kept-at : (n : ℕ) (fs : List (View → Outcome)) → Numbered KeepsAt n fs → (k : ℕ) → k < length fs → Turn m b q (n + k) → Kept m b q (getD fs k noStep (viewOf m q))
-  kept-at n [] a k l t = absurd (omega arith)
-  kept-at n (f ∷ fs) a zero l t = a .0 (subst (λ (j : ℕ). Turn m b q j) (add-zero n) t)
-  kept-at n (f ∷ fs) a (suc k) l t = kept-at (suc n) fs (a .1) k (omega arith) (subst (λ (j : ℕ). Turn m b q j) (add-suc n k ∙ sym (suc-add n k)) t)
-
   all-kept : Numbered KeepsAt 0 stepTable
   unfolding stepTable
   all-kept =
@@ -106,4 +98,4 @@ pub steps-kept : StepsKept
 unfolding stepOf stepTable
 steps-kept m b i q in-row has =
     let k = partyAt (m .parties) q .step in
-    kept-at m b q 0 stepTable (all-kept m b q) k (steps-last (partyAt (m .parties) q .operation) k has) (subst (λ (j : ℕ). Turn m b q j) (sym (zero-add k)) (turn-of m b i q in-row has))
+    numbered-below (KeepsAt m b q) noStep stepTable (all-kept m b q) k (steps-last (partyAt (m .parties) q .operation) k has) (turn-of m b i q in-row has)

@@ -1,4 +1,4 @@
--- From steps to calls and lists of calls: if every step keeps the invariant, so does every call, and the book agrees with every answer of a list.
+-- From steps and withdraws to calls and lists of calls: if every step keeps the invariant, so does every call, and the book agrees with every answer of a list.
 -- Main statements: StepsKept (what the lemmas of the thirty steps say together); record-sound (no common test of damage fails); call-kept; run-answers, run-inv (over whole lists).
 use mathlib.Core.Path.{_≡_, refl, sym, ap, _∙_, subst}
 use mathlib.Core.Logic.{_≢_}
@@ -17,29 +17,33 @@ use Rattle.model.specs.declared.StepAnswer.{StepAnswer}
 use Rattle.model.specs.declared.StepAnswer.the-variants as StepAnswer
 use Rattle.model.specs.declared.BeginAnswer.{BeginAnswer}
 use Rattle.model.specs.declared.BeginAnswer.the-variants as BeginAnswer
+use Rattle.model.specs.declared.WithdrawAnswer.{WithdrawAnswer}
+use Rattle.model.specs.declared.WithdrawAnswer.the-variants as WithdrawAnswer
 use Rattle.model.specs.Sizes.{withinLimits, lockWords, allPageWords}
 use Rattle.model.specs.Records.{idle, begun}
 use Rattle.model.specs.Answers.{operationNumber, refusalNumber, settingGiven}
 use Rattle.model.specs.Addresses.{span, chainCount}
 use Rattle.model.specs.Outcome.{damage}
-use Rattle.model.specs.Memory.{Memory, partyAt, viewOf}
+use Rattle.model.specs.Withdraw.{isDecided, withdrawn}
+use Rattle.model.specs.Memory.{Memory, partyAt, viewOf, afterStep}
 use Rattle.model.specs.Refusals.{lengthsFit, rootSound, partySound, recordSound}
-use Rattle.model.specs.Calls.{Called, called, stepped, stepCall, withBegun, beginCall}
-use Rattle.model.specs.Runs.{Call, beginFor, stepFor, Reply, toBegin, toStep, callerOf, replyTo, afterCall, eventOf, events, finalMemory}
-use Rattle.model.specs.Book.{Book, Entered, changedAt, enter, bookAfter, afterReply, afterBegin, agrees, agreesWith, bookAgrees, bookAtEnd}
+use Rattle.model.specs.Calls.{Called, called, stepped, stepCall, withBegun, beginCall, withdrawnFrom, withdrawCall}
+use Rattle.model.specs.Runs.{Call, beginFor, stepFor, withdrawFor, Reply, toBegin, toStep, toWithdraw, callerOf, replyTo, afterCall, eventOf, events, finalMemory}
+use Rattle.model.specs.Book.{Book, Entered, changedAt, enter, bookAfter, afterReply, afterBegin, afterWithdraw, agrees, agreesWith, bookAgrees, bookAtEnd}
 use Rattle.model.specs.Steps.Dispatch.{hasStep, stepOf}
-use Rattle.model.proofs.Laws.Lists.{Ord, lt, ge, ord, both-and, eqb-same, eqb-diff, le-leb, lt-ltb}
+use Rattle.model.proofs.Laws.Lists.{Told, holds, fails, tell, Ord, lt, ge, ord, both-and, eqb-same, eqb-diff, le-leb, lt-ltb}
 use Rattle.model.proofs.Invariant.Ghost.{nobody, oldOf, free, rootExtent, size}
 use Rattle.model.proofs.Invariant.Owners.{owns-nothing, kinds-apart}
-use Rattle.model.proofs.Invariant.Claims.{claims}
+use Rattle.model.specs.Claims.{claims}
 use Rattle.model.proofs.Invariant.LockMoves.{locks-stay}
 use Rattle.model.proofs.Effects.OwnRecord.{same-sizes, own-parts}
 use Rattle.model.proofs.Invariant.Facts.{no-pages-held}
 use Rattle.model.proofs.Invariant.Extents.{level-fits}
 use Rattle.model.proofs.Laws.Reading.{held-length}
-use Rattle.model.proofs.Theorems.RefusalOrder.{begin-order, step-order}
+use Rattle.model.proofs.Theorems.RefusalOrder.{begin-order, step-order, withdraw-order}
 use Rattle.model.proofs.Invariant.Statement.{Limits, restructures, uses, NoPages, Busy, PartyOk, resting, working, Inv, sceneOf}
 use Rattle.model.proofs.Effects.Kept.{Kept, extents-move, assemble}
+use Rattle.model.proofs.Steps.Withdraw.{WithdrawKept, withdraw-kept}
 
 -- Every step of a party under way is not refused, agrees with the book and keeps the invariant.
 abbrev pub StepsKept : Type 0
@@ -210,6 +214,8 @@ undamaged (toStep StepAnswer.Waiting) = true
 undamaged (toStep StepAnswer.Moved) = true
 undamaged (toStep (StepAnswer.Done a s)) = true
 undamaged (toStep (StepAnswer.Refused n)) = not (eqb n damage)
+undamaged (toWithdraw WithdrawAnswer.Withdrawn) = true
+undamaged (toWithdraw (WithdrawAnswer.Refused n)) = not (eqb n damage)
 
 allowed-undamaged : (a : StepAnswer) → refusalNumber a ≡ 0 → undamaged (toStep a) ≡ true
 unfolding refusalNumber undamaged
@@ -288,9 +294,50 @@ module _ (kept : StepsKept) (m : Memory) (b : Book) (i : Inv m b) where
           (begin-order m q o k .busy (within-limits (m .root) (i .limits)) (lengths-fit m b i) h (operation-some (e .operation) (partyAt (m .parties) q .operation) (c .same-operation)))
       go (resting e _ none _) = begun-ok q o k h e none (begin-order m q o k .none (within-limits (m .root) (i .limits)) (lengths-fit m b i) h (rw e refl))
 
+  -- ---- Withdraw
+
+  -- A withdraw refused for its party's number, because the party is idle, or because the decisive step is taken.
+  withdraw-refused-ok : (q n : ℕ) → eqb n 6 ≡ false → withdrawCall m q ≡ called (WithdrawAnswer.Refused n) m → CallOk m b (withdrawFor q)
+  unfolding replyTo afterCall bookAfter afterWithdraw agrees undamaged
+  withdraw-refused-ok q n h e = record {
+    right = refl;
+    sound = ap (λ (c : Called WithdrawAnswer). undamaged (toWithdraw (c .answer))) e ∙ ap not h;
+    inv = subst (λ (c : Called WithdrawAnswer). Inv (c .memory) (afterWithdraw b q (c .answer))) (sym e) i;
+  }
+
+  -- The operation is taken back, in the record and in the book.
+  withdrawn-ok : (q : ℕ) → WithdrawKept m b q → withdrawCall m q ≡ withdrawnFrom m q → CallOk m b (withdrawFor q)
+  unfolding replyTo afterCall bookAfter afterWithdraw agrees undamaged withdrawnFrom
+  withdrawn-ok q k e =
+      let now : withdrawCall m q ≡ called WithdrawAnswer.Withdrawn (afterStep m (withdrawn (viewOf m q) .after)) = e ∙ ap (λ (a : WithdrawAnswer). called a (afterStep m (withdrawn (viewOf m q) .after))) (k .accepted) in
+      record {
+        right = refl;
+        sound = ap (λ (c : Called WithdrawAnswer). undamaged (toWithdraw (c .answer))) now;
+        inv = subst (λ (c : Called WithdrawAnswer). Inv (c .memory) (afterWithdraw b q (c .answer))) (sym now) (k .inv);
+      }
+
+  withdraw-ok : (q : ℕ) → Ord q (m .root .parties) → CallOk m b (withdrawFor q)
+  withdraw-ok q (ge h t) = withdraw-refused-ok q 3 refl (withdraw-order m q .party (within-limits (m .root) (i .limits)) (lengths-fit m b i) h)
+  withdraw-ok q (lt h t) = go (i .parties-ok q h)
+    where
+      go : PartyOk (sceneOf m (i .ghost) b) q (partyAt (m .parties) q) → CallOk m b (withdrawFor q)
+      go (resting e _ _ _) = withdraw-refused-ok q 5 refl (withdraw-order m q .idle (within-limits (m .root) (i .limits)) (lengths-fit m b i) h (rw e refl))
+      go (working e k f) = by (tell (isDecided (partyAt (m .parties) q)))
+        where
+          some-operation : partyAt (m .parties) q .operation ≢ 0
+          some-operation = operation-some (e .operation) (partyAt (m .parties) q .operation) (k .same-operation)
+
+          by : Told (isDecided (partyAt (m .parties) q)) → CallOk m b (withdrawFor q)
+          by (holds d) = withdraw-refused-ok q 7 refl (withdraw-order m q .decided (within-limits (m .root) (i .limits)) (lengths-fit m b i) h some-operation d)
+          by (fails d) =
+              withdrawn-ok q (withdraw-kept (record { inv = i; in-row = h; is-at = refl; entered = e; busy = k; facts = f }) d)
+              (withdraw-order m q .none (within-limits (m .root) (i .limits)) (lengths-fit m b i) h some-operation d
+              (record-sound (m .root) (partyAt (m .parties) q) (root-sound m b i) (party-sound m b i q h (partyAt (m .parties) q) e k)))
+
   pub call-kept : (c : Call) → CallOk m b c
   call-kept (beginFor q o k) = begin-ok q o k (ord q (m .root .parties))
   call-kept (stepFor q) = step-ok q (ord q (m .root .parties))
+  call-kept (withdrawFor q) = withdraw-ok q (ord q (m .root .parties))
 
 -- ---- A list of calls
 

@@ -1,15 +1,17 @@
 -- Definitions that the demands could lose unseen, said once more in other words: parts of the book and of the link rule that only forbid, what steps and yardstick share, the record's words,
 -- and numbers of answers.
 -- Main statements: unentered-refused, unnoted-refused (the book); grown-owes, not-grown-owes-none, emptied-owes (what is owed); idle-zero, begun-zeroes, update-alone (a party's record); find-given,
--- insert-given, delete-given, found-carries, others-carry-none (settings); begin-number, format-number, restructurings-in-order (numbers of answers).
+-- insert-given, delete-given, found-carries, others-carry-none (settings); begin-number, format-number, withdraw-number, restructurings-in-order (numbers of answers);
+-- decided-find, decided-insert, decided-delete (the decisive step taken).
 use mathlib.Core.Path.{_≡_, refl, sym}
-use mathlib.Core.Bool.{true, false}
+use mathlib.Core.Logic.{_≢_}
+use mathlib.Core.Bool.{true, false, or-false}
 use mathlib.Core.List.{List, [], _∷_, _++_, map}
 use mathlib.Core.Option.{none}
 use Prim.Native.Nat.{ℕ, _≤_, _<_}
 use native.Mathlib.Omega.{arith}
 use lib.ListN.{length, replicate, set}
-use lib.Dec.{eqb}
+use lib.Dec.{eqb, leb}
 use borrow.Author.Tests.{ne-eqb, lt-ltb, le-ltb}
 use Rattle.model.specs.declared.Party.{Party}
 use Rattle.model.specs.declared.OperationAnswer.{OperationAnswer}
@@ -18,13 +20,14 @@ use Rattle.model.specs.declared.Operation.{Operation}
 use Rattle.model.specs.declared.Operation.the-variants as Operation
 use Rattle.model.specs.declared.Restructuring.the-variants as Restructuring
 use Rattle.model.specs.Records.{rootOfSizes, idle, begun, atStep, withLev, withChain, withOther, withOld, withOwed, withAnswer}
-use Rattle.model.specs.Answers.{answerOf, settingGiven, settingFound, restructuringNumber, beginRefusal, formatRefusal}
+use Rattle.model.specs.Answers.{answerOf, settingGiven, settingFound, restructuringNumber, beginRefusal, formatRefusal, withdrawRefusal}
 use Rattle.model.specs.declared.Entry.{Entry}
 use Rattle.model.specs.Entries.{isEmpty}
 use Rattle.model.specs.Steps.Rebuild.{splitOwed, mergeOwed}
 use Rattle.model.specs.Memory.{Memory}
-use Rattle.model.specs.Refusals.{firstCause, formatRows, beginRows}
-use Rattle.model.specs.Calls.{formatCall, beginCall}
+use Rattle.model.specs.Refusals.{firstCause, formatRows, beginRows, withdrawRows}
+use Rattle.model.specs.Withdraw.{isDecided}
+use Rattle.model.specs.Calls.{formatCall, beginCall, withdrawCall}
 use Rattle.model.specs.Book.{isNote, isNoteOf}
 use Rattle.model.proofs.Laws.Lists.{cond-ind, Cmp, same, diff, cmp, Numbered, _▸_}
 
@@ -109,6 +112,24 @@ format-number m n b p v q = go (cmp (firstCause (formatRows (rootOfSizes n b p v
     go : Cmp (firstCause (formatRows (rootOfSizes n b p v q) m)) 0 → formatRefusal (formatCall m n b p v q .answer) ≡ firstCause (formatRows (rootOfSizes n b p v q) m)
     go (same e) = rw e refl
     go (diff d) = rw (ne-eqb (firstCause (formatRows (rootOfSizes n b p v q) m)) 0 d) refl
+
+-- A withdraw that meets a row of the table has its number; one that meets none may still find damage of its own.
+pub withdraw-number : (m : Memory) (q : ℕ) → firstCause (withdrawRows m q) ≢ 0 → withdrawRefusal (withdrawCall m q .answer) ≡ firstCause (withdrawRows m q)
+unfolding withdrawCall withdrawRefusal
+withdraw-number m q d = rw (ne-eqb (firstCause (withdrawRows m q)) 0 d) refl
+
+-- The decisive step is taken: "a find at 9, a change at 12 or later".
+pub decided-find : (p : Party) → p .operation ≡ 1 → isDecided p ≡ eqb (p .step) 9
+unfolding isDecided
+decided-find p e = rw (e, or-false (eqb (p .step) 9)) refl
+
+pub decided-insert : (p : Party) → p .operation ≡ 2 → isDecided p ≡ leb 12 (p .step)
+unfolding isDecided
+decided-insert p e = rw e refl
+
+pub decided-delete : (p : Party) → p .operation ≡ 3 → isDecided p ≡ leb 12 (p .step)
+unfolding isDecided
+decided-delete p e = rw e refl
 
 -- The restructurings are numbered from 0, in this order.
 pub restructurings-in-order :

@@ -1,6 +1,6 @@
 -- The order of refusals: a call that meets two causes gets the earlier one, and leaves all lent memory (document 01, "Refused calls").
--- Main definitions: FormatOrder, BeginOrder, StepOrder, one for each call: each cause, where no earlier one is met, is the one returned.
--- Main statements: first-cause (of any rows), format-order, begin-order, step-order.
+-- Main definitions: FormatOrder, BeginOrder, StepOrder, WithdrawOrder, one for each call: each cause, where no earlier one is met, is the one returned.
+-- Main statements: first-cause (of any rows), format-order, begin-order, step-order, withdraw-order.
 use mathlib.Core.Path.{_≡_, refl, ap}
 use mathlib.Core.Logic.{_≢_}
 use mathlib.Core.Bool.{true, false, not}
@@ -16,11 +16,14 @@ use Rattle.model.specs.declared.BeginAnswer.{BeginAnswer}
 use Rattle.model.specs.declared.BeginAnswer.the-variants as BeginAnswer
 use Rattle.model.specs.declared.FormatAnswer.{FormatAnswer}
 use Rattle.model.specs.declared.FormatAnswer.the-variants as FormatAnswer
+use Rattle.model.specs.declared.WithdrawAnswer.{WithdrawAnswer}
+use Rattle.model.specs.declared.WithdrawAnswer.the-variants as WithdrawAnswer
 use Rattle.model.specs.Sizes.{withinLimits}
 use Rattle.model.specs.Records.{rootOfSizes}
 use Rattle.model.specs.Memory.{Memory, partyAt, formatted}
-use Rattle.model.specs.Refusals.{Row, firstCause, lengthsFit, recordSound, sizeRow, lengthRow, partyRow, busyRow, idleRow, damageRow, formatRows, beginRows, stepRows}
-use Rattle.model.specs.Calls.{called, formatCall, withBegun, beginCall, stepped, stepCall}
+use Rattle.model.specs.Refusals.{Row, firstCause, lengthsFit, recordSound, sizeRow, lengthRow, partyRow, busyRow, idleRow, decidedRow, damageRow, formatRows, beginRows, stepRows, withdrawRows}
+use Rattle.model.specs.Calls.{called, formatCall, withBegun, beginCall, stepped, stepCall, withdrawnFrom, withdrawCall}
+use Rattle.model.specs.Withdraw.{isDecided}
 use Rattle.model.proofs.Laws.Lists.{All}
 
 -- ---- Any rows
@@ -55,6 +58,10 @@ module _ (m : Memory) (cause : ℕ) (some : 0 < cause) where
   unfolding stepCall
   step-refused q e = rw (e, is-cause)
 
+  pub withdraw-refused : (q : ℕ) → firstCause (withdrawRows m q) ≡ cause → withdrawCall m q ≡ called (WithdrawAnswer.Refused cause) m
+  unfolding withdrawCall
+  withdraw-refused q e = rw (e, is-cause)
+
 module _ (m : Memory) where
   pub format-accepted : (n b p v q : ℕ) → firstCause (formatRows (rootOfSizes n b p v q) m) ≡ 0 → formatCall m n b p v q ≡ called FormatAnswer.Formatted (formatted (rootOfSizes n b p v q))
   unfolding formatCall
@@ -67,6 +74,10 @@ module _ (m : Memory) where
   pub step-accepted : (q : ℕ) → firstCause (stepRows m q) ≡ 0 → stepCall m q ≡ stepped m q
   unfolding stepCall
   step-accepted q e = rw e
+
+  pub withdraw-accepted : (q : ℕ) → firstCause (withdrawRows m q) ≡ 0 → withdrawCall m q ≡ withdrawnFrom m q
+  unfolding withdrawCall
+  withdraw-accepted q e = rw e
 
 -- ---- The order of each call
 
@@ -105,6 +116,25 @@ pub record StepOrder (m : Memory) (q : ℕ) : Type 0 where
   pub none :
       withinLimits (m .root) ≡ true → lengthsFit (m .root) m ≡ true → q < m .root .parties → partyAt (m .parties) q .operation ≢ 0
       → recordSound (m .root) (partyAt (m .parties) q) ≡ true → stepCall m q ≡ stepped m q
+
+-- Withdraw for party q; its own tests of damage come after these.
+pub record WithdrawOrder (m : Memory) (q : ℕ) : Type 0 where
+  pub sizes : withinLimits (m .root) ≡ false → withdrawCall m q ≡ called (WithdrawAnswer.Refused 2) m
+  pub lengths : withinLimits (m .root) ≡ true → lengthsFit (m .root) m ≡ false → withdrawCall m q ≡ called (WithdrawAnswer.Refused 1) m
+  pub party : withinLimits (m .root) ≡ true → lengthsFit (m .root) m ≡ true → m .root .parties ≤ q → withdrawCall m q ≡ called (WithdrawAnswer.Refused 3) m
+  pub idle :
+      withinLimits (m .root) ≡ true → lengthsFit (m .root) m ≡ true → q < m .root .parties → partyAt (m .parties) q .operation ≡ 0
+      → withdrawCall m q ≡ called (WithdrawAnswer.Refused 5) m
+  pub decided :
+      withinLimits (m .root) ≡ true → lengthsFit (m .root) m ≡ true → q < m .root .parties → partyAt (m .parties) q .operation ≢ 0
+      → isDecided (partyAt (m .parties) q) ≡ true → withdrawCall m q ≡ called (WithdrawAnswer.Refused 7) m
+  pub damaged :
+      withinLimits (m .root) ≡ true → lengthsFit (m .root) m ≡ true → q < m .root .parties → partyAt (m .parties) q .operation ≢ 0
+      → isDecided (partyAt (m .parties) q) ≡ false → recordSound (m .root) (partyAt (m .parties) q) ≡ false
+      → withdrawCall m q ≡ called (WithdrawAnswer.Refused 6) m
+  pub none :
+      withinLimits (m .root) ≡ true → lengthsFit (m .root) m ≡ true → q < m .root .parties → partyAt (m .parties) q .operation ≢ 0
+      → isDecided (partyAt (m .parties) q) ≡ false → recordSound (m .root) (partyAt (m .parties) q) ≡ true → withdrawCall m q ≡ withdrawnFrom m q
 
 pub format-order : (m : Memory) (n b p v q : ℕ) → FormatOrder m n b p v q
 unfolding formatRows
@@ -162,4 +192,33 @@ step-order m q =
       none = λ s l h i d. step-accepted m q
           (no-cause (size ∷ (lens ∷ (who ∷ (idle ∷ (harm ∷ [])))))
           (ap not s, (ap not l, (lt-leb (r .parties) q h, (ne-eqb (x .operation) 0 i, (ap not d, tt))))));
+    }
+
+pub withdraw-order : (m : Memory) (q : ℕ) → WithdrawOrder m q
+unfolding withdrawRows
+withdraw-order m q =
+    let r = m .root in
+    let x = partyAt (m .parties) q in
+    let size = sizeRow r in
+    let lens = lengthRow r m in
+    let who = partyRow r q in
+    let idle = idleRow x in
+    let late = decidedRow x in
+    let harm = damageRow r x in
+    record {
+      sizes = λ e. withdraw-refused m 2 (omega arith) q (first-cause [] size _ tt (ap not e));
+      lengths = λ s e. withdraw-refused m 1 (omega arith) q (first-cause (size ∷ []) lens _ (ap not s, tt) (ap not e));
+      party = λ s l h. withdraw-refused m 3 (omega arith) q
+          (first-cause (size ∷ (lens ∷ [])) who _ (ap not s, (ap not l, tt)) (le-leb (r .parties) q h));
+      idle = λ s l h i. withdraw-refused m 5 (omega arith) q
+          (first-cause (size ∷ (lens ∷ (who ∷ []))) idle _ (ap not s, (ap not l, (lt-leb (r .parties) q h, tt))) (eq-eqb (x .operation) 0 i));
+      decided = λ s l h i d. withdraw-refused m 7 (omega arith) q
+          (first-cause (size ∷ (lens ∷ (who ∷ (idle ∷ [])))) late _
+          (ap not s, (ap not l, (lt-leb (r .parties) q h, (ne-eqb (x .operation) 0 i, tt)))) d);
+      damaged = λ s l h i d e. withdraw-refused m 6 (omega arith) q
+          (first-cause (size ∷ (lens ∷ (who ∷ (idle ∷ (late ∷ []))))) harm _
+          (ap not s, (ap not l, (lt-leb (r .parties) q h, (ne-eqb (x .operation) 0 i, (d, tt))))) (ap not e));
+      none = λ s l h i d e. withdraw-accepted m q
+          (no-cause (size ∷ (lens ∷ (who ∷ (idle ∷ (late ∷ (harm ∷ []))))))
+          (ap not s, (ap not l, (lt-leb (r .parties) q h, (ne-eqb (x .operation) 0 i, (d, (ap not e, tt)))))));
     }

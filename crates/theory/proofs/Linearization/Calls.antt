@@ -1,5 +1,5 @@
 -- Every call, under the invariant, is a turn; so every list of calls has an order.
--- Main statements: step-turn (a call of step), begin-turn (a begin), call-turn; run-suffix (a list of calls).
+-- Main statements: step-turn (a call of step), begin-turn (a begin), withdraw-turn (a withdraw), call-turn; run-suffix (a list of calls).
 use mathlib.Core.Path.{_≡_, refl, sym, ap, _∙_, subst}
 use mathlib.Core.Logic.{_≢_}
 use mathlib.Core.Bool.{Bool, true, false, cond, false≢true}
@@ -18,6 +18,8 @@ use Rattle.model.specs.declared.StepAnswer.{StepAnswer}
 use Rattle.model.specs.declared.StepAnswer.the-variants as StepAnswer
 use Rattle.model.specs.declared.BeginAnswer.{BeginAnswer}
 use Rattle.model.specs.declared.BeginAnswer.the-variants as BeginAnswer
+use Rattle.model.specs.declared.WithdrawAnswer.{WithdrawAnswer}
+use Rattle.model.specs.declared.WithdrawAnswer.the-variants as WithdrawAnswer
 use Rattle.model.specs.Records.{idle, begun, atStep}
 use Rattle.model.specs.Answers.{operationNumber, answerNumber, answerOf, performs, settingGiven}
 use Rattle.model.specs.declared.Entry.{Entry}
@@ -29,20 +31,23 @@ use Rattle.model.specs.Steps.Rebuild.{kept, changed, changeOf}
 use Rattle.model.specs.Steps.Write.{isChange, step11}
 use Rattle.model.specs.Steps.Dispatch.{hasStep, stepTable, stepOf}
 use Rattle.model.specs.Memory.{Memory, partyAt, viewOf, afterStep}
-use Rattle.model.specs.Calls.{Called, called, stepped, stepCall, withBegun, beginCall}
-use Rattle.model.specs.Runs.{Call, beginFor, stepFor, callerOf, toBegin, replyTo, afterCall, eventOf, events, finalMemory}
-use Rattle.model.specs.Book.{Book, Entered, isIn, noted, noteAtEleven, enter, noteFor, afterReply, afterBegin, bookAfter, bookAtEnd, agreesWith}
-use Rattle.theory.specs.Linearization.{entering, answerTo, stepMarks, marks, isBehind, isDecided}
+use Rattle.model.specs.Calls.{Called, called, stepped, stepCall, withBegun, beginCall, withdrawCall}
+use Rattle.model.specs.Runs.{Call, beginFor, stepFor, withdrawFor, callerOf, toBegin, toWithdraw, replyTo, afterCall, eventOf, events, finalMemory}
+use Rattle.model.specs.Book.{Book, Entered, isIn, noted, noteAtEleven, withEntry, enter, noteFor, afterReply, afterBegin, afterWithdraw, bookAfter, bookAtEnd, agreesWith}
+use Rattle.theory.specs.Linearization.{entering, endIn, endTo, stepMarks, marks}
+use Rattle.model.specs.Withdraw.{isDecided}
 use Rattle.model.proofs.Laws.Lists.{Ord, lt, ge, ord}
 use Rattle.model.proofs.Invariant.Statement.{Written, unchanged, made-change, Busy, PartyOk, resting, working, Inv, sceneOf}
 use Rattle.model.proofs.Invariant.Facts.{At, facts-at, changed-here, changed-elsewhere}
 use Rattle.model.proofs.Theorems.RefusalOrder.{begin-order, step-order}
 use Rattle.model.proofs.Theorems.Calls.{within-limits, operation-some, record-sound, lengths-fit, root-sound, party-sound, call-kept}
 use Rattle.model.proofs.Theorems.AllSteps.{steps-kept}
+use Rattle.model.proofs.Steps.Withdraw.{leftBy}
 use Rattle.theory.proofs.Alters.{nothing-altered}
-use Rattle.theory.proofs.Linearization.Ordering.{looking, Begun, Suffix, nothing-left}
-use Rattle.theory.proofs.Linearization.Leads.{Passage, searches, at-six, at-ten, at-eleven, goes-on, Leads, stays, moves, ends, step-leads}
-use Rattle.theory.proofs.Linearization.Turns.{Turn, still, begins, turn-on}
+use Rattle.theory.proofs.Withdraws.{WithdrawTested, turned-away, let-through, withdraw-tested, withdrawn-not-refused, WithdrawMet, stranger, unbegun, too-late, taken-back, withdraw-meets}
+use Rattle.theory.proofs.Linearization.Ordering.{away, looking, unwithdrawn, Begun, Suffix, nothing-left}
+use Rattle.theory.proofs.Linearization.Leads.{isBehind, isPast, past-decided, Passage, searches, at-six, at-ten, at-eleven, goes-on, Leads, stays, moves, ends, step-leads}
+use Rattle.theory.proofs.Linearization.Turns.{Turn, still, begins, withdraws, turn-on}
 use Rattle.theory.proofs.Linearization.Notes.{mapOf, after-eleven}
 use Rattle.theory.proofs.Linearization.StepTurns.{noteOr, statusBy, statusOf, own-record, states-then, StepTurn, waits-turn, searches-turn, goes-on-turn, done-turn, six-turn, ten-turn, eleven-turn}
 
@@ -211,7 +216,7 @@ BeginTurn m b q o k x =
 
 module _ (m : Memory) (b : Book) (i : Inv m b) (q : ℕ) (o : Operation) (k : ℕ) where
   begin-refused-turn : (n : ℕ) → beginCall m q o k ≡ called (BeginAnswer.Refused n) m → BeginTurn m b q o k (beginCall m q o k)
-  unfolding afterBegin entering answerTo marks stepMarks
+  unfolding afterBegin entering endTo marks stepMarks
   begin-refused-turn n x = subst (BeginTurn m b q o k) (sym x) (still (λ j es rest. refl) (λ p. refl) (λ p u l a h. refl) refl refl)
 
   abbrev viewThen : View
@@ -223,7 +228,7 @@ module _ (m : Memory) (b : Book) (i : Inv m b) (q : ℕ) (o : Operation) (k : �
       subst (BeginTurn m b q o k) (sym x)
       (begins q o k (partyAt (m .parties) q .step) refl (rw was refl)
       (states-then m b i q in-row viewThen refl (enter b q o k) (looking o k) (λ p d. changed-elsewhere (b .entries) q _ p d)
-      (ap (λ (y : Option Entered). statusBy y (isDecided (viewThen .party))) (changed-here (b .entries) q _ q refl)))
+      (ap (λ (y : Option Entered). statusBy y (isPast (viewThen .party))) (changed-here (b .entries) q _ q refl)))
       refl)
 
   pub begin-turn : BeginTurn m b q o k (beginCall m q o k)
@@ -239,6 +244,41 @@ module _ (m : Memory) (b : Book) (i : Inv m b) (q : ℕ) (o : Operation) (k : �
       go (ge h t) = begin-refused-turn 3 (begin-order m q o k .party (within-limits (m .root) (i .limits)) (lengths-fit m b i) h)
       go (lt h t) = inside h (i .parties-ok q h)
 
+-- ---- A withdraw
+
+-- A withdraw with this answer and memory is a turn.
+abbrev pub WithdrawTurn : Memory → Book → ℕ → Called WithdrawAnswer → Type 0
+WithdrawTurn m b q x =
+    Turn (statusOf m b) (mapOf b) (record { call = withdrawFor q; number = partyAt (m .parties) q .step; reply = toWithdraw (x .answer) })
+    (statusOf (x .memory) (afterWithdraw b q (x .answer))) (mapOf (afterWithdraw b q (x .answer)))
+
+module _ (m : Memory) (b : Book) (i : Inv m b) (q : ℕ) where
+  withdraw-refused-turn : (n : ℕ) → withdrawCall m q ≡ called (WithdrawAnswer.Refused n) m → WithdrawTurn m b q (withdrawCall m q)
+  unfolding afterWithdraw entering endIn marks stepMarks
+  withdraw-refused-turn n x =
+      subst (WithdrawTurn m b q) (sym x) (still (λ j es rest. refl) (λ p. unwithdrawn q p (toWithdraw (WithdrawAnswer.Refused n)) refl) (λ p u l a h. refl) refl refl)
+
+  withdrawn-turn : q < m .root .parties → (e : Entered) → Busy (sceneOf m (i .ghost) b) q (partyAt (m .parties) q) e → isDecided (partyAt (m .parties) q) ≡ false
+      → withdrawCall m q .answer ≡ WithdrawAnswer.Withdrawn → WithdrawTested m q → WithdrawTurn m b q (withdrawCall m q)
+  unfolding afterWithdraw statusOf
+  withdrawn-turn in-row e k d a (turned-away n x) = absurd (withdrawn-not-refused n (sym a ∙ ap (λ (c : Called WithdrawAnswer). c .answer) x))
+  withdrawn-turn in-row e k d a (let-through xs _ _ _ _ x) =
+      let past = past-decided (partyAt (m .parties) q) (k .step-fits) ∙ d in
+      subst (WithdrawTurn m b q) (sym x)
+      (withdraws q (e .operation) (e .key) (partyAt (m .parties) q .step) refl (rw (k .entry, past) refl)
+      (states-then m b i q in-row (leftBy (viewOf m q) xs) refl (withEntry b q none) away (λ p n. changed-elsewhere (b .entries) q none p n)
+      (ap (λ (y : Option Entered). statusBy y (isPast idle)) (changed-here (b .entries) q none q refl)))
+      refl)
+
+  pub withdraw-turn : WithdrawTurn m b q (withdrawCall m q)
+  withdraw-turn = go (withdraw-meets m b i q)
+    where
+      go : WithdrawMet m b i q → WithdrawTurn m b q (withdrawCall m q)
+      go (stranger h n e) = withdraw-refused-turn 3 e
+      go (unbegun h n e) = withdraw-refused-turn 5 e
+      go (too-late h e k d c) = withdraw-refused-turn 7 c
+      go (taken-back h e k t d a) = withdrawn-turn h e k d a (withdraw-tested m q)
+
 -- ---- A list of calls
 
 pub call-turn : (m : Memory) (b : Book) → Inv m b → (c : Call)
@@ -247,6 +287,7 @@ pub call-turn : (m : Memory) (b : Book) → Inv m b → (c : Call)
 unfolding eventOf replyTo afterCall bookAfter
 call-turn m b i (beginFor q o k) = begin-turn m b i q o k
 call-turn m b i (stepFor q) = step-turn m b i q
+call-turn m b i (withdrawFor q) = withdraw-turn m b i q
 
 pub run-suffix : (m : Memory) (b : Book) → Inv m b → (cs : List Call) (n : ℕ) (begun : ℕ → ℕ) → Begun n begun (statusOf m b)
     → Suffix n begun (statusOf m b) (mapOf b) (events m cs) (statusOf (finalMemory m cs) (bookAtEnd b (events m cs))) (mapOf (bookAtEnd b (events m cs)))

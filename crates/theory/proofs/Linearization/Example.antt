@@ -1,7 +1,8 @@
--- A run of 27 calls with its linearization, worked out by the checker: one chain, one record a page, two parties.
+-- A run of 28 calls with its linearization, worked out by the checker: one chain, one record a page, two parties.
 -- Party 0 inserts 5 with setting 9. A find of party 1 looks at the chain before the insert writes it, and answers absent after that; the
--- next find answers found with 9, while the insert is still under way. Then party 1 begins a delete.
--- In the order the first find stands before the insert, though it begins later, and is answered after the insert took effect.
+-- next find answers found with 9, while the insert is still under way. Then party 1 begins a delete and withdraws it.
+-- In the order the first find stands before the insert, though it begins later, and is answered after the insert took effect; the delete
+-- stands nowhere.
 -- Main statements: its-events, its-operations, its-effects, its-order, its-map, its-times (each by computing); other-setting,
 -- order-of-begins (another setting found and the order of the begins are refused).
 use mathlib.Core.Path.{_≡_, refl}
@@ -15,20 +16,23 @@ use Rattle.model.specs.declared.OperationAnswer.the-variants as OperationAnswer
 use Rattle.model.specs.declared.Restructuring.the-variants as Restructuring
 use Rattle.model.specs.declared.StepAnswer.the-variants as StepAnswer
 use Rattle.model.specs.declared.BeginAnswer.the-variants as BeginAnswer
+use Rattle.model.specs.declared.WithdrawAnswer.the-variants as WithdrawAnswer
 use Rattle.model.specs.Addresses.{addressLevel, addressOf, chainCount, hash, hashed, span}
 use Rattle.model.specs.Answers.{answerNumber, operationNumber, settingGiven, foundOrAbsent, sameAnswer, settingFound}
 use Rattle.model.specs.Book.{changedAt}
-use Rattle.model.specs.Calls.{beginCall, stepCall, stepped, withBegun}
+use Rattle.model.specs.Calls.{beginCall, stepCall, stepped, withBegun, withdrawCall, withdrawnFrom}
+use Rattle.model.specs.Claims.{claims}
+use Rattle.model.specs.Withdraw.{builtPages, isDecided, takenBack, takenBackSoundly, withdrawn}
 use Rattle.model.specs.Chains.{ascendingChain, chainOf, entriesOn, listFrom, overflowFrom, readChain}
 use Rattle.model.specs.Entries.{ascending, belowFirst, hasKey, insertedInto, isEmpty, removedFrom, settingIn}
 use Rattle.model.specs.Filling.{filled, overflowNeeded, overflowWritten, pagesFor, primaryOf}
-use Rattle.model.specs.FreeList.{alsoTaken, isAmong, pagesTaken, takenFrom, tooFew, rootAfterTaking}
+use Rattle.model.specs.FreeList.{alsoTaken, isAmong, pagesTaken, takenFrom, tooFew, rootAfterTaking, givenBack, pagesGivenBack, roomToGiveBack}
 use Rattle.model.specs.LockWords.{fieldOf, grantedWord, holds, permits, releasedWord, withField}
 use Rattle.model.specs.Memory.{formatted, formattedPages, formattedRoot, freePages}
 use Rattle.model.specs.LockRequests.{givenUp, heldAll, isGranted, isHeld, request, withHold, withoutHold, modeOf, release}
 use Rattle.model.specs.Pages.{countOf, entriesOf, filledPage, freePage, levelOf, linkOf, linkSound, linkToFirst, namesOverflow, pageOf, pageSound, withPage, zeroPage, wordsOf, recordsIn}
-use Rattle.model.specs.Refusals.{beginRows, firstCause, lengthsFit, partySound, recordSound, rootSound, stepRows}
-use Rattle.model.specs.Runs.{afterCall, eventOf, events, finalMemory, replyTo, Call, beginFor, stepFor, Reply, toBegin, toStep, Event}
+use Rattle.model.specs.Refusals.{beginRows, firstCause, lengthsFit, partySound, recordSound, rootSound, stepRows, withdrawRows}
+use Rattle.model.specs.Runs.{afterCall, eventOf, events, finalMemory, replyTo, Call, beginFor, stepFor, withdrawFor, Reply, toBegin, toStep, toWithdraw, Event}
 use Rattle.model.specs.Sizes.{withinLimits}
 use Rattle.model.specs.Records.{rootOfSizes}
 use Rattle.model.specs.Steps.Rebuild.{changeOf, changesNothing, changing, mergeOwed, owedBy, rebuildWith, rebuilt, splitOwed, step10}
@@ -40,7 +44,7 @@ use Rattle.model.specs.Steps.Chase.{arrived, chase, chaseOf, chasing, step06}
 use Rattle.model.specs.Steps.Locate.{located, step01, step02, step03, step04, step05}
 use Rattle.theory.specs.PlainMap.{emptyMap, plainAnswer, keptOr, plainAfter, mayLackPages, isNoPage, answersAsMap, mapLeftBy}
 use Rattle.theory.specs.Demands.{Sizes, start, Reached}
-use Rattle.theory.specs.Linearization.{Operated, Answered, answerIn, answerTo, orLater, firstAnswer, entering, operationsFrom, operationsOf, isBehind, hasTakenEffect, Linearized, ascendingFrom, timesIn, answersInOrder, mapAfter}
+use Rattle.theory.specs.Linearization.{Operated, Ended, endIn, endTo, orLater, firstEnd, entering, operationsFrom, operationsOf, hasTakenEffect, Linearized, ascendingFrom, timesIn, answersInOrder, mapAfter}
 
 -- ---- The run
 
@@ -84,6 +88,7 @@ transcript =
     ∷ happened (stepFor 1) 9 (toStep (StepAnswer.Done (OperationAnswer.Found 9) Restructuring.None))
     ∷ happened (beginFor 1 Operation.Delete 5) 0 (toBegin BeginAnswer.Begun)
     ∷ happened (stepFor 1) 1 (toStep StepAnswer.Moved)
+    ∷ happened (withdrawFor 1) 2 (toWithdraw WithdrawAnswer.Withdrawn)
     ∷ []
 
 abbrev callsOf : List Event → List Call
@@ -95,7 +100,7 @@ calls = callsOf transcript
 
 -- Every definition that the run takes.
 opened : ℕ
-unfolding addressLevel addressOf chainCount hash hashed span answerNumber operationNumber settingGiven foundOrAbsent changedAt beginCall stepCall stepped withBegun ascendingChain chainOf entriesOn listFrom overflowFrom readChain ascending belowFirst hasKey settingIn insertedInto isEmpty removedFrom filled overflowNeeded overflowWritten pagesFor primaryOf alsoTaken isAmong pagesTaken takenFrom tooFew fieldOf grantedWord holds permits releasedWord withField formatted formattedPages formattedRoot freePages givenUp heldAll isGranted isHeld request withHold withoutHold countOf recordsIn entriesOf wordsOf filledPage freePage levelOf linkOf linkSound linkToFirst namesOverflow pageOf pageSound withPage zeroPage beginRows firstCause lengthsFit partySound recordSound rootSound stepRows afterCall eventOf events finalMemory replyTo withinLimits changeOf changesNothing changing isChange mergeOwed owedBy primaryWritten rebuildWith rebuilt rootAfterTaking splitOwed step10 step11 hasStep stepOf stepTable answered lookedOn step09 arrived chase chaseOf chasing located modeOf release step01 step02 step03 step04 step05 step06 hasTakenEffect isBehind
+unfolding addressLevel addressOf chainCount hash hashed span answerNumber operationNumber settingGiven foundOrAbsent changedAt beginCall stepCall stepped withBegun ascendingChain chainOf entriesOn listFrom overflowFrom readChain ascending belowFirst hasKey settingIn insertedInto isEmpty removedFrom filled overflowNeeded overflowWritten pagesFor primaryOf alsoTaken isAmong pagesTaken takenFrom tooFew fieldOf grantedWord holds permits releasedWord withField formatted formattedPages formattedRoot freePages givenUp heldAll isGranted isHeld request withHold withoutHold countOf recordsIn entriesOf wordsOf filledPage freePage levelOf linkOf linkSound linkToFirst namesOverflow pageOf pageSound withPage zeroPage beginRows firstCause lengthsFit partySound recordSound rootSound stepRows afterCall eventOf events finalMemory replyTo withinLimits changeOf changesNothing changing isChange mergeOwed owedBy primaryWritten rebuildWith rebuilt rootAfterTaking splitOwed step10 step11 hasStep stepOf stepTable answered lookedOn step09 arrived chase chaseOf chasing located modeOf release step01 step02 step03 step04 step05 step06 hasTakenEffect isDecided claims builtPages takenBack takenBackSoundly withdrawn withdrawRows withdrawnFrom withdrawCall givenBack pagesGivenBack roomToGiveBack
 opened = 0
 
 its-events : events (start sizes) calls ≡ transcript
@@ -104,23 +109,23 @@ its-events = refl
 
 -- ---- Its operations
 
-abbrev answeredAt : ℕ → OperationAnswer → Answered
-answeredAt n a = record { call = n; answer = a }
+abbrev answeredAt : ℕ → OperationAnswer → Ended
+answeredAt n a = record { call = n; answer = some a }
 
 abbrev insert-of-zero : Operated
-insert-of-zero = record { begun = 1; party = 0; operation = Operation.Insert 9; key = 5; answered = none }
+insert-of-zero = record { begun = 1; party = 0; operation = Operation.Insert 9; key = 5; ended = none }
 
 abbrev first-find : Operated
-first-find = record { begun = 2; party = 1; operation = Operation.Find; key = 5; answered = some (answeredAt 17 OperationAnswer.Absent) }
+first-find = record { begun = 2; party = 1; operation = Operation.Find; key = 5; ended = some (answeredAt 17 OperationAnswer.Absent) }
 
 abbrev second-find : Operated
-second-find = record { begun = 18; party = 1; operation = Operation.Find; key = 5; answered = some (answeredAt 25 (OperationAnswer.Found 9)) }
+second-find = record { begun = 18; party = 1; operation = Operation.Find; key = 5; ended = some (answeredAt 25 (OperationAnswer.Found 9)) }
 
 abbrev delete-of-one : Operated
-delete-of-one = record { begun = 26; party = 1; operation = Operation.Delete; key = 5; answered = none }
+delete-of-one = record { begun = 26; party = 1; operation = Operation.Delete; key = 5; ended = some (record { call = 28; answer = none }) }
 
 its-operations : operationsOf transcript ≡ insert-of-zero ∷ first-find ∷ second-find ∷ delete-of-one ∷ []
-unfolding operationsFrom entering firstAnswer orLater answerTo answerIn
+unfolding operationsFrom entering firstEnd orLater endTo endIn
 its-operations = refl
 
 -- All but the delete have taken effect.

@@ -1,8 +1,8 @@
 -- Where each of the thirty steps leads, by step numbers alone: before the decisive step, at it, or behind it.
--- Main statements: Passage (from one number to the next), Leads (what an outcome does), step-leads (every step number).
-use mathlib.Core.Path.{_≡_, refl, ap}
-use mathlib.Core.Logic.{_≢_}
-use mathlib.Core.Bool.{Bool, true, false, cond, not, _&&_}
+-- Main statements: isBehind, past-decided (behind the decisive step); Passage (from one number to the next), Leads (what an outcome does), step-leads (every step number).
+use mathlib.Core.Path.{_≡_, refl, sym, ap, _∙_}
+use mathlib.Core.Logic.{_≢_, _⊎_, inl, inr}
+use mathlib.Core.Bool.{Bool, true, false, cond, not, _&&_, _||_}
 use mathlib.Core.List.{List, [], _∷_}
 use Prim.Native.Nat.{ℕ}
 use native.Mathlib.Omega.{arith}
@@ -37,11 +37,39 @@ use Rattle.model.specs.Steps.SplitWrite.{step18, step20, step21}
 use Rattle.model.specs.Steps.MergeBuild.{Pair, pairOf, joinedEntries, mergeGoes, combined, combineWith, step26}
 use Rattle.model.specs.Steps.MergeLocks.{mergeStops, merging, step23, step24, step25, step30}
 use Rattle.model.specs.Steps.MergeWrite.{mergedAway, partnerCleared, step27, step28, step29}
-use Rattle.model.specs.Steps.Dispatch.{noStep, stepTable, stepOf}
+use Rattle.model.specs.Steps.Dispatch.{hasStep, noStep, stepTable, stepOf}
+use Rattle.model.specs.Withdraw.{isDecided}
 use Rattle.model.specs.Answers.{performs, foundOrAbsent}
-use Rattle.theory.specs.Linearization.{isBehind}
-use Rattle.model.proofs.Laws.Lists.{cond-ind, eqb-true, Numbered, numbered-at, _▸_}
+use Rattle.model.proofs.Laws.Lists.{Told, holds, fails, tell, and-both, or-either, left-or, right-or, neither-or, lt-leb, cond-ind, eqb-true, eqb-diff, Numbered, numbered-at, _▸_}
 use Rattle.model.proofs.Effects.GiveUps.{given-up-rest}
+use Rattle.model.proofs.Steps.Withdraw.{undecided-early}
+
+-- Whether a step number is behind the decisive step: a 6 leads to 9 where it is a find's last, a 10 to 12 where nothing
+-- changes and else to 11, an 11 to 12; from 9 a find stays there or is done, and from 12 on all numbers are 12 or above.
+unfoldable pub isBehind : ℕ → Bool
+isBehind k = eqb k 9 || leb 12 k
+
+-- Whether a party's record has such a number.
+abbrev pub isPast : Party → Bool
+isPast p = isBehind (p .step)
+
+-- Of a record that has a step of its operation this is whether its decisive step is taken.
+pub past-decided : (p : Party) → hasStep (p .operation) (p .step) ≡ true → isPast p ≡ isDecided p
+unfolding isBehind isDecided
+past-decided p has = go (tell (isDecided p))
+  where
+    k : ℕ
+    k = p .step
+
+    late : ((eqb (p .operation) 1 && eqb k 9) ≡ true) ⊎ (((eqb (p .operation) 2 || eqb (p .operation) 3) && leb 12 k) ≡ true) → (eqb k 9 || leb 12 k) ≡ true
+    late (inl x) = left-or (leb 12 k) (and-both (eqb (p .operation) 1) (eqb k 9) x .1)
+    late (inr x) = right-or (eqb k 9) (and-both (eqb (p .operation) 2 || eqb (p .operation) 3) (leb 12 k) x .1)
+
+    go : Told (isDecided p) → isPast p ≡ isDecided p
+    go (holds d) = late (or-either (eqb (p .operation) 1 && eqb k 9) ((eqb (p .operation) 2 || eqb (p .operation) 3) && leb 12 k) d) ∙ sym d
+    go (fails d) =
+        let e = undecided-early p has d in
+        neither-or (eqb-diff k 9 (e .1)) (lt-leb 12 k (e .0)) ∙ sym d
 
 -- From step number k of an operation to step number n.
 pub data Passage (operation k n : ℕ) : Type 0 where

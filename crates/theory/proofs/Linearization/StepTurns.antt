@@ -26,12 +26,13 @@ use Rattle.model.specs.Memory.{Memory, partyAt, afterStep}
 use Rattle.model.specs.Calls.{Called, called}
 use Rattle.model.specs.Runs.{stepFor, toStep}
 use Rattle.model.specs.Book.{Book, Entered, isIn, changedAt, withEntry, withContent, noted, noteAtTen, noteAtEleven, contentAtEleven, noteFor, afterReply, agreesWith, isNoteOf}
-use Rattle.theory.specs.Linearization.{entering, answerIn, decisiveStep, stepMarks, marks, isBehind, isDecided}
+use Rattle.theory.specs.Linearization.{entering, endIn, decisiveStep, stepMarks, marks}
 use Rattle.model.proofs.Laws.Lists.{Cmp, same, diff, cmp, eqb-diff, neither-or, left-fails, right-fails}
 use Rattle.model.proofs.Invariant.Statement.{Inv}
 use Rattle.model.proofs.Invariant.Facts.{still-noted, changed-here, changed-elsewhere}
 use Rattle.model.proofs.Effects.Kept.{row-same, row-other}
-use Rattle.theory.proofs.Linearization.Ordering.{Status, away, looking, fixed, fixed-not-looking, unanswered, mark-elsewhere}
+use Rattle.theory.proofs.Linearization.Ordering.{Status, away, looking, fixed, fixed-not-looking, unended, mark-elsewhere}
+use Rattle.theory.proofs.Linearization.Leads.{isBehind, isPast}
 use Rattle.theory.proofs.Linearization.Turns.{Turn, still, decides, ends}
 use Rattle.theory.proofs.Linearization.Notes.{mapOf, six-plain, six-left, ten-plain, ten-left, ten-decides, eleven-plain, eleven-left, eleven-decides, noted-elsewhere, noted-contents, noted-own, after-six, after-ten, after-eleven, note-is-answer}
 
@@ -50,7 +51,7 @@ statusBy (some e) false = looking (e .operation) (e .key)
 
 -- What party q is doing, by the memory and the book.
 unfoldable pub statusOf : Memory → Book → ℕ → Status
-statusOf m b q = statusBy (b .entries q) (isDecided (partyAt (m .parties) q))
+statusOf m b q = statusBy (b .entries q) (isPast (partyAt (m .parties) q))
 
 -- A state put back is no change.
 changed-back : (st : ℕ → Status) (q : ℕ) (t : Status) → st q ≡ t → changedAt st q t ≡ st
@@ -91,9 +92,9 @@ unfolding stepMarks
 unmarked-number q p number a h = right-fails (eqb q p && performs a) h
 
 pub waits-turn : (m : Memory) (b : Book) (q : ℕ) (a : StepAnswer) → performs a ≡ false → StepTurn m b q (called a m)
-unfolding performs afterReply entering answerIn marks
-waits-turn m b q StepAnswer.Waiting h = still (λ n es rest. refl) (λ p. unanswered q p _ refl) (λ p o k a _. unmarked-call q p _ StepAnswer.Waiting refl) refl refl
-waits-turn m b q (StepAnswer.Refused n) h = still (λ n es rest. refl) (λ p. unanswered q p _ refl) (λ p o k a _. unmarked-call q p _ (StepAnswer.Refused n) refl) refl refl
+unfolding performs afterReply entering endIn marks
+waits-turn m b q StepAnswer.Waiting h = still (λ n es rest. refl) (λ p. unended q p _ refl) (λ p o k a _. unmarked-call q p _ StepAnswer.Waiting refl) refl refl
+waits-turn m b q (StepAnswer.Refused n) h = still (λ n es rest. refl) (λ p. unended q p _ refl) (λ p o k a _. unmarked-call q p _ (StepAnswer.Refused n) refl) refl refl
 waits-turn m b q StepAnswer.Moved h = absurd (false≢true (sym h))
 waits-turn m b q (StepAnswer.Done a r) h = absurd (false≢true (sym h))
 
@@ -109,16 +110,16 @@ module _ (m : Memory) (b : Book) (i : Inv m b) (q : ℕ) (in-row : q < m .root .
   other-record p d = ap (λ (j : ℕ). partyAt (set (m .parties) j (v .party)) p) number= ∙ row-other (m .parties) q p (v .party) d
 
   -- What the parties are doing then, the book being c.
-  pub states-then : (c : Book) (t : Status) → ((p : ℕ) → p ≢ q → c .entries p ≡ b .entries p) → statusBy (c .entries q) (isDecided (v .party)) ≡ t
+  pub states-then : (c : Book) (t : Status) → ((p : ℕ) → p ≢ q → c .entries p ≡ b .entries p) → statusBy (c .entries q) (isPast (v .party)) ≡ t
       → statusOf left c ≡ changedAt (statusOf m b) q t
   unfolding statusOf
   states-then c t others own = fun-ext (λ p. go p (cmp p q))
     where
       go : (p : ℕ) → Cmp p q → statusOf left c p ≡ changedAt (statusOf m b) q t p
       go p (same h) =
-          ap (statusOf left c) h ∙ ap (λ (x : Party). statusBy (c .entries q) (isDecided x)) own-record ∙ own ∙ sym (changed-here (statusOf m b) q t p h)
+          ap (statusOf left c) h ∙ ap (λ (x : Party). statusBy (c .entries q) (isPast x)) own-record ∙ own ∙ sym (changed-here (statusOf m b) q t p h)
       go p (diff d) =
-          ap (λ (x : Party). statusBy (c .entries p) (isDecided x)) (other-record p d) ∙ ap (λ (x : Option Entered). statusBy x (isDecided (partyAt (m .parties) p))) (others p d)
+          ap (λ (x : Party). statusBy (c .entries p) (isPast x)) (other-record p d) ∙ ap (λ (x : Option Entered). statusBy x (isPast (partyAt (m .parties) p))) (others p d)
           ∙ sym (changed-elsewhere (statusOf m b) q t p d)
 
 -- The party's entry is e.
@@ -129,7 +130,7 @@ module _ (m : Memory) (b : Book) (i : Inv m b) (q : ℕ) (in-row : q < m .root .
   abbrev now : Memory
   now = afterStep m v
 
-  abbrev states : (c : Book) (t : Status) → ((p : ℕ) → p ≢ q → c .entries p ≡ b .entries p) → statusBy (c .entries q) (isDecided (v .party)) ≡ t
+  abbrev states : (c : Book) (t : Status) → ((p : ℕ) → p ≢ q → c .entries p ≡ b .entries p) → statusBy (c .entries q) (isPast (v .party)) ≡ t
       → statusOf now c ≡ changedAt (statusOf m b) q t
   states = states-then m b i q in-row v number=
 
@@ -144,15 +145,15 @@ module _ (m : Memory) (b : Book) (i : Inv m b) (q : ℕ) (in-row : q < m .root .
   -- ---- It moves, its decisive step still to come
 
   pub searches-turn : isBehind number ≡ false → number ≢ 11 → isBehind (v .party .step) ≡ false → StepTurn m b q (called StepAnswer.Moved now)
-  unfolding afterReply entering answerIn marks
+  unfolding afterReply entering endIn marks
   searches-turn was not-eleven then =
       let c = noteFor b q (b .entries q) number in
-      still (λ n es rest. refl) (λ p. unanswered q p _ refl) (λ p o k a h. elsewhere p o k a h (cmp p q))
+      still (λ n es rest. refl) (λ p. unended q p _ refl) (λ p o k a h. elsewhere p o k a h (cmp p q))
       (states c (looking (e .operation) (e .key)) (λ p d. noted-elsewhere b q (b .entries q) number p d) own
       ∙ changed-back (statusOf m b) q (looking (e .operation) (e .key)) (was-looking was))
       (noted-contents b q (b .entries q) number not-eleven)
     where
-      own : statusBy (noteFor b q (b .entries q) number .entries q) (isDecided (v .party)) ≡ looking (e .operation) (e .key)
+      own : statusBy (noteFor b q (b .entries q) number .entries q) (isPast (v .party)) ≡ looking (e .operation) (e .key)
       own = let k = noted-own b q e entry number in rw (then, k .is, k .operation=, k .key=) refl
 
       elsewhere : (p : ℕ) (o : Operation) (k : ℕ) (a : OperationAnswer) → statusOf m b p ≡ fixed o k a → Cmp p q → stepMarks p number (stepFor q) (toStep StepAnswer.Moved) ≡ false
@@ -162,16 +163,16 @@ module _ (m : Memory) (b : Book) (i : Inv m b) (q : ℕ) (in-row : q < m .root .
   -- ---- It moves, its decisive step being done
 
   pub goes-on-turn : isBehind number ≡ true → isBehind (v .party .step) ≡ true → StepTurn m b q (called StepAnswer.Moved now)
-  unfolding afterReply entering answerIn marks
+  unfolding afterReply entering endIn marks
   goes-on-turn was then =
       let same-book = behind-unnoted number was b q (b .entries q) in
-      still (λ n es rest. refl) (λ p. unanswered q p _ refl) (λ p o k a h. unmarked-number q p number StepAnswer.Moved (behind-unmarked number was))
+      still (λ n es rest. refl) (λ p. unended q p _ refl) (λ p o k a h. unmarked-number q p number StepAnswer.Moved (behind-unmarked number was))
       (ap (statusOf now) same-book
       ∙ states b (fixed (e .operation) (e .key) (noteOr (e .note))) (λ p d. refl) own
       ∙ changed-back (statusOf m b) q (fixed (e .operation) (e .key) (noteOr (e .note))) (was-fixed was))
       (ap mapOf same-book)
     where
-      own : statusBy (b .entries q) (isDecided (v .party)) ≡ fixed (e .operation) (e .key) (noteOr (e .note))
+      own : statusBy (b .entries q) (isPast (v .party)) ≡ fixed (e .operation) (e .key) (noteOr (e .note))
       own = rw (entry, then) refl
 
   -- ---- It is done
@@ -184,13 +185,13 @@ module _ (m : Memory) (b : Book) (i : Inv m b) (q : ℕ) (in-row : q < m .root .
       let note : e .note ≡ some a = note-is-answer a (e .note) (rw (same-book, entry) at right) in
       ends q (e .operation) (e .key) a number r refl (was-fixed was ∙ ap (λ (x : Option OperationAnswer). fixed (e .operation) (e .key) (noteOr x)) note)
       (ap (λ (c : Book). statusOf now (withEntry c q none)) same-book
-      ∙ states (withEntry b q none) away (λ p d. changed-elsewhere (b .entries) q none p d) (ap (λ (x : Option Entered). statusBy x (isDecided (v .party))) (changed-here (b .entries) q none q refl)))
+      ∙ states (withEntry b q none) away (λ p d. changed-elsewhere (b .entries) q none p d) (ap (λ (x : Option Entered). statusBy x (isPast (v .party))) (changed-here (b .entries) q none q refl)))
       (ap (λ (c : Book). mapOf c) same-book)
 
   -- ---- It moves by its decisive step
 
   decided-then : (a : OperationAnswer) (c : Book) → c .entries q ≡ some (noted e a) → isBehind (v .party .step) ≡ true
-      → statusBy (c .entries q) (isDecided (v .party)) ≡ fixed (e .operation) (e .key) a
+      → statusBy (c .entries q) (isPast (v .party)) ≡ fixed (e .operation) (e .key) a
   decided-then a c h then = rw (h, then) refl
 
   pub six-turn : number ≡ 6 → e .operation ≡ Operation.Find → v .party .step ≡ 9 → StepTurn m b q (called StepAnswer.Moved now)

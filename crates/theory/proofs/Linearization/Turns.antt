@@ -1,6 +1,6 @@
--- One event of a run as a turn: it leaves what every party is doing, begins, decides or ends an operation; and an order for
--- the rest of a run grows by it.
--- Main statements: Turn (the four kinds), turn-on (an order for the rest becomes one for the whole).
+-- One event of a run as a turn: it leaves what every party is doing, begins, decides, ends or withdraws an operation; and an
+-- order for the rest of a run grows by it.
+-- Main statements: Turn (the five kinds), turn-on (an order for the rest becomes one for the whole).
 use mathlib.Core.Path.{_≡_, refl, sym, ap, _∙_, subst}
 use mathlib.Core.Logic.{_≢_}
 use mathlib.Core.Bool.{true, false}
@@ -13,17 +13,18 @@ use Rattle.model.specs.declared.OperationAnswer.{OperationAnswer}
 use Rattle.model.specs.declared.Restructuring.{Restructuring}
 use Rattle.model.specs.declared.StepAnswer.the-variants as StepAnswer
 use Rattle.model.specs.declared.BeginAnswer.the-variants as BeginAnswer
-use Rattle.model.specs.Runs.{beginFor, stepFor, toBegin, toStep, Event}
+use Rattle.model.specs.declared.WithdrawAnswer.the-variants as WithdrawAnswer
+use Rattle.model.specs.Runs.{beginFor, stepFor, withdrawFor, toBegin, toStep, toWithdraw, Event}
 use Rattle.model.specs.Book.{changedAt}
 use Rattle.theory.specs.PlainMap.{PlainMap, answersAsMap, mapLeftBy}
-use Rattle.theory.specs.Linearization.{Operated, answerTo, entering, decisiveStep, marks}
+use Rattle.theory.specs.Linearization.{Operated, endTo, entering, decisiveStep, marks}
 use Rattle.model.proofs.Laws.Lists.{Cmp, same, diff, cmp}
 use Rattle.model.proofs.Invariant.Facts.{changed-here, changed-elsewhere}
-use Rattle.theory.proofs.Linearization.Ordering.{Status, away, looking, fixed, away-not-looking, Begun, Suffix, still-on, begins-on, decides-on, ends-on}
+use Rattle.theory.proofs.Linearization.Ordering.{Status, away, looking, fixed, away-not-looking, Begun, Suffix, still-on, begins-on, decides-on, ends-on, withdraws-on}
 
 -- What an event makes of what the parties are doing and of the map.
 pub data Turn (st : ℕ → Status) (s : PlainMap) (e : Event) (st′ : ℕ → Status) (s′ : PlainMap) : Type 0 where
-  still : ((n : ℕ) (es : List Event) (rest : List Operated) → entering n (e .call) (e .reply) es rest ≡ rest) → ((p : ℕ) → answerTo p (e .call) (e .reply) ≡ none)
+  still : ((n : ℕ) (es : List Event) (rest : List Operated) → entering n (e .call) (e .reply) es rest ≡ rest) → ((p : ℕ) → endTo p (e .call) (e .reply) ≡ none)
       → ((p : ℕ) (o : Operation) (k : ℕ) (a : OperationAnswer) → st p ≡ fixed o k a → marks p (some e) ≡ false) → st′ ≡ st → s′ ≡ s → Turn st s e st′ s′
   begins : (q : ℕ) (o : Operation) (k number : ℕ) → e ≡ record { call = beginFor q o k; number = number; reply = toBegin BeginAnswer.Begun } → st q ≡ away
       → st′ ≡ changedAt st q (looking o k) → s′ ≡ s → Turn st s e st′ s′
@@ -31,6 +32,8 @@ pub data Turn (st : ℕ → Status) (s : PlainMap) (e : Event) (st′ : ℕ → 
       → answersAsMap s o k a ≡ true → st′ ≡ changedAt st q (fixed o k a) → s′ ≡ mapLeftBy s o k a → Turn st s e st′ s′
   ends : (q : ℕ) (o : Operation) (k : ℕ) (a : OperationAnswer) (number : ℕ) (r : Restructuring)
       → e ≡ record { call = stepFor q; number = number; reply = toStep (StepAnswer.Done a r) } → st q ≡ fixed o k a → st′ ≡ changedAt st q away → s′ ≡ s → Turn st s e st′ s′
+  withdraws : (q : ℕ) (o : Operation) (k number : ℕ) → e ≡ record { call = withdrawFor q; number = number; reply = toWithdraw WithdrawAnswer.Withdrawn } → st q ≡ looking o k
+      → st′ ≡ changedAt st q away → s′ ≡ s → Turn st s e st′ s′
 
 -- ---- The begins of the operations under way, after a turn
 
@@ -88,3 +91,6 @@ module _ (n : ℕ) (begun : ℕ → ℕ) (st : ℕ → Status) (s : PlainMap) (e
   turn-on (ends q o k a number r x was h i) =
       subst Whole (sym x)
       (ends-on n begun st s q o k a number r es stₑ sₑ was (rest-by (changedAt st q away) s h i begun (begun-kept n begun st b q away (λ z. refl))))
+  turn-on (withdraws q o k number x was h i) =
+      subst Whole (sym x)
+      (withdraws-on n begun st s q o k number es stₑ sₑ b was (rest-by (changedAt st q away) s h i begun (begun-kept n begun st b q away (λ z. refl))))

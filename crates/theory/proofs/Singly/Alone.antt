@@ -42,7 +42,8 @@ use Rattle.model.proofs.Laws.Structure.{Linked}
 use Rattle.model.proofs.Laws.Filling.{IsOverflow, overflow-linked}
 use Rattle.model.proofs.Laws.Pages.{length-pageOf, page-other}
 use Rattle.model.proofs.Laws.Reading.{held-overflow}
-use Rattle.model.proofs.Invariant.Claims.{claims, isClaimed, claimed}
+use Rattle.model.specs.Claims.{claims}
+use Rattle.model.proofs.Invariant.Claims.{isClaimed, claimed}
 use Rattle.model.proofs.Invariant.LockMoves.{permits-true}
 use Rattle.model.proofs.Invariant.Statement.{restructures, liveFor, Inv, sceneOf}
 use Rattle.model.proofs.Invariant.Frame.{SameLimits, claims-at}

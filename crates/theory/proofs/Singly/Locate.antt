@@ -25,7 +25,8 @@ use Rattle.model.specs.Steps.Chase.{Chase, chase, chaseOf, arrived, chasing, st
 use Rattle.model.specs.Steps.Dispatch.{stepOf, stepTable}
 use Rattle.model.proofs.Laws.Lists.{eqb-same, eqb-diff}
 use Rattle.model.proofs.Invariant.Ghost.{Extent, inChain, size, localLevel}
-use Rattle.model.proofs.Invariant.Claims.{claims, isClaimed}
+use Rattle.model.specs.Claims.{claims}
+use Rattle.model.proofs.Invariant.Claims.{isClaimed}
 use Rattle.model.proofs.Invariant.Frame.{claims-at}
 use Rattle.model.proofs.Laws.Filling.{chain-level}
 use Rattle.model.proofs.Invariant.Advance.{address-local, home-inside}

@@ -41,7 +41,8 @@ use Rattle.model.proofs.Laws.Lists.{Told, holds, fails, tell, cond-true, cond-f
 use Rattle.model.proofs.Invariant.Ghost.{Extent, extent, rootExtent, inChain, size, localLevel, advance}
 use Rattle.model.proofs.Laws.Pages.{length-withLocalLevel}
 use Rattle.model.proofs.Laws.Structure.{Linked}
-use Rattle.model.proofs.Invariant.Claims.{claims, isClaimed}
+use Rattle.model.specs.Claims.{claims}
+use Rattle.model.proofs.Invariant.Claims.{isClaimed}
 use Rattle.model.proofs.Laws.Filling.{chain-link}
 use Rattle.model.proofs.Laws.Reading.{linked-list}
 use Rattle.model.proofs.Laws.Retreat.{merge-retreats, merge-partner, target-before}

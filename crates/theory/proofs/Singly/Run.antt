@@ -29,7 +29,7 @@ use Rattle.model.proofs.Effects.Kept.{row-same, row-other}
 use Rattle.model.proofs.Theorems.Calls.{StepsKept, within-limits, lengths-fit, begun-inv}
 use Rattle.model.proofs.Theorems.RefusalOrder.{begin-order}
 use Rattle.model.proofs.Theorems.AllSteps.{steps-kept}
-use Rattle.theory.proofs.Reached.{reached-inv}
+use Rattle.theory.proofs.Reached.{reached-inv, final-append}
 use Rattle.theory.proofs.SizesStay.{reached-limits}
 use Rattle.theory.proofs.UnderWay.{idle-unentered}
 use Rattle.theory.proofs.Singly.Files.{Holding}
@@ -95,11 +95,6 @@ module _ (steps : StepsKept) (m : Memory) (b : Book) (i : Inv m b) (rest : AtRes
       (λ x. delete-ends steps (m .root) q k f x)
 
 -- ---- Lists of calls, one after the other
-
-final-append : (m : Memory) (cs ds : List Call) → finalMemory m (cs ++ ds) ≡ finalMemory (finalMemory m cs) ds
-unfolding finalMemory
-final-append m [] ds = refl
-final-append m (c ∷ cs) ds = final-append (afterCall m c) cs ds
 
 replies-append : (m : Memory) (cs ds : List Call) → repliesOf (events m (cs ++ ds)) ≡ repliesOf (events m cs) ++ repliesOf (events (finalMemory m cs) ds)
 unfolding finalMemory events eventOf repliesOf

@@ -39,7 +39,8 @@ use Rattle.model.specs.Steps.Dispatch.{stepOf, stepTable}
 use Rattle.model.proofs.Laws.Lists.{Told, holds, fails, tell, cond-true, cond-false, eqb-diff, ltb-false}
 use Rattle.model.proofs.Invariant.Ghost.{Extent, extent, rootExtent, inChain, size, localLevel, advance}
 use Rattle.model.proofs.Laws.Structure.{Linked}
-use Rattle.model.proofs.Invariant.Claims.{claims, isClaimed}
+use Rattle.model.specs.Claims.{claims}
+use Rattle.model.proofs.Invariant.Claims.{isClaimed}
 use Rattle.model.proofs.Laws.Reading.{linked-list}
 use Rattle.model.proofs.Invariant.Statement.{liveFor, sceneOf}
 use Rattle.model.proofs.Invariant.Extents.{size-is}

@@ -1,20 +1,15 @@
 -- WHAT A STEP FOLLOWS IS WHAT IT READS: of the overflow pages, a call of step that is not refused goes by those that its trace follows and the free pages that it takes, and by no other; nor does it
 -- write any other. It holds of every memory, sound or not. So the link rule (specs/Links.antt) speaks of every overflow page that a step reads, but for the free pages that it takes.
--- Main statements: reads-what-it-follows; its readings page by page, alike-stays and unlike-kept; followed-any-clock (the pages followed go by no clock); same-words (pages say all words).
+-- Main statements: reads-what-it-follows; its readings page by page, alike-stays and unlike-kept; followed-any-clock (the pages followed go by no clock).
 use mathlib.Core.Path.{_≡_, refl, sym, ap, _∙_}
 use mathlib.Core.Logic.{_≢_}
 use mathlib.Core.Bool.{Bool, true, false, cond, not, false≢true}
 use mathlib.Core.List.{List, _++_}
-use Prim.Native.Nat.{ℕ, _+_, _-_, _*_, _/_, _%_, _≤_, _<_}
-use native.Mathlib.Nat.{div-add-mod', mod-lt}
-use native.Mathlib.Omega.{arith}
-use lib.ListN.{length, getD, drop}
-use lib.Seq.{ext-getD, getD-take, getD-drop}
+use Prim.Native.Nat.{ℕ, _+_, _≤_, _<_}
 use lib.Dec.{eqb, leb}
 use Rattle.model.specs.declared.Root.{Root}
 use Rattle.model.specs.declared.StepAnswer.{StepAnswer}
 use Rattle.model.specs.declared.StepAnswer.the-variants as StepAnswer
-use Rattle.model.specs.Sizes.{pageWords}
 use Rattle.model.specs.Pages.{pageOf, linkOf, primaryPage}
 use Rattle.model.specs.FreeList.{isAmong}
 use Rattle.model.specs.Outcome.{View, Outcome, withPages}
@@ -23,7 +18,7 @@ use Rattle.model.specs.Refusals.{firstCause, lengthsFit, stepRows}
 use Rattle.model.specs.Calls.{Called, called, stepped, stepCall}
 use Rattle.theory.specs.Links.{Trace, chainPages, listPages, traceNine, traceFourteen, traceTwentyNine, traceOf, Clock, clockStart, traceOfStep}
 use Rattle.model.specs.Answers.{isMoved, performs}
-use Rattle.theory.specs.Reads.{isAccepted, pagesFollowed, followedBy, takenBy, readBy, isOverflowPage, isOpen, DiffersOutside, stepAfter, ReadAlike}
+use Rattle.theory.specs.Reads.{isAccepted, pagesFollowed, followedBy, takenBy, readBy, isOverflowPage, isOpen, DiffersOutside, stepAfter, StepAlike}
 use Rattle.model.specs.Steps.Dispatch.{stepOf, wants}
 use Rattle.model.proofs.Laws.Lists.{Told, holds, fails, tell, all-from, left-or, right-or, right-fails, among-append, lt-leb, le-ltb}
 use Rattle.model.proofs.Theorems.RefusalOrder.{step-accepted}
@@ -68,15 +63,15 @@ followed-any-clock k m q = cond-pages (performs (stepCall m q .answer)) _ _ _ _ 
 
 -- Primary and scratch pages are open, whatever is followed, and so is each page that is listed.
 module _ (r : Root) (xs : List ℕ) where
-  primary-open : (x : ℕ) → x < r .primaries → isOpen r xs x ≡ true
+  pub primary-open : (x : ℕ) → x < r .primaries → isOpen r xs x ≡ true
   unfolding isOpen isOverflowPage
   primary-open x h = rw (lt-leb (r .primaries) x h)
 
-  scratch-open : (x : ℕ) → r .primaries + r .overflow ≤ x → isOpen r xs x ≡ true
+  pub scratch-open : (x : ℕ) → r .primaries + r .overflow ≤ x → isOpen r xs x ≡ true
   unfolding isOpen isOverflowPage
   scratch-open x h = rw (right-fails (leb (r .primaries) x) (le-ltb x (r .primaries + r .overflow) h))
 
-  listed-open : (x : ℕ) → isAmong x xs ≡ true → isOpen r xs x ≡ true
+  pub listed-open : (x : ℕ) → isAmong x xs ≡ true → isOpen r xs x ≡ true
   unfolding isOpen
   listed-open x h = right-or (not (isOverflowPage r x)) h
 
@@ -159,7 +154,7 @@ module _ (m m′ : Memory) (q : ℕ) (d : DiffersOutside (readBy m q) m m′) wh
       beside-call : stepCall m′ q ≡ called (stepOf number view .answer) (afterStep m (withPages (reads-same .pages′) (stepOf number view .after)))
       beside-call = step-accepted m′ q (ap firstCause same-rows ∙ none) ∙ stepped-beside ∙ ap (λ (o : Outcome). called (o .answer) (afterStep m (o .after))) (reads-same .out)
 
-      call-alike : ReadAlike (readBy m q) m m′ q
+      call-alike : StepAlike m m′ q
       call-alike =
           let k = reads-same .alike in
           let e : stepAfter m q ≡ afterStep m (stepOf number view .after) = ap (λ (c : Called StepAnswer). c .memory) now in
@@ -188,7 +183,7 @@ module _ (m m′ : Memory) (q : ℕ) (d : DiffersOutside (readBy m q) m m′) wh
       waits-too : stepCall m′ q .answer ≡ StepAnswer.Waiting
       waits-too = ap (λ (c : Called StepAnswer). c .answer) (step-accepted m′ q (ap firstCause same-rows ∙ none) ∙ stepped-beside) ∙ is-waiting _ step-waits
 
-      waiting-alike : ReadAlike (readBy m q) m m′ q
+      waiting-alike : StepAlike m m′ q
       unfolding performs
       waiting-alike =
           let e = nothing-altered m q (ap performs waiting) in
@@ -204,11 +199,11 @@ module _ (m m′ : Memory) (q : ℕ) (d : DiffersOutside (readBy m q) m m′) wh
             shut-kept′ = λ x h. rw e′ refl;
           }
 
-pub reads-what-it-follows : (m m′ : Memory) (q : ℕ) → isAccepted (stepCall m q .answer) ≡ true → DiffersOutside (readBy m q) m m′ → ReadAlike (readBy m q) m m′ q
+pub reads-what-it-follows : (m m′ : Memory) (q : ℕ) → isAccepted (stepCall m q .answer) ≡ true → DiffersOutside (readBy m q) m m′ → StepAlike m m′ q
 unfolding isAccepted performs
 reads-what-it-follows m m′ q accepted d = go (tested m q) (stepCall m q .answer) refl
   where
-    go : Tested m q → (a : StepAnswer) → stepCall m q .answer ≡ a → ReadAlike (readBy m q) m m′ q
+    go : Tested m q → (a : StepAnswer) → stepCall m q .answer ≡ a → StepAlike m m′ q
     go (turned-away c e) a f = absurd (false≢true (sym (ap (λ (c : Called StepAnswer). isAccepted (c .answer)) e) ∙ accepted))
     go (let-through z e) StepAnswer.Waiting f = waiting-alike m m′ q d z f
     go (let-through z e) StepAnswer.Moved f = call-alike m m′ q d z (ap performs f)
@@ -222,7 +217,7 @@ module _ (m m′ : Memory) (q : ℕ) (accepted : isAccepted (stepCall m q .answe
   pub alike-stays : (x : ℕ) → pageOf (m′ .pages) x ≡ pageOf (m .pages) x → pageOf (stepAfter m′ q .pages) x ≡ pageOf (stepAfter m q .pages) x
   alike-stays x e = go (tell (isOpen (m .root) (readBy m q) x)) (reads-what-it-follows m m′ q accepted d)
     where
-      go : Told (isOpen (m .root) (readBy m q) x) → ReadAlike (readBy m q) m m′ q → pageOf (stepAfter m′ q .pages) x ≡ pageOf (stepAfter m q .pages) x
+      go : Told (isOpen (m .root) (readBy m q) x) → StepAlike m m′ q → pageOf (stepAfter m′ q .pages) x ≡ pageOf (stepAfter m q .pages) x
       go (holds h) a = a .open= x h
       go (fails h) a = a .shut-kept′ x h ∙ e ∙ sym (a .shut-kept x h)
 
@@ -231,20 +226,7 @@ module _ (m m′ : Memory) (q : ℕ) (accepted : isAccepted (stepCall m q .answe
       → (pageOf (stepAfter m q .pages) x ≡ pageOf (m .pages) x) × (pageOf (stepAfter m′ q .pages) x ≡ pageOf (m′ .pages) x)
   unlike-kept x n = go (tell (isOpen (m .root) (readBy m q) x)) (reads-what-it-follows m m′ q accepted d)
     where
-      go : Told (isOpen (m .root) (readBy m q) x) → ReadAlike (readBy m q) m m′ q
+      go : Told (isOpen (m .root) (readBy m q) x) → StepAlike m m′ q
           → (pageOf (stepAfter m q .pages) x ≡ pageOf (m .pages) x) × (pageOf (stepAfter m′ q .pages) x ≡ pageOf (m′ .pages) x)
       go (holds h) a = absurd (n (d .open= x h))
       go (fails h) a = (a .shut-kept x h, a .shut-kept′ x h)
-
--- ---- Pages say all words
-
--- Word i stands on page i / 16.
-word-of : (ps : List ℕ) (i : ℕ) → getD ps i 0 ≡ getD (pageOf ps (i / pageWords)) (i % pageWords) 0
-unfolding pageOf
-word-of ps i =
-    let l = mod-lt i {m = pageWords} (omega arith) in
-    ap (λ (j : ℕ). getD ps j 0) (sym (div-add-mod' i pageWords))
-    ∙ sym (getD-take pageWords (drop (i / pageWords * pageWords) ps) (i % pageWords) 0 l ∙ getD-drop (i / pageWords * pageWords) ps (i % pageWords) 0)
-
-pub same-words : (ps qs : List ℕ) → length ps ≡ length qs → ((x : ℕ) → pageOf ps x ≡ pageOf qs x) → ps ≡ qs
-same-words ps qs e f = ext-getD 0 ps qs e (λ i h. word-of ps i ∙ ap (λ (w : List ℕ). getD w (i % pageWords) 0) (f (i / pageWords)) ∙ sym (word-of qs i))

@@ -1,25 +1,33 @@
--- How the pages that a walk lists are known: the first by the link that it starts from, each other off the page before it. And pages given back are free.
--- Main statements: Stepping, list-stepping, chain-stepping, chain-links; now-known, chain-known, walked-known, known-append; given-freed.
+-- How the pages that a walk lists are known: the first by the link that it starts from, each other off the page before
+-- it. And pages given back are free; and where the link of a chain built beside the file leads.
+-- Main statements: Stepping, list-stepping, chain-stepping, chain-links; now-known, chain-known, walked-known,
+-- back-known, known-append; given-freed, none-more; ScratchLink, built-link.
 use mathlib.Core.Path.{_≡_, refl, sym, ap, _∙_}
 use mathlib.Core.Logic.{_⊎_, inl, inr}
 use mathlib.Core.Bool.{true, false, false≢true}
 use mathlib.Core.List.{List, [], _∷_, _++_}
-use Prim.Native.Nat.{ℕ, zero, suc, _+_, _<_}
+use Prim.Native.Nat.{ℕ, zero, suc, _+_, _-_, _<_}
 use native.Mathlib.Omega.{arith}
+use lib.ListN.{take}
 use lib.Dec.{eqb}
 use Rattle.model.specs.declared.Root.{Root}
+use Rattle.model.specs.declared.Entry.{Entry}
 use Rattle.model.specs.Entries.{ascending}
-use Rattle.model.specs.Pages.{pageOf, withPage, linkOf, freePage, linkSound, pageSound, primaryPage, linkedPage, linkTo}
+use Rattle.model.specs.Pages.{pageOf, withPage, linkOf, freePage, linkSound, pageSound, primaryPage, scratchPage, linkedPage, linkTo, linkToFirst}
 use Rattle.model.specs.Chains.{Checked, damaged, sound, overflowFrom, listFrom, Chain, readChain, ascendingChain, chainOf, pagesIn}
-use Rattle.model.specs.FreeList.{isAmong, givenBack}
-use Rattle.model.specs.Outcome.{View}
+use Rattle.model.specs.FreeList.{isAmong, pagesTaken, givenBack}
+use Rattle.model.specs.Outcome.{View, Outcome}
+use Rattle.model.specs.Filling.{primaryOf, overflowWritten}
+use Rattle.model.specs.ScratchPages.{scratchOf, pagesWithBuilt}
+use Rattle.model.specs.Ready.{Ready}
 use Rattle.theory.specs.Links.{Follow, chainPages, readNow, walkedFrom}
-use Rattle.theory.specs.Reads.{off-page, by-old, EachKnown, Freed}
+use Rattle.theory.specs.Reads.{off-page, by-old, by-scratch, EachKnown, Copied, Freed}
+use Rattle.model.specs.PagePlaces.{pagesDrawn}
 use Rattle.model.proofs.Laws.Lists.{Told, holds, fails, tell, cond-ind, eqb-false, first-or-rest, All, all-map}
-use Rattle.model.proofs.Laws.Pages.{Has, page-same, has-withPage, length-freePage}
-use Rattle.model.proofs.Laws.Filling.{IsOverflow}
+use Rattle.model.proofs.Laws.Pages.{Has, page-same, has-withPage, length-freePage, link-filledPage}
+use Rattle.model.proofs.Laws.Filling.{IsOverflow, length-primaryOf}
 use Rattle.model.proofs.Laws.FreeList.{given-other}
-use Rattle.theory.proofs.Scratches.{IfSound, if-then, names-page, names-linked, sound-link}
+use Rattle.theory.proofs.Scratches.{IfSound, if-then, names-page, names-linked, sound-link, spares-all, has-page, spares-filled}
 use Rattle.theory.proofs.StepReads.Readings.{if-known, then-known}
 
 -- Link l leads to the first of the pages, and each page's own link to the next; all are overflow pages.
@@ -90,6 +98,12 @@ module _ (v : View) (t s o : ℕ) where
   walked-known [] w = tt
   walked-known (x ∷ xs) w = (by-old (w .0) refl, now-known x (w .1 .below) xs (w .2))
 
+  -- A list walked by the scratch link.
+  pub back-known : (xs : List ℕ) → Stepping (v .root) (v .pages) (linkOf (scratchOf v)) xs → EachKnown v t s o (walkedFrom s t xs)
+  unfolding walkedFrom
+  back-known [] w = tt
+  back-known (x ∷ xs) w = (by-scratch (w .0) refl, now-known x (w .1 .below) xs (w .2))
+
   pub known-append : (fs gs : List Follow) → EachKnown v t s o fs → EachKnown v t s o gs → EachKnown v t s o (fs ++ gs)
   known-append [] gs a b = b
   known-append (f ∷ fs) gs a b = (a .0, known-append fs gs (a .1) b)
@@ -112,3 +126,29 @@ given-freed ps l (x ∷ xs) a y h = go (tell (isAmong y xs)) (first-or-rest y x 
     go (fails e) (inr k) more = absurd (false≢true (sym e ∙ k))
     go (fails e) (inl k) more =
         record { link = l; free = given-other qs (linkTo x) xs has y e ∙ ap (pageOf qs) (sym k) ∙ page-same ps x (freePage l) (a .0) (length-freePage l) }
+
+-- No more pages are free after some were taken.
+pub none-more : (a k : ℕ) → (a - k) - a ≡ 0
+none-more a k = omega arith
+
+-- ---- The link on the scratch page
+
+-- The link on the scratch page after the outcome o on the view v: that of a page copied from the file, or, at 11, that
+-- of the first page taken.
+pub data ScratchLink (v : View) (o : Outcome) : Type 0 where
+  copied-link : Copied v (pageOf (o .after .pages) (scratchPage (v .root) (v .number))) → ScratchLink v o
+  made-link : o .after .party .step ≡ 11
+      → linkOf (pageOf (o .after .pages) (scratchPage (v .root) (v .number))) ≡ linkToFirst (pagesDrawn (pagesTaken (v .root) (v .pages) (v .root .free - o .after .root .free))) → ScratchLink v o
+
+-- A chain built beside the file in the pages xs: the link on the scratch page names the first of them.
+pub built-link : (v : View) → Ready v → (level : ℕ) (es : List Entry) (xs : List ℕ) → All (IsOverflow (v .root)) xs
+    → linkOf (pageOf (pagesWithBuilt (v .root) (v .number) (v .pages) level es xs) (scratchPage (v .root) (v .number))) ≡ linkToFirst xs
+unfolding primaryOf
+built-link v ready level es xs over =
+    let filled = spares-filled v ready (v .pages) (spares-all v) xs es over in
+    let b = v .root .capacity in
+    ap linkOf
+    (page-same (overflowWritten b (v .pages) xs es) (scratchPage (v .root) (v .number)) (primaryOf b level es xs)
+    (has-page v ready (overflowWritten b (v .pages) xs es) (scratchPage (v .root) (v .number)) (filled .long) (omega (arith, ready .number-fits)))
+    (length-primaryOf b level es xs (ready .keys-fit)))
+    ∙ link-filledPage level (take b es) (linkToFirst xs)

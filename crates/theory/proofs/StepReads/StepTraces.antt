@@ -1,6 +1,6 @@
 -- Each of the thirty steps does what its trace says: when the links that it follows were read, what it reads into its record and scratch page, what it gives back.
 -- Main definition: Truth (the trace of an outcome is true). Main statement: step-tells (of every step number).
-use mathlib.Core.Path.{_≡_, refl, ap, _∙_}
+use mathlib.Core.Path.{_≡_, refl, sym, ap, _∙_}
 use mathlib.Core.Logic.{_≢_, _⊎_, inl, inr}
 use mathlib.Core.Bool.{Bool, true, false, cond, not, _&&_, false≢true, true≢false}
 use mathlib.Core.List.{List, [], _∷_, _++_}
@@ -21,16 +21,18 @@ use Rattle.model.specs.Addresses.{splitBarred, countOfChains}
 use Rattle.model.specs.Entries.{hasKey, sharesKey, settingIn}
 use Rattle.model.specs.Filling.{pagesFor}
 use Rattle.model.specs.Steps.Find.{answered, lookedOn, step09}
-use Rattle.model.specs.Pages.{pageOf, withPage, levelOf, linkOf, entriesOf, zeroPage, namesOverflow, linkSound, pageSound, primaryPage, scratchPage, linkedPage}
+use Rattle.model.specs.Pages.{pageOf, withPage, levelOf, linkOf, entriesOf, zeroPage, namesOverflow, linkSound, pageSound, primaryPage, scratchPage, linkedPage, linkToFirst}
 use Rattle.model.specs.Chains.{Checked, damaged, sound, Chain, chainOf, listFrom}
-use Rattle.model.specs.FreeList.{isAmong, tooFew, pagesTaken, givenBack, rootAfterTaking, roomToGiveBack, pagesGivenBack}
+use Rattle.model.specs.FreeList.{isAmong, tooFew, Taken, pagesTaken, givenBack, rootAfterTaking, roomToGiveBack, pagesGivenBack}
 use Rattle.model.specs.Outcome.{View, Outcome, outcome, withParty, moved, guarded, checked}
 use Rattle.model.specs.ScratchPages.{withScratch, scratchOf, primaryWritten}
 use Rattle.model.specs.Endings.{done, finished, onward, oldPagesFirst, endedWith}
 use Rattle.model.specs.LockRequests.{isGranted, withHold, request, isHeld, heldAll, withoutHold, givenUp, release, chainLock, chainSelective, chainExclusive, rootSelective, rootExclusive}
-use Rattle.theory.specs.Links.{Trace, trace, noTrace, chainPages, readNow, walkedFrom, traceLooked, traceNine, traceFourteen, traceTwentyNine, traceOf}
+use Rattle.theory.specs.Links.{Trace, trace, noTrace, chainPages, readNow, walkedFrom, traceLooked, traceTen, traceNine, traceFourteen, traceTwentyNine, traceOf}
 use Rattle.model.specs.Ready.{Ready}
-use Rattle.theory.specs.Reads.{by-scratch, EachKnown, Copied, Freed}
+use Rattle.theory.specs.Reads.{by-scratch, EachKnown, Freed}
+use Rattle.model.specs.PagePlaces.{pagesDrawn}
+use Rattle.model.specs.declared.Entry.{Entry}
 use Rattle.model.specs.Steps.Locate.{located, step01, step02, step03, step04, step05}
 use Rattle.model.specs.Steps.Chase.{Chase, chaseOf, arrived, chasing, step06, step07, step08}
 use Rattle.model.specs.Steps.Rebuild.{Change, kept, changed, changesNothing, changing, rebuilt, rebuildWith, step10}
@@ -43,16 +45,17 @@ use Rattle.model.specs.Steps.MergeLocks.{mergeStops, merging, step23, step24, s
 use Rattle.model.specs.Steps.MergeBuild.{Pair, pairOf, joinedEntries, mergeGoes, combined, combineWith, step26}
 use Rattle.model.specs.Steps.MergeWrite.{rootMovedBack, mergedAway, partnerCleared, step27, step28, step29}
 use Rattle.model.specs.Steps.Dispatch.{noStep, stepTable, stepOf}
-use Rattle.model.proofs.Laws.Lists.{cond-ind, eqb-false, not-both, and-both, All, all-in, _▸_, Numbered, numbered-at}
+use Rattle.model.proofs.Laws.Lists.{cond-ind, eqb-false, ltb-false, not-both, and-both, All, all-in, _▸_, Numbered, numbered-at}
 use Rattle.model.proofs.Laws.Pages.{page-same, page-other, length-pageOf, length-zeroPage}
 use Rattle.model.proofs.Laws.Filling.{IsOverflow}
 use Rattle.model.proofs.Laws.Reading.{has-overflow}
 use Rattle.model.proofs.Laws.FreeList.{length-given}
 use Rattle.model.proofs.Effects.GiveUps.{given-up-rest}
-use Rattle.theory.proofs.Scratches.{IfSound, has-page, list-overflow, names-page, names-linked, sound-link}
+use Rattle.theory.proofs.Scratches.{IfSound, has-page, taken-overflow, list-overflow, names-page, names-linked, sound-link}
+use Rattle.theory.proofs.OpenLinks.{scratchOpen}
 use Rattle.theory.proofs.Traces.{list-followed, names-sound, merged-overflow}
 use Rattle.theory.proofs.StepReads.Readings.{if-known, then-known, from-sound}
-use Rattle.theory.proofs.StepReads.Known.{Stepping, list-stepping, chain-links, now-known, chain-known, walked-known, known-append, given-freed}
+use Rattle.theory.proofs.StepReads.Known.{Stepping, list-stepping, chain-links, now-known, chain-known, walked-known, known-append, given-freed, none-more, ScratchLink, copied-link, made-link, built-link}
 use Rattle.theory.proofs.StepReads.EachStep.{otherLink}
 
 -- The trace tr is true of the outcome o on the view v: t, s and w are the times of this call, of the scratch link and of the old link.
@@ -60,8 +63,8 @@ pub record Truth (t s w : ℕ) (v : View) (o : Outcome) (tr : Trace) : Type 0 wh
   pub known : EachKnown v t s w (tr .follows)
   pub old-read : tr .intoOld ≡ true → o .after .party .old ≡ linkOf (pageOf (v .pages) (primaryPage (v .party .chain)))
   pub old-kept : tr .intoOld ≡ false → o .after .party .old ≢ 0 → o .after .party .old ≡ v .party .old
-  pub scratch-now : o .after .party .step ≡ 9 → tr .intoScratch ≡ true
-  pub scratch-read : tr .intoScratch ≡ true → Copied v (pageOf (o .after .pages) (scratchPage (v .root) (v .number)))
+  pub scratch-now : scratchOpen (o .after .party .step) ≡ true → tr .intoScratch ≡ true
+  pub scratch-read : tr .intoScratch ≡ true → ScratchLink v o
   pub given : o .after .root .free - v .root .free ≡ length (tr .gives)
   pub freed : (x : ℕ) → isAmong x (tr .gives) ≡ true → Freed (o .after .pages) x
 
@@ -82,12 +85,12 @@ abbrev OldKept : View → Party → Type 0
 OldKept v p = (p .old ≡ v .party .old) ⊎ (p .old ≡ 0)
 
 module _ (t s w : ℕ) (v : View) where
-  truth : (a : StepAnswer) (u : View) (tr : Trace) → Basis t s w v tr u → OldKept v (u .party) → eqb (u .party .step) 9 ≡ false → Truth t s w v (outcome a u) tr
+  truth : (a : StepAnswer) (u : View) (tr : Trace) → Basis t s w v tr u → OldKept v (u .party) → scratchOpen (u .party .step) ≡ false → Truth t s w v (outcome a u) tr
   truth a u tr b k n = record {
     known = b .known;
     old-read = λ h. absurd (not-both (tr .intoOld) h (b .no-old));
     old-kept = λ _ d. same-old d k;
-    scratch-now = λ e. absurd (eqb-false (u .party .step) 9 n e);
+    scratch-now = λ e. absurd (not-both (scratchOpen (u .party .step)) e n);
     scratch-read = λ h. absurd (not-both (tr .intoScratch) h (b .no-scratch));
     given = b .given;
     freed = b .freed;
@@ -115,7 +118,7 @@ module _ (t s w : ℕ) (v : View) where
 
     -- The trace is tr, whatever the answer and the next step.
     module _ (tr : Trace) (steady : (a : StepAnswer) (next : ℕ) → traceOf t n v a next s w ≡ tr) where
-      steady-tells : (a : StepAnswer) (u : View) → Basis t s w v tr u → OldKept v (u .party) → eqb (u .party .step) 9 ≡ false → Tells t s w n v (outcome a u)
+      steady-tells : (a : StepAnswer) (u : View) → Basis t s w v tr u → OldKept v (u .party) → scratchOpen (u .party .step) ≡ false → Tells t s w n v (outcome a u)
       steady-tells a u b k d = record { go = λ p. rw (steady a (u .party .step)) (truth a u tr b k d) }
 
       done-tells : (a : OperationAnswer) (r : Restructuring) (u : View) → Basis t s w v tr (withScratch zeroPage u) → Tells t s w n v (done a r u)
@@ -131,15 +134,15 @@ module _ (t s w : ℕ) (v : View) where
 
     -- The trace is empty.
     module _ (quiet : (a : StepAnswer) (next : ℕ) → traceOf t n v a next s w ≡ noTrace) where
-      moved-tells : (u : View) → u .root .free - v .root .free ≡ 0 → OldKept v (u .party) → eqb (u .party .step) 9 ≡ false → Tells t s w n v (moved u)
+      moved-tells : (u : View) → u .root .free - v .root .free ≡ 0 → OldKept v (u .party) → scratchOpen (u .party .step) ≡ false → Tells t s w n v (moved u)
       moved-tells u f k d = steady-tells noTrace quiet StepAnswer.Moved u (quiet-basis u f) k d
 
-      request-tells : (c : Claim) (p : Party) → OldKept v p → eqb (p .step) 9 ≡ false → Tells t s w n v (request v c p)
+      request-tells : (c : Claim) (p : Party) → OldKept v p → scratchOpen (p .step) ≡ false → Tells t s w n v (request v c p)
       unfolding request withHold performs
       request-tells c p k d =
           cond-ind (Tells t s w n v) (isGranted v c) _ _ (λ _. moved-tells (withParty p (withHold c v)) (omega arith) k d) (λ _. record { go = λ h. absurd (false≢true h) })
 
-      release-tells : (cs : List Claim) (p : Party) → OldKept v p → eqb (p .step) 9 ≡ false → Tells t s w n v (release v cs p)
+      release-tells : (cs : List Claim) (p : Party) → OldKept v p → scratchOpen (p .step) ≡ false → Tells t s w n v (release v cs p)
       unfolding release
       release-tells cs p k d = guarded-tells (heldAll v cs) _ (λ _. moved-tells (withParty p (givenUp cs v)) (rw (given-up-rest cs v) (omega arith)) k d)
 
@@ -149,7 +152,7 @@ module _ (t s w : ℕ) (v : View) where
           guarded-tells (heldAll v cs) _
           (λ _. done-tells noTrace quiet (answerOf (v .party .answer)) r (givenUp cs v) (quiet-basis (withScratch zeroPage (givenUp cs v)) (rw (given-up-rest cs v) (omega arith))))
 
-      over-tells : (next : ℕ) → eqb next 9 ≡ false → Tells t s w n v (primaryWritten v next)
+      over-tells : (next : ℕ) → scratchOpen next ≡ false → Tells t s w n v (primaryWritten v next)
       unfolding primaryWritten
       over-tells next d = guarded-tells (pageSound (v .root) (scratchOf v)) _ (λ _. moved-tells _ (omega arith) (inl refl) d)
 
@@ -212,12 +215,13 @@ tells-06 t s w v ready =
         old-read = λ h. absurd (false≢true h);
         old-kept = λ _ _. chase-keeps (eqb (chaseOf v .chain) (p .chain)) (chaseOf v) p;
         scratch-now = λ _. refl;
-        scratch-read = λ _. record {
-          page = primaryPage (p .chain);
-          inside = omega (arith, ready .chain-fits);
-          copy = page-same (v .pages) (scratchPage (v .root) (v .number)) x (has-page v ready (v .pages) (scratchPage (v .root) (v .number)) refl (omega (arith, ready .number-fits)))
-              (length-pageOf (has-page v ready (v .pages) (primaryPage (p .chain)) refl (omega (arith, ready .chain-fits))));
-        };
+        scratch-read = λ _. copied-link
+            (record {
+              page = primaryPage (p .chain);
+              inside = omega (arith, ready .chain-fits);
+              copy = page-same (v .pages) (scratchPage (v .root) (v .number)) x (has-page v ready (v .pages) (scratchPage (v .root) (v .number)) refl (omega (arith, ready .number-fits)))
+                  (length-pageOf (has-page v ready (v .pages) (primaryPage (p .chain)) refl (omega (arith, ready .chain-fits))));
+            });
         given = omega arith;
         freed = λ y h. absurd (false≢true h);
       };
@@ -250,12 +254,13 @@ tells-on t s w v ready e d =
         old-read = λ h. absurd (false≢true h);
         old-kept = λ _ _. refl;
         scratch-now = λ _. refl;
-        scratch-read = λ _. record {
-          page = linkedPage l;
-          inside = over .below;
-          copy = page-same (v .pages) (scratchPage (v .root) (v .number)) x (has-page v ready (v .pages) (scratchPage (v .root) (v .number)) refl (omega (arith, ready .number-fits)))
-              (length-pageOf (has-page v ready (v .pages) (linkedPage l) refl (omega (arith, over .below))));
-        };
+        scratch-read = λ _. copied-link
+            (record {
+              page = linkedPage l;
+              inside = over .below;
+              copy = page-same (v .pages) (scratchPage (v .root) (v .number)) x (has-page v ready (v .pages) (scratchPage (v .root) (v .number)) refl (omega (arith, ready .number-fits)))
+                  (length-pageOf (has-page v ready (v .pages) (linkedPage l) refl (omega (arith, over .below))));
+            });
         given = omega arith;
         freed = λ y h. absurd (false≢true h);
       };
@@ -275,21 +280,37 @@ looked-basis t s w v u xs k e = record { known = k; no-old = refl; no-scratch = 
 
 -- Looked through, and its link read into the record.
 looked-read : (t s w : ℕ) (v u : View) (a : StepAnswer) (xs : List ℕ) → EachKnown v t s w (readNow t xs) → u .root .free - v .root .free ≡ 0
-    → u .party .old ≡ linkOf (pageOf (v .pages) (primaryPage (v .party .chain))) → eqb (u .party .step) 9 ≡ false → Truth t s w v (outcome a u) (traceLooked t xs true)
+    → u .party .old ≡ linkOf (pageOf (v .pages) (primaryPage (v .party .chain))) → scratchOpen (u .party .step) ≡ false → Truth t s w v (outcome a u) (traceLooked t xs true)
 unfolding isAmong
 looked-read t s w v u a xs k e l d = record {
   known = k;
   old-read = λ _. l;
   old-kept = λ h _. absurd (true≢false h);
-  scratch-now = λ h. absurd (eqb-false (u .party .step) 9 d h);
+  scratch-now = λ h. absurd (not-both (scratchOpen (u .party .step)) h d);
   scratch-read = λ h. absurd (false≢true h);
   given = e;
   freed = λ x h. absurd (false≢true h);
 }
 
--- No more pages are free after some were taken.
-none-more : (a k : ℕ) → (a - k) - a ≡ 0
-none-more a k = omega arith
+-- 10 on to 11: the old link read, and the link in scratch made.
+built-read : (t s w : ℕ) (v : View) → Ready v → (c : Chain) (a : ℕ) (es : List Entry) (x : Taken) → pagesTaken (v .root) (v .pages) (pagesFor (v .root .capacity) es) ≡ sound x
+    → tooFew (v .root) (pagesFor (v .root .capacity) es) ≡ false → c .link ≡ linkOf (pageOf (v .pages) (primaryPage (v .party .chain)))
+    → Truth t s w v (rebuilt v c a es x) (traceTen t (chainPages v (v .party .chain)) true)
+unfolding rebuilt changing rootAfterTaking tooFew isAmong pagesDrawn
+built-read t s w v ready c a es x e d l =
+    let k = pagesFor (v .root .capacity) es in
+    let taken : v .root .free - (v .root .free - k) ≡ k = omega (arith, ltb-false (v .root .free) k d) in
+    record {
+      known = chain-known v t s w (v .party .chain) (ready .chain-fits);
+      old-read = λ _. l;
+      old-kept = λ h _. absurd (true≢false h);
+      scratch-now = λ _. refl;
+      scratch-read = λ _. made-link refl
+          (built-link v ready (c .level) es (x .pages) (from-sound (λ (y : Taken). All (IsOverflow (v .root)) (y .pages)) (pagesTaken (v .root) (v .pages) k) (taken-overflow (v .root) (v .pages) k) x e)
+          ∙ ap (λ (y : Checked Taken). linkToFirst (pagesDrawn y)) (sym (ap (pagesTaken (v .root) (v .pages)) taken ∙ e)));
+      given = none-more (v .root .free) k;
+      freed = λ y h. absurd (false≢true h);
+    }
 
 tells-rebuilt : (t s w : ℕ) (v : View) → Ready v → (c : Chain) → c .link ≡ linkOf (pageOf (v .pages) (primaryPage (v .party .chain))) → (x : Change) → Tells t s w 10 v (rebuildWith v c x)
 unfolding rebuildWith rebuilt changesNothing changing rootAfterTaking traceOf
@@ -302,8 +323,8 @@ tells-rebuilt t s w v ready c l (changed a es) =
     let xs = chainPages v (v .party .chain) in
     let known = chain-known v t s w (v .party .chain) (ready .chain-fits) in
     cond-ind (Tells t s w 10 v) (tooFew (v .root) k) _ _ (λ _. record { go = λ _. truth t s w v _ _ _ (looked-basis t s w v _ xs known (omega arith)) (inl refl) refl })
-    (λ _. checked-tells t s w v 10 (pagesTaken (v .root) (v .pages) k) (λ x. rebuilt v c a es x)
-    (λ x _. record { go = λ _. looked-read t s w v _ _ xs known (none-more (v .root .free) k) l refl }))
+    (λ d. checked-tells t s w v 10 (pagesTaken (v .root) (v .pages) k) (λ x. rebuilt v c a es x)
+    (λ x e. record { go = λ _. built-read t s w v ready c a es x e d l }))
 
 tells-10 : TellsAt 10 step10
 unfolding step10

@@ -15,12 +15,14 @@ use Rattle.model.specs.Calls.{Called, called, stepped, stepCall}
 use Rattle.theory.specs.Links.{Trace, traceOf, Clock, traceOfStep}
 use Rattle.model.specs.Answers.{performs}
 use Rattle.model.specs.Effects.{recordAfter}
-use Rattle.theory.specs.Reads.{stepAfter, TraceTrue}
+use Rattle.theory.specs.Reads.{takenBy, stepAfter, ScratchTold, copied, made, TraceTrue}
 use Rattle.model.specs.Steps.Dispatch.{stepOf}
 use Rattle.model.proofs.Effects.Kept.{row-same}
 use Rattle.model.proofs.Theorems.Gate.{ready, row-fits}
+use Rattle.theory.proofs.OpenLinks.{scratchOpen}
 use Rattle.theory.proofs.Traces.{Traced, stays, goes, step-traced}
 use Rattle.theory.proofs.Alters.{Tested, turned-away, let-through, tested}
+use Rattle.theory.proofs.StepReads.Known.{ScratchLink, copied-link, made-link}
 use Rattle.theory.proofs.StepReads.StepTraces.{Truth, step-tells}
 
 module _ (k : Clock) (m : Memory) (q : ℕ) (performed : performs (stepCall m q .answer) ≡ true) (none : firstCause (stepRows m q) ≡ 0) (accepted : stepCall m q ≡ stepped m q) where
@@ -64,6 +66,12 @@ module _ (k : Clock) (m : Memory) (q : ℕ) (performed : performs (stepCall m q 
   told : Truth (k .calls + 1) (k .scratchRead q) (k .oldRead q) view out (traceOf (k .calls + 1) number view (out .answer) (out .after .party .step) (k .scratchRead q) (k .oldRead q))
   told = step-tells number (k .calls + 1) (k .scratchRead q) (k .oldRead q) view (ready m q none) .go step-performs
 
+  -- The link in scratch.
+  link-then : ScratchLink view out → ScratchTold m q
+  unfolding takenBy
+  link-then (copied-link c) = copied (rw memory-then c)
+  link-then (made-link s e) = made (ap (λ (p : Party). p .step) record-then ∙ s) (rw memory-then e)
+
   trace-true : TraceTrue k m q
   trace-true =
       let into-old = ap (λ (t : Trace). t .intoOld) trace-then in
@@ -73,8 +81,9 @@ module _ (k : Clock) (m : Memory) (q : ℕ) (performed : performs (stepCall m q 
         known = rw trace-then (told .known);
         old-read = λ h. old-then ∙ told .old-read (sym into-old ∙ h);
         old-kept = λ h d. old-then ∙ told .old-kept (sym into-old ∙ h) (λ z. d (old-then ∙ z));
-        scratch-now = λ h. into-scratch ∙ told .scratch-now (sym (ap (λ (p : Party). p .step) record-then) ∙ h);
-        scratch-read = λ h. rw memory-then (told .scratch-read (sym into-scratch ∙ h));
+        scratch-now = λ h. into-scratch ∙ told .scratch-now (sym (ap (λ (p : Party). scratchOpen (p .step)) record-then) ∙ ap scratchOpen h);
+        scratch-built = λ h. into-scratch ∙ told .scratch-now (sym (ap (λ (p : Party). scratchOpen (p .step)) record-then) ∙ ap scratchOpen h);
+        scratch-read = λ h. link-then (told .scratch-read (sym into-scratch ∙ h));
         given = rw (trace-then, memory-then) (told .given);
         freed = λ x h. rw memory-then (told .freed x (rw trace-then at h));
       }

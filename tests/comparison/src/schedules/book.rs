@@ -1,4 +1,4 @@
-//! The book (document 01, "The set book"; document 02, change 1): a map of keys to settings, and for each operation under way what it must answer.
+//! The book (document 01, "The set book"; document 02, changes 1 and 2): a map of keys to settings, and for each operation under way what it must answer.
 
 use crate::part::Outcome;
 use bead_port::memory::{FIND, INSERT};
@@ -101,6 +101,11 @@ impl Book {
         }
     }
 
+    /// "Its entry goes from the book with the withdraw."
+    pub fn withdrawn(&mut self, party: u32) {
+        self.entries[party as usize] = None;
+    }
+
     /// "Done: the answer must be the note; the entry goes." Answers the entry.
     pub fn ended(&mut self, party: u32, answer: u32, setting: u32) -> Outcome<Entry> {
         let entry = self.entries[party as usize]
@@ -149,6 +154,16 @@ mod tests {
             book.performed(0, 6);
             assert_eq!(book.ended(0, FOUND, setting).is_ok(), right);
         }
+    }
+
+    #[test]
+    fn a_withdrawn_operation_is_none() {
+        let mut book = Book::new(2);
+        insert(&mut book, 5, INSERTED);
+        book.begun(0, DELETE, 7, 0);
+        book.performed(0, 10);
+        book.withdrawn(0);
+        assert!(book.entry(0).is_none() && book.settings().contains_key(&7));
     }
 
     #[test]

@@ -4,6 +4,7 @@
 mod book;
 mod pace;
 mod replaced;
+mod restored;
 
 use crate::at_rest;
 use crate::callee::{Call, Callee, Reply, REQUESTING};
@@ -17,6 +18,7 @@ use bead_port::memory::{FIND, INSERT};
 use bead_port::reply::FOUND;
 use book::Book;
 use pace::Pace;
+use restored::{RESTORED, RESTORED_PAGES};
 
 /// One session in so many has the largest sizes.
 const LARGE_EVERY: u64 = 40;
@@ -38,7 +40,7 @@ pub struct Schedules {
 }
 
 /// What must be met beside a wait at each requesting step.
-const NAMES: [&str; 17] = [
+const NAMES: [&str; 21] = [
     "found",
     "absent",
     "inserted",
@@ -56,10 +58,24 @@ const NAMES: [&str; 17] = [
     "refused 3",
     "refused 4",
     "refused 5",
+    "refused 7",
+    WITHDRAWN,
+    RESTORED,
+    RESTORED_PAGES,
 ];
 const STALE: &str = "answers of a find no longer true when given";
 const STALE_SETTING: &str = "settings found that were replaced by then";
 const FULL: &str = "begins with fifteen others under way";
+const WITHDRAWN: &str = "withdrawn";
+
+/// Whether the decisive step has been taken: "a find at 9, a change at 12 or later".
+fn is_decided(operation: u32, step: u32) -> bool {
+    if operation == FIND {
+        step == 9
+    } else {
+        step >= 12
+    }
+}
 
 impl Schedules {
     pub fn new(library: Box<dyn Callee>) -> Schedules {
@@ -86,18 +102,23 @@ impl Schedules {
     /// Any call: it is refused where party or book say so, and nowhere else.
     fn perform(&mut self, call: Call) -> Outcome<()> {
         let number = match call {
-            Call::Step(party) | Call::Begin(party, ..) if party >= self.sizes[4] => {
+            Call::Step(party) | Call::Begin(party, ..) | Call::Withdraw(party)
+                if party >= self.sizes[4] =>
+            {
                 return self.test_refused(call, 3)
             }
-            Call::Step(party) if self.book.entry(party).is_none() => {
+            Call::Step(party) | Call::Withdraw(party) if self.book.entry(party).is_none() => {
                 return self.test_refused(call, 5)
             }
             Call::Begin(party, ..) if self.book.entry(party).is_some() => {
                 return self.test_refused(call, 4)
             }
-            Call::Step(party) => self.image.party(party).step,
+            Call::Step(party) | Call::Withdraw(party) => self.image.party(party).step,
             _ => 0,
         };
+        if let Call::Withdraw(party) = call {
+            return self.withdraw(party, number);
+        }
         if let Call::Begin(..) = call {
             self.test_progress()?;
         }
@@ -112,6 +133,23 @@ impl Schedules {
             (_, reply) => return Err(format!("{call:?}: {reply:?} at step {number}")),
         }
         Ok(())
+    }
+
+    /// A withdraw of an operation under way is refused 7 once its decisive step is taken, and else accepted.
+    fn withdraw(&mut self, party: u32, step: u32) -> Outcome<()> {
+        let call = Call::Withdraw(party);
+        let operation = self.book.entry(party).map_or(FIND, |entry| entry.operation);
+        if is_decided(operation, step) {
+            return self.test_refused(call, 7);
+        }
+        match self.call(call) {
+            [0, 0, 0, 0, 0] => {
+                self.met.add(WITHDRAWN);
+                self.book.withdrawn(party);
+                self.test_progress()
+            }
+            reply => Err(format!("{call:?}: {reply:?} at step {step}")),
+        }
     }
 
     fn test_refused(&mut self, call: Call, due: u32) -> Outcome<()> {
@@ -200,12 +238,18 @@ impl Schedules {
                 let odd = [
                     Call::Step(party),
                     Call::Begin(party, FIND, habits.key(random), random.word()),
+                    Call::Withdraw(party),
                 ];
                 self.perform(random.pick(&odd))?;
             } else if self.book.entry(party).is_some() {
-                self.perform(Call::Step(party))?;
+                let withdraws = random.one_in(pace.withdraws);
+                let calls = [Call::Step(party), Call::Withdraw(party)];
+                self.perform(calls[usize::from(withdraws)])?;
             } else if random.one_in(pace.eager) {
                 let choice = self.choose(habits, random);
+                if random.one_in(8) {
+                    self.test_restored(party, choice, random)?;
+                }
                 self.perform(choice.begin(party))?;
             }
         }

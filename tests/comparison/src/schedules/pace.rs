@@ -1,4 +1,4 @@
-//! How a schedule goes: long or short turns of a party, idle parties eager to begin or not.
+//! How a schedule goes: long or short turns of a party, idle parties eager to begin or not, operations withdrawn often or seldom.
 
 use crate::random::Random;
 
@@ -7,6 +7,8 @@ pub struct Pace {
     burst: u32,
     /// An idle party begins in one of so many turns.
     pub eager: u32,
+    /// An operation under way is withdrawn in one of so many turns.
+    pub withdraws: u32,
     party: u32,
 }
 
@@ -15,6 +17,7 @@ impl Pace {
         Pace {
             burst: random.pick(&[1, 1, 1, 3, 20]),
             eager: random.pick(&[1, 1, 4, 30]),
+            withdraws: random.pick(&[20, 100, 100, 1000]),
             party: 0,
         }
     }

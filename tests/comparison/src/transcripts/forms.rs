@@ -10,7 +10,7 @@ const ANSWERS: [&str; 7] = [
 ];
 const RESTRUCTURINGS: [&str; 5] = ["none", "split", "split-skipped", "merged", "merge-skipped"];
 
-/// Reads one line without its newline: one of the five forms, single spaces, nothing before or after.
+/// Reads one line without its newline: one of the six forms, single spaces, nothing before or after.
 pub fn read(line: &str) -> Option<Call> {
     let inside = line.strip_prefix('(')?.strip_suffix(')')?;
     let (name, rest) = inside.split_once(' ')?;
@@ -38,6 +38,7 @@ pub fn read(line: &str) -> Option<Call> {
             ))
         }
         "step" => Some(Call::Step(number(rest)?)),
+        "withdraw" => Some(Call::Withdraw(number(rest)?)),
         _ => None,
     }
 }
@@ -58,6 +59,7 @@ pub fn answer(call: Call, reply: Reply) -> String {
         Call::Format(_) => format!("(format {})", code(reply[0], "ok")),
         Call::Begin(party, ..) => format!("(begin {party} {})", code(reply[0], "ok")),
         Call::Step(party) => format!("(step {party} {})", code(reply[0], &outcome(reply))),
+        Call::Withdraw(party) => format!("(withdraw {party} {})", code(reply[0], "ok")),
     }
 }
 
@@ -115,6 +117,7 @@ mod tests {
             Some(Call::Begin(0, 2, 7, 5))
         );
         assert_eq!(read("(step 007)"), Some(Call::Step(7)));
+        assert_eq!(read("(withdraw 3)"), Some(Call::Withdraw(3)));
     }
 
     #[test]
@@ -140,6 +143,9 @@ mod tests {
             "(step +1)",
             "(step 0)\r",
             "step 0",
+            "(withdraw)",
+            "(withdraw 0 7)",
+            "(withdraw 0",
         ];
         assert!(lines.iter().all(|line| read(line).is_none()));
         let lines = [

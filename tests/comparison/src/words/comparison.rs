@@ -76,7 +76,9 @@ impl Comparison {
     /// The step number that the called party's record held before the call.
     fn step_before(&self, call: Call) -> u32 {
         match call {
-            Call::Step(party) if (party as usize) < self.before.party_count() => {
+            Call::Step(party) | Call::Withdraw(party)
+                if (party as usize) < self.before.party_count() =>
+            {
                 self.before.party(party).step
             }
             _ => 0,

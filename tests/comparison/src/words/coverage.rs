@@ -30,9 +30,13 @@ pub struct Coverage {
     ended: [u64; STEPS],
     answers: [u64; 7],
     restructurings: [u64; 5],
-    /// Refusals of format, begin and step, by number; the last place is 255.
-    refusals: [[u64; 8]; 3],
+    /// Withdraws accepted, by the step number that the record held.
+    withdrawn: [u64; STEPS],
+    /// Refusals of format, begin, step and withdraw, by number; the last place is 255.
+    refusals: [[u64; 9]; 4],
     causes: Vec<[u64; STEPS]>,
+    /// The causes of a withdraw refused 6, likewise.
+    withdraw_causes: Vec<[u64; STEPS]>,
     pub situations: Situations,
 }
 
@@ -44,8 +48,10 @@ impl Coverage {
             ended: [0; STEPS],
             answers: [0; 7],
             restructurings: [0; 5],
-            refusals: [[0; 8]; 3],
+            withdrawn: [0; STEPS],
+            refusals: [[0; 9]; 4],
             causes: vec![[0; STEPS]; CAUSES.len()],
+            withdraw_causes: vec![[0; STEPS]; CAUSES.len()],
             situations: Situations::new(),
         }
     }
@@ -61,9 +67,17 @@ impl Coverage {
                 self.count_outcome(step, outcome, answer as usize, restructuring as usize);
             }
             (Call::Step(_), [code, ..]) => self.refusals[2][place(code)] += 1,
+            (Call::Withdraw(_), [code, ..]) => {
+                self.refusals[3][place(code)] += 1;
+                self.withdrawn[step] += u64::from(code == 0);
+            }
         }
+        let causes = match call {
+            Call::Withdraw(_) => &mut self.withdraw_causes,
+            _ => &mut self.causes,
+        };
         if let Some(cause) = cause {
-            self.causes[cause as usize][step] += 1;
+            causes[cause as usize][step] += 1;
         }
     }
 
@@ -112,7 +126,26 @@ impl Coverage {
             .flat_map(|(cause, words)| self.cause_rows(*cause, words));
         let ends = ends.into_iter().chain(answers).chain(made);
         let all = steps.chain(waits).chain(ends).chain(refusals).chain(causes);
-        all.chain(self.situations.rows()).collect()
+        all.chain(self.withdraw_rows())
+            .chain(self.situations.rows())
+            .collect()
+    }
+
+    /// A withdraw at each step before the decisive one, and each cause that it tests.
+    fn withdraw_rows(&self) -> Vec<Row> {
+        let withdrawn =
+            WITHDRAWN.map(|step| (format!("withdrawn at {step}"), self.withdrawn[step]));
+        let causes = CAUSES.iter().flat_map(|(cause, words)| {
+            let counts = &self.withdraw_causes[*cause as usize];
+            let row = move |step: &usize| {
+                (
+                    format!("withdraw refused 6 at {step}: {words}"),
+                    counts[*step],
+                )
+            };
+            withdraw_steps_of(*cause).iter().map(row)
+        });
+        withdrawn.into_iter().chain(causes).collect()
     }
 
     /// A cause in all, then at each step where it must have been met.
@@ -125,13 +158,16 @@ impl Coverage {
     }
 }
 
-const CALLS: [&str; 3] = ["format", "begin", "step"];
+const CALLS: [&str; 4] = ["format", "begin", "step", "withdraw"];
+
+/// The steps before which an operation can be withdrawn.
+const WITHDRAWN: [usize; 10] = [1, 2, 3, 4, 5, 6, 7, 8, 10, 11];
 
 /// The steps that can end an operation.
 const ENDING: [usize; 9] = [9, 12, 14, 16, 17, 22, 24, 26, 30];
 
 /// The refusals that each call can give, the call by its place in `CALLS`.
-const REFUSALS: [(usize, u32); 12] = [
+const REFUSALS: [(usize, u32); 18] = [
     (0, 1),
     (0, 2),
     (1, 1),
@@ -144,10 +180,16 @@ const REFUSALS: [(usize, u32); 12] = [
     (2, 3),
     (2, 5),
     (2, 6),
+    (3, 1),
+    (3, 2),
+    (3, 3),
+    (3, 5),
+    (3, 6),
+    (3, 7),
 ];
 
 fn place(code: u32) -> usize {
-    code.min(7) as usize
+    code.min(8) as usize
 }
 
 /// The steps at which a cause must have been met; none are named where every step tests it.
@@ -166,6 +208,21 @@ fn steps_of(cause: Cause) -> &'static [usize] {
         Cause::OldLinkAstray => &[13, 14, 29],
         Cause::KeysNotAscending => &[10, 17, 26],
         Cause::FreeCountOverfull => &[14, 29],
+        _ => &[],
+    }
+}
+
+/// The steps at which a withdraw must have met a cause.
+fn withdraw_steps_of(cause: Cause) -> &'static [usize] {
+    match cause {
+        Cause::CountAbovePage
+        | Cause::LocalLevelAbove9
+        | Cause::LinkAstray
+        | Cause::ChainTooLong
+        | Cause::FreeCountOverfull => &[11],
+        Cause::RootLockNotHeld => &[2, 3, 4, 5],
+        Cause::ChainLockNotHeld => &[5, 6, 8, 10, 11],
+        Cause::OtherLockNotHeld => &[7, 8],
         _ => &[],
     }
 }

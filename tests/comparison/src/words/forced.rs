@@ -20,6 +20,9 @@ pub fn trial(comparison: &mut Comparison, random: &mut Random) -> Outcome<()> {
     }
     (0..random.pick(&[0, 1, 1, 2])).for_each(|_| alter(&mut image, party, random));
     comparison.lend(&image);
+    if random.one_in(4) {
+        comparison.call(Call::Withdraw(party))?;
+    }
     for _ in 0..random.pick(&[1, 2, 6]) {
         comparison.call(Call::Step(party))?;
     }

@@ -73,6 +73,7 @@ fn calls(comparison: &mut Comparison, sizes: [u32; 5], random: &mut Random) -> O
         let call = match random.below(8) {
             0 => Call::Format(any(random)),
             1..=3 => Call::Begin(party, random.below(5), random.word(), random.word()),
+            4 => Call::Withdraw(party),
             _ => Call::Step(party),
         };
         comparison.call(call)?;

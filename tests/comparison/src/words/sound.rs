@@ -34,7 +34,8 @@ impl Plan {
     fn call(&mut self, image: &Image, random: &mut Random) -> Call {
         let party = random.below(self.active);
         if image.party(party).operation != 0 {
-            return Call::Step(party);
+            let withdraws = random.one_in(40);
+            return [Call::Step(party), Call::Withdraw(party)][usize::from(withdraws)];
         }
         self.habits.choose(random).begin(party)
     }
@@ -53,6 +54,7 @@ impl Plan {
             1 => Call::Format([n, b, p, v, q + 1]),
             2 => Call::Format([p + 1, b, p, v, q]),
             3 => Call::Step(random.word()),
+            4 => Call::Withdraw(party),
             _ => Call::Step(party),
         }
     }

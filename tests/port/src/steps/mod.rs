@@ -1,15 +1,18 @@
-//! The thirty steps: which rule a step number has, and what many rules share.
+//! The thirty steps and withdraw: which rule a step number has, and what many rules share.
 
 mod change;
 mod locating;
 mod merge;
 mod split;
+mod withdraw;
 
 use crate::calls::Lent;
 use crate::damage::{Cause, Damage};
 use crate::locks::{self, Mode};
 use crate::memory::{Page, Party, EMPTY_PAGE, FIND, OWED_MERGE, OWED_SPLIT, SPLIT_MADE};
 use crate::reply::{Answer, Outcome, Restructuring};
+
+pub(crate) use withdraw::withdraw;
 
 type Result<D> = std::result::Result<Outcome, D>;
 
@@ -73,9 +76,14 @@ impl<D: Damage> Lent<'_, D> {
     /// "Done" "zeroes the party's record and scratch page".
     #[inline]
     fn done(&mut self, answer: Answer, made: Restructuring) -> Result<D> {
+        self.clear();
+        Ok(Outcome::Done(answer, made))
+    }
+
+    #[inline(always)]
+    fn clear(&mut self) {
         *self.party = Party::default();
         *self.scratch() = EMPTY_PAGE;
-        Ok(Outcome::Done(answer, made))
     }
 
     /// "An owed split goes to 15 and an owed merge to 23; else the operation is done."

@@ -45,19 +45,24 @@ impl File {
         self.parties[party as usize].operation == 0
     }
 
-    /// The step that a form asks for, 0 where it asks for none.
-    pub fn step_of(&self, form: Form) -> u32 {
+    /// The record of the party that a form steps or withdraws; a zero record where there is none.
+    pub fn record_of(&self, form: Form) -> Party {
         match form {
-            Form::Step(party) => self
+            Form::Step(party) | Form::Withdraw(party) => self
                 .parties
                 .get(party as usize)
-                .map_or(0, |party| party.step),
-            _ => 0,
+                .copied()
+                .unwrap_or_default(),
+            _ => Party::default(),
         }
     }
 
     pub fn level(&self) -> u32 {
         self.root.level
+    }
+
+    pub fn free_count(&self) -> u32 {
+        self.root.free_count
     }
 
     /// The sizes of the file that is held.
@@ -101,6 +106,12 @@ impl File {
             Form::Step(party) => {
                 let result = calls::step::<Unnamed>(root, parties, locks, pages, words, party);
                 print_step(party, result, out)
+            }
+            Form::Withdraw(party) => {
+                match calls::withdraw::<Unnamed>(root, parties, locks, pages, words, party) {
+                    Ok(()) => writeln!(out, "(withdraw {party} ok)"),
+                    Err(cause) => writeln!(out, "(withdraw {party} (refused {}))", cause.number()),
+                }
             }
         }
     }

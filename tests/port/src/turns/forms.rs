@@ -9,6 +9,7 @@ pub enum Form {
     /// Party, operation, key, and a setting, which an insert alone has.
     Begin(u32, u32, u32, u32),
     Step(u32),
+    Withdraw(u32),
 }
 
 impl fmt::Display for Form {
@@ -23,15 +24,17 @@ impl fmt::Display for Form {
                 write!(out, "(begin {party} ({name} {key}))")
             }
             Form::Step(party) => write!(out, "(step {party})"),
+            Form::Withdraw(party) => write!(out, "(withdraw {party})"),
         }
     }
 }
 
-/// Reads one line without its newline: one of the five forms, single spaces, nothing before or after.
+/// Reads one line without its newline: one of the six forms, single spaces, nothing before or after.
 pub fn read(line: &str) -> Option<Form> {
     let (name, rest) = line.strip_prefix('(')?.strip_suffix(')')?.split_once(' ')?;
     match name {
         "step" => Some(Form::Step(number(rest)?)),
+        "withdraw" => Some(Form::Withdraw(number(rest)?)),
         "begin" => {
             let (party, operation) = rest.split_once(" (")?;
             let (name, words) = operation.strip_suffix(')')?.split_once(' ')?;

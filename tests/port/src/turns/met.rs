@@ -1,13 +1,16 @@
-//! What scripts meet: each line is answered, and counted by its reply, by the step that waited, and by how the root record's level moved.
+//! What scripts meet: each line is answered, and counted by its reply, by the step that waited or was withdrawn, and by how the root record's level moved.
 
 use crate::file::File;
 use crate::forms;
+use bead_port::memory::{Party, FIND, INSERT};
 use std::collections::BTreeMap;
 use std::fs;
 use std::io::{self, Write};
 
 /// The steps that request a lock.
 const REQUESTS: [u32; 9] = [1, 4, 7, 13, 15, 16, 23, 24, 25];
+/// The step that writes the pages built into the file.
+const WRITES: u32 = 11;
 
 /// Reads scripts, each from zero memory, and prints a line for each thing that they meet, with its count.
 pub fn print(scripts: &[String], out: &mut impl Write) -> io::Result<()> {
@@ -38,7 +41,8 @@ fn things(file: &mut File, line: &[u8]) -> io::Result<Vec<String>> {
         Some(form) => form,
         None => return Ok(vec!["unread".to_string()]),
     };
-    let (step, level) = (file.step_of(form), file.level());
+    let (record, level, free) = (file.record_of(form), file.level(), file.free_count());
+    let step = record.step;
     let mut reply = Vec::new();
     file.answer(form, &mut reply)?;
     let reply = String::from_utf8_lossy(&reply);
@@ -54,7 +58,12 @@ fn things(file: &mut File, line: &[u8]) -> io::Result<Vec<String>> {
             met.push(format!("done {made}"));
             met.push(format!("done at {step:2}"));
         }
+        ["withdraw", _, "(refused", "7"] => {
+            met.push("withdraw refused 7".to_string());
+            met.push(format!("refused 7 at {step:2}"));
+        }
         [_, .., "(refused", number] => met.push(format!("{} refused {number}", words[0])),
+        ["withdraw", _, "ok"] => met.extend(withdrawn(record, file.free_count() - free)),
         _ => {}
     }
     if words[0] == "step" && file.level() != level {
@@ -66,4 +75,18 @@ fn things(file: &mut File, line: &[u8]) -> io::Result<Vec<String>> {
         met.push(format!("level {way}"));
     }
     Ok(met)
+}
+
+/// What a withdraw that was not refused meets: the operation and the step, and how many pages built went back.
+fn withdrawn(record: Party, pages: u32) -> Vec<String> {
+    let name = match record.operation {
+        FIND => "find",
+        INSERT => "insert",
+        _ => "delete",
+    };
+    let mut met = vec![format!("{name} withdrawn at {:2}", record.step)];
+    if record.step == WRITES {
+        met.push(format!("pages built and given back: {pages}"));
+    }
+    met
 }

@@ -1,28 +1,34 @@
-//! A script of forms made at random: operations of every kind by every party, steps in any order, each party's begin where it is idle.
+//! A script of forms made at random: operations of every kind by every party, steps and withdraws in any order, each party's begin where it is idle.
 
 use crate::file::File;
 use crate::forms::Form;
 use bead_port::memory::{DELETE, FIND, INSERT};
 use std::io::{self, Write};
 
-/// What a script is made from: how many lines, the seed, the sizes of the file, and how many keys there are.
+/// What a script is made from: how many lines, the seed, the sizes of the file, how many keys there are, and of how many turns of a busy party one is a withdraw,
+/// 0 for none.
 pub struct Plan {
     pub lines: u32,
     pub seed: u32,
     pub sizes: [u32; 5],
     pub keys: u32,
+    pub withdraws: u32,
 }
 
 impl Plan {
-    /// From eight numbers: LINES SEED N b P V Q KEYS.
+    /// From eight or nine numbers: LINES SEED N b P V Q KEYS [WITHDRAWS].
     pub fn read(numbers: &[u32]) -> Option<Plan> {
-        let [lines, seed, n, b, p, v, q, keys] = <[u32; 8]>::try_from(numbers).ok()?;
+        let (&[lines, seed, n, b, p, v, q, keys], withdraws) = match numbers {
+            [first @ .., last] if numbers.len() == 9 => (first.try_into().ok()?, *last),
+            _ => (numbers.try_into().ok()?, 0),
+        };
         let sizes = [n, b, p, v, q];
         Some(Plan {
             lines,
             seed,
             sizes,
             keys,
+            withdraws,
         })
     }
 }
@@ -65,6 +71,8 @@ pub fn print(plan: &Plan, out: &mut impl Write) -> io::Result<()> {
                 _ => mostly,
             };
             Form::Begin(party, operation, random.below(plan.keys), line)
+        } else if plan.withdraws > 0 && random.below(plan.withdraws) == 0 {
+            Form::Withdraw(party)
         } else {
             Form::Step(party)
         };

@@ -6,6 +6,7 @@ pub enum Form {
     Format(Sizes),
     Begin(u32, Operation),
     Step(u32),
+    Withdraw(u32),
 }
 
 /// The form on a line that has one.
@@ -26,6 +27,7 @@ pub fn read_form(line: &str) -> Option<Form> {
             Some(Form::Begin(party.parse().ok()?, read_operation(operation)?))
         }
         ["step", party] => Some(Form::Step(party.parse().ok()?)),
+        ["withdraw", party] => Some(Form::Withdraw(party.parse().ok()?)),
         _ => None,
     }
 }

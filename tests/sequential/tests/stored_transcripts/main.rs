@@ -1,5 +1,5 @@
 //! Compares the model with the stored transcripts: each script from a format on, for as long as
-//! one party at a time is under way.
+//! one party at a time is under way. A withdrawn operation is none of the model's.
 
 mod forms;
 
@@ -43,6 +43,7 @@ impl Follower {
                 Ok(())
             }
             Form::Step(party) => self.follow_step(party, reply),
+            Form::Withdraw(party) => self.follow_withdraw(party),
         }
     }
 
@@ -60,6 +61,16 @@ impl Follower {
         self.compared += 1;
         let outcome = file.perform(operation);
         expect(&format!("(step {party} {outcome})"), reply)
+    }
+
+    /// A withdraw that was not refused: the operation under way is never performed.
+    fn follow_withdraw(&mut self, party: u32) -> Result<(), String> {
+        match (&self.file, self.under_way) {
+            (Some(_), Some((same, _))) if same == party => self.under_way = None,
+            (Some(_), _) => return Err(format!("(withdraw {party} (refused 5))")),
+            (None, _) => {}
+        }
+        Ok(())
     }
 }
 
@@ -130,6 +141,12 @@ fn altered_replies_are_noticed() {
     }
     let sizes = [["(format 1 7 2 0 1)", "(format ok)"]];
     assert!(compare_lines(&sizes).is_err());
+    let idle = [
+        ["(format 1 1 2 0 1)", "(format ok)"],
+        ["(withdraw 0)", "(withdraw 0 ok)"],
+    ];
+    let difference = "line 2: (withdraw 0 ok) should be (withdraw 0 (refused 5))";
+    assert_eq!(compare_lines(&idle), Err(difference.to_string()));
 }
 
 #[test]
@@ -150,4 +167,19 @@ fn only_operations_run_singly_are_compared() {
         ["(step 1)", "(step 1 (done absent none))"],
     ];
     assert_eq!(compare_lines(&script), Ok(2));
+}
+
+#[test]
+fn a_withdrawn_operation_is_not_performed() {
+    let script = [
+        ["(format 1 1 2 0 2)", "(format ok)"],
+        ["(begin 0 (insert 7 5))", "(begin 0 ok)"],
+        ["(step 0)", "(step 0 moved)"],
+        ["(withdraw 0)", "(withdraw 0 ok)"],
+        ["(withdraw 0)", "(withdraw 0 (refused 5))"],
+        ["(begin 1 (find 7))", "(begin 1 ok)"],
+        ["(withdraw 1)", "(withdraw 1 (refused 7))"],
+        ["(step 1)", "(step 1 (done absent none))"],
+    ];
+    assert_eq!(compare_lines(&script), Ok(1));
 }

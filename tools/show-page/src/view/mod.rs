@@ -7,7 +7,9 @@ mod parties;
 mod root;
 mod scratch;
 
+pub use locks::held_by;
 pub use parties::operation;
+pub use scratch::new_pages;
 
 use crate::cells::{Row, Section, View};
 use crate::memory::{Memory, Request};

@@ -33,7 +33,7 @@ use Rattle.model.proofs.Laws.Filling.{overflow-linked, chain-level, cha
 use Rattle.model.proofs.Laws.Reading.{held-overflow}
 use Rattle.model.proofs.Invariant.Ghost.{Extent, inChain, size, localLevel}
 use Rattle.model.proofs.Invariant.Owners.{no-repeats, own-of-member}
-use Rattle.model.proofs.Invariant.Claims.{claims}
+use Rattle.model.specs.Claims.{claims}
 use Rattle.model.proofs.Invariant.LockMoves.{locks-stay}
 use Rattle.model.proofs.Invariant.Statement.{restructures, Scene, Early, Heads, Walking, in-chain, Busy, PartyOk, working}
 use Rattle.model.proofs.Invariant.Extents.{next-heads, home-is, local-most}

@@ -25,7 +25,8 @@ use Rattle.model.proofs.Laws.Pages.{Has, length-withPage, page-same, pa
 use Rattle.model.proofs.Laws.Filling.{link-sound}
 use Rattle.model.proofs.Laws.Reading.{held-overflow, held-length, linked-list}
 use Rattle.model.proofs.Invariant.Ghost.{oldOf, partnerOf, size, count, Ghost}
-use Rattle.model.proofs.Invariant.Claims.{claims, claimed, LocksOk}
+use Rattle.model.specs.Claims.{claims}
+use Rattle.model.proofs.Invariant.Claims.{claimed, LocksOk}
 use Rattle.model.proofs.Invariant.LockMoves.{locks-root, locks-stay}
 use Rattle.model.proofs.Invariant.Restructurer.{others-use-none}
 use Rattle.model.proofs.Invariant.Statement.{restructures, liveFor, lowFor, ExtentsOk, uses, Emptying, MovedBack, working}
@@ -33,7 +34,7 @@ use Rattle.model.proofs.Invariant.Turn.{Turn, before, has-step, its-cla
 use Rattle.model.proofs.Effects.Kept.{Kept, Parts, moved-kept}
 use Rattle.model.proofs.Effects.Touch.{outside}
 use Rattle.model.proofs.Effects.Moves.{busy-onto, extents-keep}
-use Rattle.model.proofs.Effects.GivingBack.{givenGhost, givenRoot, givenPages, given-sizes, given-long, given-room, no-pages-given, GivesBack, givenScene, giving-parts}
+use Rattle.model.proofs.Effects.GivingBack.{no-reader, oldKinds, one-listed, givenGhost, givenRoot, givenPages, given-sizes, given-long, given-room, no-pages-given, GivesBack, givenScene, giving-parts}
 use Rattle.model.proofs.Effects.Releases.{Holds, holds-it}
 
 module _ {m : Memory} {b : Book} {q : ℕ} (t : Turn m b q 29) where
@@ -78,18 +79,18 @@ module _ {m : Memory} {b : Book} {q : ℕ} (t : Turn m b q 29) where
 
   found : mergedAway r (m .pages) (me t) ≡ sound gone
   unfolding mergedAway roomToGiveBack
-  found = rw (old-sound, emptying .partner-sound, olds-listed, partners-listed, given-room t gone all-mine) refl
+  found = rw (old-sound, emptying .partner-sound, olds-listed, partners-listed, given-room t oldKinds gone all-mine) refl
 
   -- ---- What is left
 
   abbrev given : List ℕ
-  given = givenPages t gone all-mine
+  given = givenPages t oldKinds gone all-mine
 
   abbrev root-then : Root
-  root-then = givenRoot t gone all-mine
+  root-then = givenRoot t oldKinds gone all-mine
 
   abbrev ghost-then : Ghost
-  ghost-then = givenGhost t gone all-mine
+  ghost-then = givenGhost t oldKinds gone all-mine
 
   abbrev pages-then : List ℕ
   pages-then = withPage given (me t .other) zeroPage
@@ -98,7 +99,7 @@ module _ {m : Memory} {b : Book} {q : ℕ} (t : Turn m b q 29) where
   p-then = atStep 30 (me t)
 
   has-other : Has given (me t .other)
-  has-other = record { fits = omega (arith, given-long t gone all-mine, t .inv .pages-many, t .busy .other-fits) }
+  has-other = record { fits = omega (arith, given-long t oldKinds gone all-mine, t .inv .pages-many, t .busy .other-fits) }
 
   holds-chain : Holds t (chainExclusive (me t))
   holds-chain = record { word-fits = omega (arith, t .busy .chain-fits); front = rootSelective ∷ []; back = otherExclusive (me t) ∷ []; has = refl }
@@ -107,7 +108,7 @@ module _ {m : Memory} {b : Book} {q : ℕ} (t : Turn m b q 29) where
   unfolding uses
   only-other d n = rw (t .is-at, eqb-diff (me t .other) d (λ e. n (sym e))) refl
 
-  gives-back : GivesBack t gone all-mine pages-then b (me t .other)
+  gives-back : GivesBack t oldKinds gone all-mine pages-then b (me t .other)
   gives-back = record {
     long = length-withPage given (me t .other) zeroPage has-other length-zeroPage;
     off = λ x n. page-other given (me t .other) zeroPage has-other length-zeroPage x n;
@@ -115,15 +116,15 @@ module _ {m : Memory} {b : Book} {q : ℕ} (t : Turn m b q 29) where
     may-touch = outside (t .busy .other-fits) (omega (arith, size-is, moved-back .partner)) (others-use-none m b (t .inv) q (restructures-now t) (me t .other));
     zeroed = λ h. page-same given (me t .other) zeroPage has-other length-zeroPage;
     only-used = only-other;
-    holds-chain = holds-it t holds-chain;
-    chain-fits = t .busy .chain-fits;
+    old-listed = one-listed t oldKinds gone all-mine;
+    unread = λ x e j n k. no-reader m b (t .inv) q (t .busy .chain-fits) (holds-it t holds-chain) j n k;
     entries= = λ j n. refl;
     contents= = refl;
   }
 
   extents-then : ExtentsOk root-then (set (m .parties) q p-then) ghost-then
   unfolding restructures liveFor lowFor
-  extents-then = extents-keep t (record { sizes = given-sizes t gone all-mine; live= = refl; low= = refl }) p-then refl refl refl
+  extents-then = extents-keep t (record { sizes = given-sizes t oldKinds gone all-mine; live= = refl; low= = refl }) p-then refl refl refl
 
   locks-then : LocksOk (lockWords root-then) (m .locks) (claimed root-then (set (m .parties) q p-then))
   unfolding claims
@@ -132,9 +133,9 @@ module _ {m : Memory} {b : Book} {q : ℕ} (t : Turn m b q 29) where
   parts-then : Parts m b (t .inv) q root-then (m .locks) pages-then p-then b ghost-then
   unfolding hasStep
   parts-then =
-      giving-parts t gone all-mine pages-then p-then b (me t .other) gives-back (m .locks) extents-then locks-then
+      giving-parts t oldKinds gone all-mine pages-then p-then b (me t .other) gives-back (m .locks) extents-then locks-then
       (working (t .entered)
-      (busy-onto t 30 (has-step t) (omega arith) (givenScene t gone all-mine pages-then p-then b (me t .other) gives-back) refl refl (me t .old)) (
+      (busy-onto t 30 (has-step t) (omega arith) (givenScene t oldKinds gone all-mine pages-then p-then b (me t .other) gives-back) refl refl (me t .old)) (
         record { noted = emptying .noted; made = emptying .made; no-pages = no-pages-given t gone all-mine (emptying .nothing-built) _ refl },
         record { target = moved-back .target; partner = moved-back .partner; room = moved-back .room },
       ))

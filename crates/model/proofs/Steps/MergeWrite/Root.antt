@@ -27,7 +27,8 @@ use Rattle.model.proofs.Laws.Lists.{Cmp, same, diff, cmp, and-both, lef
 use Rattle.model.proofs.Laws.Retreat.{Retreat, merge-retreats}
 use Rattle.model.proofs.Laws.Structure.{same-on}
 use Rattle.model.proofs.Invariant.Ghost.{owner, extent, rootExtent, size, Ghost}
-use Rattle.model.proofs.Invariant.Claims.{claims, claimTable, noLock, isClaimed, claimed, LocksOk}
+use Rattle.model.specs.Claims.{claims, claimTable, noLock}
+use Rattle.model.proofs.Invariant.Claims.{isClaimed, claimed, LocksOk}
 use Rattle.model.proofs.Invariant.LockMoves.{exclusive-alone, locks-turned, locks-move, locks-root}
 use Rattle.model.proofs.Invariant.Statement.{restructures, liveFor, lowFor, ExtentsOk, PagesOk, Scene, Joined, MovedBack, Busy, working}
 use Rattle.model.proofs.Invariant.Frame.{SameLimits, Grows, Keeps, claims-at, named}

@@ -37,7 +37,8 @@ use Rattle.model.proofs.Invariant.Owners.{kinds-apart, indices-apart}
 use Rattle.model.proofs.Invariant.Handing.{ownAlso, heldAlso, Also, beside-chain, beside-party, beside-kind, also-to, also-from, also-chain, also-old, also-built, also-other, owned-also, own-also-other, kinds-also}
 use Rattle.model.proofs.Invariant.Extents.{size-is, local-most, local-rest, key-home, away-absent}
 use Rattle.model.proofs.Invariant.Advance.{advance-size, advance-other, advance-split, advance-made, hash-back, hash-back-made, split-hash, home-splits, home-other, home-split, home-made}
-use Rattle.model.proofs.Invariant.Claims.{claims, isClaimed, claimed}
+use Rattle.model.specs.Claims.{claims}
+use Rattle.model.proofs.Invariant.Claims.{isClaimed, claimed}
 use Rattle.model.proofs.Invariant.LockMoves.{locks-stay}
 use Rattle.model.proofs.Invariant.Statement.{restructures, liveFor, lowFor, ExtentsOk, uses, PagesOk, BookOk, Scene, Protected, in-chain, in-old, Building, Joined, MovedBack, Emptying, PartyOk, working}
 use Rattle.model.proofs.Invariant.Frame.{StaysLive, Grows, Keeps, restructures-at, claims-at, named, later}

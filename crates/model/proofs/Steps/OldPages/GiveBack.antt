@@ -38,7 +38,7 @@ use Rattle.model.proofs.Effects.Kept.{Kept, assemble, Parts, moved-kept
 use Rattle.model.proofs.Effects.Moves.{busy-onto, names-old, split-owed, merge-owed, extents-rest}
 use Rattle.model.proofs.Effects.Touch.{own-scratch}
 use Rattle.model.proofs.Effects.Releases.{release-locks, Holds, holds-it, held-one}
-use Rattle.model.proofs.Effects.GivingBack.{givenGhost, givenRoot, givenPages, given-sizes, given-long, given-room, no-pages-given, giving-parts}
+use Rattle.model.proofs.Effects.GivingBack.{no-reader, oldKinds, one-listed, givenGhost, givenRoot, givenPages, given-sizes, given-long, given-room, no-pages-given, giving-parts}
 use Rattle.model.proofs.Laws.Answers.{same-answer}
 
 module _ {m : Memory} {b : Book} {q : ℕ} (t : Turn m b q 14) where
@@ -69,13 +69,13 @@ module _ {m : Memory} {b : Book} {q : ℕ} (t : Turn m b q 14) where
   all-mine x = omega (arith, ap (count x) (t .facts .leaving .no-partner), count-nil x)
 
   abbrev given : List ℕ
-  given = givenPages t olds all-mine
+  given = givenPages t oldKinds olds all-mine
 
   abbrev root-then : Root
-  root-then = givenRoot t olds all-mine
+  root-then = givenRoot t oldKinds olds all-mine
 
   abbrev ghost-then : Ghost
-  ghost-then = givenGhost t olds all-mine
+  ghost-then = givenGhost t oldKinds olds all-mine
 
   abbrev locks-then : List ℕ
   locks-then = set (m .locks) (chainWord (me t .chain)) (releasedWord (getD (m .locks) (chainWord (me t .chain)) 0) q Exclusive)
@@ -93,7 +93,7 @@ module _ {m : Memory} {b : Book} {q : ℕ} (t : Turn m b q 14) where
 
   given-parts : (ps : List ℕ) (p : Party) (c : Book) → Leaves ps p c → Parts m b (t .inv) q root-then locks-then ps p c ghost-then
   given-parts ps p c x =
-      giving-parts t olds all-mine ps p c (scratchPage (m .root) q)
+      giving-parts t oldKinds olds all-mine ps p c (scratchPage (m .root) q)
       (record {
         long = x .long;
         off = x .off;
@@ -101,12 +101,12 @@ module _ {m : Memory} {b : Book} {q : ℕ} (t : Turn m b q 14) where
         may-touch = own-scratch refl;
         zeroed = λ h. absurd (omega arith);
         only-used = λ d n. uses-none t refl d;
-        holds-chain = holds-it t holds-chain;
-        chain-fits = t .busy .chain-fits;
+        old-listed = one-listed t oldKinds olds all-mine;
+        unread = λ x e j n k. no-reader m b (t .inv) q (t .busy .chain-fits) (holds-it t holds-chain) j n k;
         entries= = x .entries=;
         contents= = x .contents=;
       })
-      locks-then (extents-rest t (record { sizes = given-sizes t olds all-mine; live= = refl; low= = refl }) p refl (x .rests))
+      locks-then (extents-rest t (record { sizes = given-sizes t oldKinds olds all-mine; live= = refl; low= = refl }) p refl (x .rests))
       (locks-root (m .root) root-then (set (m .parties) q p) (release-locks t holds-chain p (x .no-claims) tt)) (x .self)
 
   -- ---- Where 14 leads
@@ -149,12 +149,12 @@ module _ {m : Memory} {b : Book} {q : ℕ} (t : Turn m b q 14) where
       }))
     where
       has-scratch : Has given (scratchPage (m .root) q)
-      has-scratch = record { fits = omega (arith, given-long t olds all-mine, t .inv .pages-many) }
+      has-scratch = record { fits = omega (arith, given-long t oldKinds olds all-mine, t .inv .pages-many) }
 
   pub step14-kept : Kept m b q (step14 (viewOf m q))
   unfolding step14 oldGivenBack roomToGiveBack pagesGivenBack givenUp withoutHold onward finished refusalNumber agreesWith afterReply isNoteOf isNote hasStep
   step14-kept =
-      rw (named, listed, given-room t olds all-mine, held-one t holds-chain)
+      rw (named, listed, given-room t oldKinds olds all-mine, held-one t holds-chain)
       (cond-ind (Kept m b q) (eqb (me t .owed) 1) _ _
       (λ e. goes-on 15 (rw (split-owed (me t) (t .facts .owed-fits) (eqb-true _ _ e)) refl) refl refl (λ s f. f))
       (λ _. cond-ind (Kept m b q) (eqb (me t .owed) 2) _ _

@@ -34,7 +34,8 @@ use Rattle.model.proofs.Invariant.Owners.{kinds-apart, indices-apart}
 use Rattle.model.proofs.Invariant.Handing.{ownAlso, heldAlso, Also, beside-chain, beside-party, beside-kind, also-to, also-from, also-chain, also-old, also-built, also-other, owned-also, own-also-old, own-also-other, kinds-also}
 use Rattle.model.proofs.Invariant.Extents.{size-is, level-fits, local-rest, advance-grows}
 use Rattle.model.proofs.Invariant.Advance.{advance-size, advance-fits, advance-other, advance-split, advance-made, split-hash, home-inside, home-splits, home-other, home-split, home-made}
-use Rattle.model.proofs.Invariant.Claims.{claims, isClaimed, claimed}
+use Rattle.model.specs.Claims.{claims}
+use Rattle.model.proofs.Invariant.Claims.{isClaimed, claimed}
 use Rattle.model.proofs.Invariant.LockMoves.{locks-stay}
 use Rattle.model.proofs.Invariant.Statement.{restructures, liveFor, ExtentsOk, uses, PagesOk, BookOk, Scene, Protected, Divided, Building, Leaving, PartyOk, working, lowFor}
 use Rattle.model.proofs.Invariant.Frame.{Grows, Keeps, restructures-at, named, later}

@@ -34,7 +34,8 @@ use Rattle.model.proofs.Laws.Changes.{ChangeMade, change-made, keys-kep
 use Rattle.model.proofs.Invariant.Ghost.{Owner, owner, free, inChain, oldOf, partnerOf, builtBy, newBy, size, localLevel, sameOwner, Ghost}
 use Rattle.model.proofs.Invariant.Owners.{kinds-apart, indices-apart, ownAnew, heldAnew, anew-chain, anew-old, anew-built, anew-other, owned-anew, own-anew-old, own-anew-other, kinds-anew}
 use Rattle.model.proofs.Invariant.Extents.{home-is}
-use Rattle.model.proofs.Invariant.Claims.{claims, isClaimed, claimed}
+use Rattle.model.specs.Claims.{claims}
+use Rattle.model.proofs.Invariant.Claims.{isClaimed, claimed}
 use Rattle.model.proofs.Invariant.LockMoves.{locks-stay}
 use Rattle.model.proofs.Invariant.Statement.{restructures, uses, PagesOk, BookOk, Scene, Protected, Rebuilt, Leaving, made-change, owedFits, PartyOk, working}
 use Rattle.model.proofs.Invariant.Frame.{Keeps, still-grows, holds-selectively}

@@ -1,0 +1,74 @@
+-- `calls::withdraw` meets its contract: what withdraw_in_place ensures, of the records that the words make.
+use mathlib.Core.Path.{sym, ap, ap₂, _∙_}
+use lib.ListN.{set}
+use Rattle.model.specs.declared.Root.{Root}
+use Rattle.model.specs.declared.Party.{Party}
+use Rattle.model.specs.Calls.{called, withdrawCall}
+use Rattle.calls.specs.Lent.{lent}
+use borrow.Author.Needs.{needs}
+use Rattle.calls.proofs.withdraw.Statement.{statement}
+use Rattle.calls.proofs.withdraw.Tie as tie
+
+words-of-root-requires : tie.Need-words-of-root-requires
+words-of-root-requires c κs = search needs
+
+words-of-party-requires : tie.Need-words-of-party-requires
+words-of-party-requires c κs = search needs
+
+slice-aggregate-withdraw-in-place : tie.Need-slice-aggregate-withdraw-in-place
+slice-aggregate-withdraw-in-place c = search needs
+
+slice-aggregate-withdraw-in-place-2 : tie.Need-slice-aggregate-withdraw-in-place-2
+slice-aggregate-withdraw-in-place-2 c = search needs
+
+withdraw-in-place-requires : tie.Need-withdraw-in-place-requires
+withdraw-in-place-requires c κs = search needs
+
+slice-aggregate-root-of : tie.Need-slice-aggregate-root-of
+slice-aggregate-root-of c = search needs
+
+root-of-requires : tie.Need-root-of-requires
+root-of-requires c κs = search needs
+
+slice-aggregate-party-of : tie.Need-slice-aggregate-party-of
+slice-aggregate-party-of c = search needs
+
+party-of-requires : tie.Need-party-of-requires
+party-of-requires c κs = search needs
+
+same-length : tie.Need-same-length
+same-length c = search needs
+
+same-length-2 : tie.Need-same-length-2
+same-length-2 c = search needs
+
+returns : tie.Need-returns
+returns c = λ row many here.
+    let at-root-of = c .before .before in
+    let at-withdraw-in-place = at-root-of .before .before .before .before .before .before .before .before in
+    let at-words-of-party = at-withdraw-in-place .before .before .before .before .before in
+    let at-words-of-root = at-words-of-party .before in
+    let start = at-words-of-root .before .before .before in
+    let a = start .args in
+    let s = at-withdraw-in-place .withdraw-in-place in
+    let party = at-words-of-party .words-of-party .ensures in
+    ap₂ (λ (x : Root) (y : Party). called (s .result) (lent x (set row (a .q) y) (s .last .1 .1 .1 .1 .0) (s .last .1 .1 .1 .1 .1 .0))) (at-root-of .root-of .ensures) (c .party-of .ensures)
+    ∙ s .ensures row many (λ h. here h ∙ sym party)
+    ∙ ap (λ (x : Root). withdrawCall (lent x row (a .locks .now) (a .pages .now)) (a .q)) (at-words-of-root .words-of-root .ensures)
+
+pub withdraw-spec : {M : Type 1} → statement M
+withdraw-spec =
+    tie.close
+    (tie.spec
+    words-of-root-requires
+    words-of-party-requires
+    slice-aggregate-withdraw-in-place
+    slice-aggregate-withdraw-in-place-2
+    withdraw-in-place-requires
+    slice-aggregate-root-of
+    root-of-requires
+    slice-aggregate-party-of
+    party-of-requires
+    same-length
+    same-length-2
+    returns)

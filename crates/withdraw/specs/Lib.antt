@@ -1,0 +1,3 @@
+-- What the functions of this crate are stated with.
+pub mod Locks
+pub mod TakingBack
