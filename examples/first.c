@@ -38,8 +38,8 @@ static const struct task slicing[] = {
 };
 static const struct task preview[] = {
     {BEAD_FIND, 3, BEAD_ABSENT, 0},  {BEAD_FIND, 3, BEAD_FOUND, 40},  {BEAD_FIND, 8, BEAD_FOUND, 40},
-    {BEAD_FIND, 99, BEAD_ABSENT, 0}, {BEAD_FIND, 13, BEAD_FOUND, 45}, {BEAD_FIND, 21, BEAD_FOUND, 60},
-    {BEAD_FIND, 99, BEAD_ABSENT, 0}, {BEAD_FIND, 8, BEAD_FOUND, 40},
+    {BEAD_FIND, 99, BEAD_ABSENT, 0}, {BEAD_FIND, 13, BEAD_FOUND, 45}, {BEAD_FIND, 99, BEAD_ABSENT, 0},
+    {BEAD_FIND, 21, BEAD_FOUND, 60}, {BEAD_FIND, 8, BEAD_FOUND, 40},
 };
 static const struct task exporting[] = {
     {BEAD_DELETE, 55, BEAD_ABSENT, 0},  {BEAD_DELETE, 34, BEAD_ABSENT, 0},  {BEAD_DELETE, 3, BEAD_DELETED, 0},

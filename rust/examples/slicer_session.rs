@@ -155,7 +155,7 @@ fn lay(
             }
         }
         // The preview is quicker than clay.
-        for _ in 0..4 {
+        for _ in 0..5 {
             preview.look(file, course)?;
             preview.turn(file)?;
         }

@@ -90,11 +90,11 @@ impl<M: Memory> File<M> {
     ///
     /// # fn main() -> Result<(), Error> {
     /// let mut file = File::new(Sizes::new().original_chains(2).parties(2))?;
-    /// for (key, setting) in [(4, 40), (1, 45), (3, 40)] {
+    /// for (key, setting) in [(9, 40), (4, 45), (5, 60)] {
     ///     file.insert(key, setting)?;
     /// }
     /// assert_eq!(file.records()?.len(), 3);
-    /// assert_eq!(file.records()?.collect::<Vec<_>>(), [(4, 40), (1, 45), (3, 40)]); // chain 0: 4; chain 1: 1 and 3
+    /// assert_eq!(file.records()?.collect::<Vec<_>>(), [(5, 60), (4, 45), (9, 40)]); // chain 0: 5; chain 1: 4 and 9
     /// file.begin(1, Operation::find(4))?;
     /// assert!(matches!(file.records(), Err(Error::UnderWay { party: 1 })));
     /// # Ok(())
@@ -125,7 +125,7 @@ impl<M: Memory> File<M> {
 /// assert_eq!(
 ///     format!("{file:?}"),
 ///     "File { sizes: N 2 b 2 P 2 V 4 Q 16, level: 0, next: 0, free: 3, \
-///      chains: [0 (level 0): 4=60, 1 (level 0): 1=40 3=45 | 5=40], under_way: [] }"
+///      chains: [0 (level 0): 1=40 3=45 | 5=40, 1 (level 0): 4=60], under_way: [] }"
 /// );
 /// # Ok(())
 /// # }

@@ -141,7 +141,8 @@ fn records_of_a_large_file() {
 fn a_circle_of_pages_ends() {
     let sizes = SIZES.most_chains(2);
     let mut file = File::new(sizes).unwrap();
-    for key in [2, 4, 6, 8, 10] {
+    // Keys whose mixed keys are even: all go to chain 0, and so does 12.
+    for key in [1, 2, 3, 5, 6] {
         file.insert(key, 40).unwrap();
     }
     let mut words = file.into_words();
@@ -151,7 +152,7 @@ fn a_circle_of_pages_ends() {
     let mut file = File::from_words(words).unwrap();
     assert_eq!(file.records().unwrap_err(), Error::Refused(Refusal::Damage));
     assert!(format!("{file:?}").contains("0 damaged"));
-    assert_eq!(file.find(100), Err(Error::Circle { party: 0 }));
+    assert_eq!(file.find(12), Err(Error::Circle { party: 0 }));
     assert_eq!(file.records().unwrap_err(), Error::UnderWay { party: 0 });
 }
 

@@ -220,16 +220,17 @@ fn too_few_pages() {
 #[test]
 fn one_that_waits_says_for_whom_and_goes_on() {
     let mut file = file();
-    file.begin(2, Operation::find(4)).unwrap();
+    // 5, 13 and 14 have even mixed keys, and go to chain 0.
+    file.begin(2, Operation::find(5)).unwrap();
     for _ in 0..5 {
         assert_eq!(file.step(2), Ok(Outcome::Moved));
     }
     assert_eq!(
-        (file.insert(4, 40), file.insert(6, 45)),
+        (file.insert(5, 40), file.insert(13, 45)),
         (Ok(true), Ok(true))
     );
     // The third key splits chain 0, and party 2 may be on its way along the old pages.
-    let waiting = file.insert(8, 60).unwrap_err();
+    let waiting = file.insert(14, 60).unwrap_err();
     assert_eq!(
         waiting.to_string(),
         "party 0 waits for chain 0 (exclusive), held by party 2; the operation stays under way"

@@ -35,7 +35,7 @@ use mathlib.Core.Bool.{Bool, true, false}
 use Prim.Native.Nat.{ℕ, _+_, _*_}
 use lib.ListN.{replicate}
 """
-MODULES = ["Sizes", "Records", "Memory", "Calls", "Runs"]
+MODULES = ["Sizes", "Records", "Mixing", "Memory", "Calls", "Runs"]
 TYPES = ["Root", "Party", "FormatAnswer", "BeginAnswer", "StepAnswer", "WithdrawAnswer"]
 ENUMS = ["Operation", "OperationAnswer", "Restructuring", "FormatAnswer", "BeginAnswer", "StepAnswer", "WithdrawAnswer"]
 
@@ -269,6 +269,33 @@ def exported_names(crates):
     return names, unfoldable, homes
 
 
+# Marsaglia's xorshift32: its first so many outputs from the seed of the definitions.
+def outputs(count):
+    word, found = 2463534242, []
+    for _ in range(count):
+        word ^= word << 13 & 0xFFFFFFFF
+        word ^= word >> 17
+        word ^= word << 5 & 0xFFFFFFFF
+        found.append(word)
+    return found
+
+
+# The checker works a definition out anew in each claim: so the copy has the table written out, and TABLE_CLAIM says that this alters nothing.
+MADE_TABLE = "\ntable = outputs tableWords seed\n"
+TABLE_CLAIM = """
+table-written-out : Mixing.table ≡ Mixing.outputs Mixing.tableWords Mixing.seed
+unfolding opened
+table-written-out = refl
+"""
+
+
+def write_table_out(file):
+    text = file.read_text(encoding="utf-8")
+    if text.count(MADE_TABLE) != 1:
+        raise CheckerTrouble(f"{file.name} has no line that makes the table")
+    file.write_text(text.replace(MADE_TABLE, f"\ntable = {listed(map(str, outputs(1024)))}\n"), encoding="utf-8")
+
+
 # The names of the definitions that a check uses, as Module.name.
 def names_in(check):
     return re.findall(r"[A-Z]\w*\.[^\s()]+", check)
@@ -284,6 +311,7 @@ class Scratch:
                 shutil.copytree(crates / crate / part, folder / "crates" / crate / part)
             (self.replay / part).mkdir(parents=True)
         (folder / "crates.txt").write_text("model:\ntheory: model\nreplay: model theory\n")
+        write_table_out(folder / "crates/model/specs/Mixing.antt")
         (self.replay / "src/lib.rt").write_text("// Claims about the definitions. There is no code.\n")
         (self.replay / "specs/Lib.antt").write_text("pub mod Claims\n")
         names, self.unfoldable, self.homes = exported_names(crates)
@@ -298,7 +326,7 @@ class Scratch:
         uses += [f"use Rattle.model.specs.declared.{name}.the-variants as {name}" for name in ENUMS]
         parts = [HEADER, "\n".join(uses), "\n", HARNESS, record_maker("rootOf", "Root", ROOT_FIELDS), record_maker("partyOf", "Party", PARTY_FIELDS)]
         parts += [f"\nabbrev {name} : Memory.Memory → List Runs.Call → Bool\n{name} m calls = {check}\n" for name, check in self.checks.items()]
-        parts += ["\nopened : ℕ\nunfolding " + " ".join(self.unfoldable) + "\nopened = 0\n"]
+        parts += ["\nopened : ℕ\nunfolding " + " ".join(self.unfoldable) + "\nopened = 0\n", TABLE_CLAIM]
         return "".join(parts)
 
     # Has the checker judge the claims, each of its first so many items: the indices of those it refuses, and of those at which it met a limit of its own.

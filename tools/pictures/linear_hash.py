@@ -4,6 +4,28 @@ deletes and other parties do not come up here; the proved index is in crates/.""
 from copy import deepcopy
 
 
+def table(count):
+    """The first outputs of Marsaglia's xorshift32, by which keys are mixed."""
+    word, words = 2463534242, []
+    for _ in range(count):
+        word ^= word << 13 & 0xFFFFFFFF
+        word ^= word >> 17
+        word ^= word << 5 & 0xFFFFFFFF
+        words.append(word)
+    return words
+
+
+TABLE = table(1024)
+
+
+def mixed(key):
+    """The exclusive or of four table words, one for each byte of the key."""
+    word = 0
+    for row in range(4):
+        word ^= TABLE[256 * row + (key >> 8 * row & 255)]
+    return word
+
+
 class Page:
     def __init__(self, level, keys=(), link=None):
         self.level, self.keys, self.link = level, list(keys), link
@@ -17,7 +39,7 @@ class File:
         self.locks, self.scratch, self.old, self.seen = {}, None, None, []
 
     def h(self, level, key):
-        return key % (self.originals * 2 ** level)
+        return mixed(key) % (self.originals * 2 ** level)
 
     def address(self, key):
         """The chain of a key by level and next, and the level by which it is that chain's."""

@@ -5,7 +5,7 @@ from svg import Picture, width_of, wrapped
 
 SIZES = (2, 2, 4, 5)
 SUBSCRIPTS = '₀₁₂₃'
-KEYS, LAST, SOUGHT = (4, 6, 3, 5, 7, 9, 8, 10), 13, 7
+KEYS, LAST, SOUGHT = (5, 13, 4, 8, 16, 19, 17, 23), 26, 16
 # Bands; where chains, their pages and the party's pages begin; a page's tab, key and height; an arrow between pages; the pitch of chains.
 LEFT, RIGHT, CHAINS, PAGES, PARTY = 24, 876, 258, 332, 656
 TAB, KEY, TALL, LINK, ROW = 44, 23, 25, 16, 35
@@ -141,8 +141,8 @@ def draw_frame(picture, k, y, file, before, words):
 def draw_head(picture):
     picture.text(LEFT, 36, 'How a split goes by', 17, 'ink bold')
     keys = ', '.join(str(key) for key in KEYS)
-    picture.text(LEFT, 57, f'A file of N = {SIZES[0]} original chains with b = {SIZES[1]} records a page, so h₀(k) = k mod {SIZES[0]} and h₁(k) = k mod {2 * SIZES[0]}. '
-                 f'It has the keys {keys}; {LAST} is put in.', 12, 'soft')
+    picture.text(LEFT, 57, f'A file of N = {SIZES[0]} original chains, b = {SIZES[1]} records a page: h₀(k) is the mixed key mod {SIZES[0]}, h₁(k) mod {2 * SIZES[0]}. '
+                 f'Keys {keys} are there; {LAST} is put in.', 12, 'soft')
     picture.text(LEFT, 74, 'A page shows its local level or its number, then its keys; each key has its setting with it. The insert is the only writer here; finds may come at any time.', 12, 'soft')
     x = LEFT
     for kind, words in (('fresh', 'written since the frame before'), ('fresh dashed', 'written, not yet in the file'),

@@ -8,7 +8,7 @@ use native.Mathlib.Omega.{arith}
 use lib.Pow.{shl-lt, pow-mono}
 use lib.Dec.{ltb}
 use borrow.Author.Tests.{lt-ltb, le-ltb, eqb-false}
-use Rattle.model.specs.Addresses.{span, hash, addressLevel, chainCount, mergeBarred}
+use Rattle.model.specs.Addresses.{span, hashOf, levelFor, chainCount, mergeBarred}
 use Rattle.model.specs.Outcome.{View}
 use Rattle.model.specs.Ready.{Ready}
 use Rattle.model.proofs.Laws.Lists.{cond-ind}
@@ -21,18 +21,18 @@ span-fits n i h k =
     let most : 2 ^ (9 + i) ≤ 2 ^ 19 = pow-mono {i = 9 + i} {j = 19} (omega arith) in
     omega arith
 
-module _ (n level next k : ℕ) {low : ℕ} where
-  pub below-next-raises : low ≡ hash n level k → low < next → level + 1 ≡ addressLevel n level next k
-  unfolding addressLevel
+module _ (n level next m : ℕ) {low : ℕ} where
+  pub below-next-raises : low ≡ hashOf n level m → low < next → level + 1 ≡ levelFor n level next m
+  unfolding levelFor
   below-next-raises e h = rw (← e, lt-ltb low next h) refl
 
-  pub else-not-raised : low ≡ hash n level k → next ≤ low → level ≡ addressLevel n level next k
-  unfolding addressLevel
+  pub else-not-raised : low ≡ hashOf n level m → next ≤ low → level ≡ levelFor n level next m
+  unfolding levelFor
   else-not-raised e h = rw (← e, le-ltb low next h) refl
 
-pub level-raised-once : (n level next k : ℕ) → addressLevel n level next k ≤ level + 1
-unfolding addressLevel
-level-raised-once n level next k = cond-ind (λ i. i ≤ level + 1) (ltb (hash n level k) next) (level + 1) level (λ _. omega arith) (λ _. omega arith)
+pub level-raised-once : (n level next m : ℕ) → levelFor n level next m ≤ level + 1
+unfolding levelFor
+level-raised-once n level next m = cond-ind (λ i. i ≤ level + 1) (ltb (hashOf n level m) next) (level + 1) level (λ _. omega arith) (λ _. omega arith)
 
 -- With level 0 and next 0 there are N chains, and a merge is barred.
 pub unbarred-has-level : (n level next : ℕ) → mergeBarred (chainCount n level next) n ≡ false → next ≡ 0 → 1 ≤ level

@@ -1,6 +1,6 @@
 // Addresses of linear hashing, the number of chains, and how a split and a merge move level and next (document 01, "Addresses and locks" and the steps).
 // Each function equals the model's definition of the same name, on every root record within its limits (RootFits).
-// hashed, span and hash; chain_count; split_barred, split_next, split_level; merge_barred, merge_partner, merge_target, merge_level.
+// span and hash; chain_count; split_barred, split_next, split_level; merge_barred, merge_partner, merge_target, merge_level.
 
 ghost use mathlib.Core.Path.{_≡_};
 ghost use mathlib.Core.Bool.{false};
@@ -10,13 +10,6 @@ ghost use Rattle.addresses.specs.Fits.{RootFits};
 use model::ChainAddress;
 use model::Root;
 
-// The number whose remainder is a key's address: the key itself.
-fn hashed(k: u32) -> u32
-    ensures { λ r. ⌜ r ≡ Addresses.hashed k ⌝ }
-{
-    k
-}
-
 // N × 2^i, at most 2^18.
 fn span(n: u32, i: u32) -> u32
     requires { ⌜ (n ≤ 256) × (i ≤ 10) ⌝ }
@@ -25,13 +18,12 @@ fn span(n: u32, i: u32) -> u32
     n << i
 }
 
-// "h_i(k) is k mod (2^i × N)", n being N.
-pub fn hash(n: u32, i: u32, k: u32) -> ChainAddress
+// "h_i(k) is k mod (2^i × N)", n being N, of a mixed key.
+pub fn hash(n: u32, i: u32, m: u32) -> ChainAddress
     requires { ⌜ (1 ≤ n) × (n ≤ 256) × (i ≤ 10) ⌝ }
-    ensures { λ r. ⌜ r .0 ≡ Addresses.hash n i k ⌝ }
+    ensures { λ r. ⌜ r .0 ≡ Addresses.hashOf n i m ⌝ }
 {
-    let m = span(n, i);
-    ChainAddress(hashed(k) % m)
+    ChainAddress(m % span(n, i))
 }
 
 // "n is N × 2^level + next, the number of chains outside a restructuring."

@@ -9,7 +9,7 @@ use lib.ListN.{length, set, length-set}
 use borrow.Author.Tests.{eq-eqb, ne-eqb}
 use Rattle.model.specs.declared.Party.{Party}
 use Rattle.model.specs.Records.{atStep, withLev, withChain, withOther}
-use Rattle.model.specs.Addresses.{hash}
+use Rattle.model.specs.Addresses.{hashOf}
 use Rattle.model.specs.Steps.Chase.{Chase, chase, arrived, chasing}
 use Rattle.records.specs.Words.{partyWords, partyIn}
 use Rattle.records.proofs.Words.{lev-written, chain-written, other-written}
@@ -19,20 +19,20 @@ use Rattle.chase.specs.Chased.{afterChase}
 abbrev ended : ℕ → ℕ → Chase
 ended lev c = record { lev = lev; chain = c }
 
-module _ (n k c d lev : ℕ) where
-  pub chase-ends : d ≡ 0 → ended lev c ≡ chase n k c d lev
+module _ (n m c d lev : ℕ) where
+  pub chase-ends : d ≡ 0 → ended lev c ≡ chase n m c d lev
   unfolding chase
   chase-ends z = rw (z, chase) refl
 
-  pub chase-leaves : {h : ℕ} → 0 < d → h ≡ hash n (lev + 1) k → (h ≡ c → ⊥) → ended (lev + 1) h ≡ chase n k c d lev
+  pub chase-leaves : {h : ℕ} → 0 < d → h ≡ hashOf n (lev + 1) m → (h ≡ c → ⊥) → ended (lev + 1) h ≡ chase n m c d lev
   unfolding chase
   chase-leaves {h} z e away = let q : d ≡ suc (d - 1) = omega arith in rw (q, chase, ← e, ne-eqb h c away) refl
 
-  pub chase-goes-on : {h : ℕ} → 0 < d → h ≡ hash n (lev + 1) k → h ≡ c → chase n k c d lev ≡ chase n k c (d - 1) (lev + 1)
+  pub chase-goes-on : {h : ℕ} → 0 < d → h ≡ hashOf n (lev + 1) m → h ≡ c → chase n m c d lev ≡ chase n m c (d - 1) (lev + 1)
   unfolding chase
   chase-goes-on {h} z e here =
       let q : d ≡ suc (d - 1) = omega arith in
-      ap (λ (m : ℕ). chase n k c m lev) q ∙ rw (← e, eq-eqb h c here) refl
+      ap (λ (x : ℕ). chase n m c x lev) q ∙ rw (← e, eq-eqb h c here) refl
 
 -- Lev, chain and other chain written.
 pub leaving-written : (w : List ℕ) (lev c former : ℕ) → length w ≡ partyWords

@@ -7,6 +7,7 @@ use Prim.Native.Nat.{ℕ, _-_, _≤_, _<_}
 use borrow.Author.Tests.{le-leb, lt-leb, lt-ltb, le-ltb}
 use Rattle.model.specs.declared.Root.{Root}
 use Rattle.model.specs.declared.Party.{Party}
+use Rattle.model.specs.Mixing.{mixed}
 use Rattle.model.specs.Pages.{pageOf, withPage, levelOf, scratchPage, pageSound}
 use Rattle.model.specs.Outcome.{moved, refuse, damage}
 use Rattle.model.specs.Ready.{viewing}
@@ -23,10 +24,10 @@ module _ (r : Root) (p : Party) (q : ℕ) (ls ps : List ℕ) {w : List ℕ} (pag
     unfolding step06
     level-below-refused h = rw (← page, sound, lt-leb (p .lev) (levelOf w) h) refl
 
-    module _ (risen : p .lev ≤ levelOf w) {t : Chase} (ended : t ≡ chase (r .originals) (p .key) (p .chain) (levelOf w - p .lev) (p .lev)) where
+    module _ (risen : p .lev ≤ levelOf w) {t : Chase} (ended : t ≡ chase (r .originals) (mixed (p .key)) (p .chain) (levelOf w - p .lev) (p .lev)) where
       ended-there : t ≡ chaseOf (viewing r p q ls ps)
       unfolding chaseOf
-      ended-there = ended ∙ ap (λ (x : List ℕ). chase (r .originals) (p .key) (p .chain) (levelOf x - p .lev) (p .lev)) page
+      ended-there = ended ∙ ap (λ (x : List ℕ). chase (r .originals) (mixed (p .key)) (p .chain) (levelOf x - p .lev) (p .lev)) page
 
       pub chain-beyond-refused : r .primaries ≤ t .chain → refuse damage (viewing r p q ls ps) ≡ step06 (viewing r p q ls ps)
       unfolding step06

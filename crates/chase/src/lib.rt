@@ -6,6 +6,7 @@ ghost use mathlib.Core.List.{List};
 ghost use Prim.Native.Nat.{ℕ, _-_, _≤_};
 ghost use lib.ListN.{length};
 ghost use Rattle.model.specs.declared.Root.{Root};
+ghost use Rattle.model.specs.Mixing.{mixed};
 ghost use Rattle.model.specs.Steps.Chase as Chase;
 ghost use Rattle.records.specs.Words.{partyWords, partyIn, seen, left, AtHand};
 ghost use Rattle.lock_requests.specs.Words.{CanLock};
@@ -37,14 +38,22 @@ struct Chased {
 }
 
 // "while lev differs from its local level, raise lev by one and go to 7 as soon as h_lev(k) is another chain": n is N, `local` the local level.
+// The key is mixed only where lev is to be raised.
 fn chase(n: u32, key: u32, chain: ChainAddress, lev: u32, local: u32) -> Chased
     requires { ⌜ (1 ≤ n) × (n ≤ 256) × (local ≤ 9) ⌝ }
-    ensures { λ r. ⌜ endedAt r ≡ Chase.chase n key (chain .0) (local - lev) lev ⌝ }
+    ensures { λ r. ⌜ endedAt r ≡ Chase.chase n (mixed key) (chain .0) (local - lev) lev ⌝ }
 {
+    if local <= lev {
+        return Chased {
+            lev: lev,
+            chain: chain,
+        };
+    }
+    let m = mixing::mixed(key);
     let mut raised = lev;
     while raised < local {
         raised += 1;
-        let on = addresses::hash(n, raised, key);
+        let on = addresses::hash(n, raised, m);
         if on.0 != chain.0 {
             return Chased {
                 lev: raised,

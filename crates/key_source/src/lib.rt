@@ -101,7 +101,8 @@ fn stays(h: Halving, k: u32) -> bool
     requires { ⌜ CanHalve h ⌝ }
     ensures { λ r. ⌜ r ≡ eqb (hash (h .originals) (h .level) k) (h .chain .0) ⌝ }
 {
-    let home = addresses::hash(h.originals, h.level, k);
+    let m = mixing::mixed(k);
+    let home = addresses::hash(h.originals, h.level, m);
     let chain = h.chain;
     home.0 == chain.0
 }

@@ -55,12 +55,13 @@ fn locate(root: Root, lev: u32, key: u32) -> Located
     requires { ⌜ (1 ≤ root .originals) × (root .originals ≤ 256) × (lev ≤ 9) ⌝ }
     ensures { λ r. ⌜ (r .lev ≡ addressLevel (root .originals) lev (root .next) key) × (r .chain .0 ≡ addressOf (root .originals) lev (root .next) key) ⌝ }
 {
-    let low = addresses::hash(root.originals, lev, key);
+    let m = mixing::mixed(key);
+    let low = addresses::hash(root.originals, lev, m);
     if low.0 < root.next {
         let raised = lev + 1;
         return Located {
             lev: raised,
-            chain: addresses::hash(root.originals, raised, key),
+            chain: addresses::hash(root.originals, raised, m),
         };
     }
     Located {

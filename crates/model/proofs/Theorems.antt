@@ -1,5 +1,6 @@
 -- From the thirty steps to calls: each call keeps the invariant and feeds the book; refusals in their order; the worked cases; what single definitions mean.
 pub mod Cases
+pub mod Mixing
 pub mod Pairs
 pub mod RefusalOrder
 pub mod Gate

@@ -1,28 +1,35 @@
 -- Addresses of linear hashing, the number of chains, and how a split and a merge move level and next (document 01, "Addresses and locks" and the steps).
--- Main definitions: hash (h_i), addressOf, chainCount (n); splitNext, splitLevel; mergeTarget, mergePartner, mergeLevel; splitBarred, mergeBarred.
+-- Main definitions: hashOf (h_i) and addressFor, of a mixed key; hash and addressOf, of a key; chainCount (n); splitNext, splitLevel; mergeTarget, mergePartner, mergeLevel; splitBarred, mergeBarred.
 use mathlib.Core.Bool.{Bool, cond}
 use Prim.Native.Nat.{ℕ, _+_, _-_, _*_, _%_, _^_}
 use lib.Dec.{eqb, ltb}
 use Rattle.model.specs.declared.Root.{Root}
-
--- The number whose remainder is a key's address: the key itself.
-unfoldable pub hashed : ℕ → ℕ
-hashed k = k
+use Rattle.model.specs.Mixing.{mixed}
 
 -- N × 2^i: how many chains h_i tells apart.
 unfoldable pub span : ℕ → ℕ → ℕ
 span n i = n * 2 ^ i
 
--- "h_i(k) is k mod (2^i × N)", N being the first argument.
-unfoldable pub hash : ℕ → ℕ → ℕ → ℕ
-hash n i k = hashed k % span n i
+-- "h_i(k) is k mod (2^i × N)", N being the first argument, of a mixed key.
+unfoldable pub hashOf : ℕ → ℕ → ℕ → ℕ
+hashOf n i m = m % span n i
 
--- "the address is h_level(k), or h_(level+1)(k) if the former is below next": the level whose hash is the address, and the address.
-unfoldable pub addressLevel : ℕ → ℕ → ℕ → ℕ → ℕ
-addressLevel n level next k = cond (ltb (hash n level k) next) (level + 1) level
+-- "the address is h_level(k), or h_(level+1)(k) if the former is below next", of a mixed key: the level whose hash is the address, and the address.
+unfoldable pub levelFor : ℕ → ℕ → ℕ → ℕ → ℕ
+levelFor n level next m = cond (ltb (hashOf n level m) next) (level + 1) level
 
-unfoldable pub addressOf : ℕ → ℕ → ℕ → ℕ → ℕ
-addressOf n level next k = hash n (addressLevel n level next k) k
+unfoldable pub addressFor : ℕ → ℕ → ℕ → ℕ → ℕ
+addressFor n level next m = hashOf n (levelFor n level next m) m
+
+-- "Addresses are now taken of a mixed key" (document 02, change 3): the same three of a key.
+abbrev pub hash : ℕ → ℕ → ℕ → ℕ
+hash n i k = hashOf n i (mixed k)
+
+abbrev pub addressLevel : ℕ → ℕ → ℕ → ℕ → ℕ
+addressLevel n level next k = levelFor n level next (mixed k)
+
+abbrev pub addressOf : ℕ → ℕ → ℕ → ℕ → ℕ
+addressOf n level next k = addressFor n level next (mixed k)
 
 -- "n is N × 2^level + next, the number of chains outside a restructuring."
 unfoldable pub chainCount : ℕ → ℕ → ℕ → ℕ

@@ -4,7 +4,7 @@ use mathlib.Core.List.{List, [], _∷_}
 use Prim.Native.Nat.{ℕ}
 use lib.ListN.{replicate}
 use Rattle.model.specs.Records.{rootOfSizes, withLevel, withNext, idle}
-use Rattle.model.specs.Addresses.{addressOf}
+use Rattle.model.specs.Addresses.{addressFor}
 use Rattle.model.specs.Filling.{overflowNeeded}
 use Rattle.model.specs.Outcome.{View}
 use Rattle.model.specs.Steps.SplitWrite.{step20, step21}
@@ -26,19 +26,19 @@ atMerge v = step24 (step23 v .after) .after
 abbrev pub afterMerge : View → View
 afterMerge v = step27 (atMerge v) .after
 
--- P1 to P8.
+-- P1 to P8. "The address cases of document 01 are read with the mixed key given" (document 02, change 3): P1 to P5.
 abbrev pub workedCases : List (ℕ × ℕ)
 workedCases =
     -- P1: N=2, level 1, next 0: 42 goes to 2.
-    (addressOf 2 1 0 42, 2)
+    (addressFor 2 1 0 42, 2)
     -- P2: next 1: 20 goes to 4.
-    ∷ (addressOf 2 1 1 20, 4)
+    ∷ (addressFor 2 1 1 20, 4)
     -- P3: next 1: 42 goes to 2.
-    ∷ (addressOf 2 1 1 42, 2)
+    ∷ (addressFor 2 1 1 42, 2)
     -- P4: N=3, level 1, next 2: 7 goes to 7.
-    ∷ (addressOf 3 1 2 7, 7)
+    ∷ (addressFor 3 1 2 7, 7)
     -- P5: N=1, level 8, next 0: 4294967295 goes to 255.
-    ∷ (addressOf 1 8 0 4294967295, 255)
+    ∷ (addressFor 1 8 0 4294967295, 255)
     -- P6: N=2, level 1, next 3: a split leaves next 0, level 2.
     ∷ (afterSplit (fileAt 2 1 3) .root .next, 0)
     ∷ (afterSplit (fileAt 2 1 3) .root .level, 2)

@@ -3,6 +3,7 @@ pub mod Sizes
 pub mod Records
 pub mod Answers
 pub mod LockWords
+pub mod Mixing
 pub mod Addresses
 pub mod Entries
 pub mod Pages

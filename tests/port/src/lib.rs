@@ -7,5 +7,6 @@ pub mod chains;
 pub mod damage;
 pub mod locks;
 pub mod memory;
+pub mod mixing;
 pub mod reply;
 mod steps;

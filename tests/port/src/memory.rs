@@ -95,10 +95,10 @@ impl Root {
         self.level_chains() + self.next
     }
 
-    /// "h_i(k) is k mod (2^i × N)."
+    /// "h_i(k) is k mod (2^i × N)", of a mixed key.
     #[inline]
-    pub fn hash(&self, level: u32, key: u32) -> u32 {
-        key % (self.first_chains << level)
+    pub fn hash(&self, level: u32, mixed: u32) -> u32 {
+        mixed % (self.first_chains << level)
     }
 
     /// Whether a link word names an overflow page: page number plus one, the overflow pages following the P primary pages.

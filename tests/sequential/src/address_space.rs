@@ -1,5 +1,7 @@
 //! The bucket chains that a file has and the chain that a key belongs to, from N, level and next.
 
+use crate::mixing::mixed;
+
 /// The address space of the chains; level and next are those of Ellis.
 #[derive(Clone, Copy, Debug, PartialEq, Eq)]
 pub struct AddressSpace {
@@ -19,19 +21,29 @@ impl AddressSpace {
         }
     }
 
-    /// h_i(k) = k mod (2^i N).
+    /// h_i(k) = k mod (2^i N), of a mixed key.
+    fn hash_of(&self, i: u32, mixed: u32) -> u32 {
+        mixed % (self.originals << i)
+    }
+
+    /// h_i of a key.
     pub fn hash(&self, i: u32, key: u32) -> u32 {
-        key % (self.originals << i)
+        self.hash_of(i, mixed(key))
+    }
+
+    /// The chain that a mixed key belongs to.
+    pub fn address_of(&self, mixed: u32) -> u32 {
+        let chain = self.hash_of(self.level, mixed);
+        if chain < self.next {
+            self.hash_of(self.level + 1, mixed)
+        } else {
+            chain
+        }
     }
 
     /// The chain that a key belongs to.
     pub fn address(&self, key: u32) -> u32 {
-        let chain = self.hash(self.level, key);
-        if chain < self.next {
-            self.hash(self.level + 1, key)
-        } else {
-            chain
-        }
+        self.address_of(mixed(key))
     }
 
     /// N 2^level, the chains at the start of the present round of splits.

@@ -5,6 +5,7 @@
 
 mod address_space;
 mod hash_file;
+mod mixing;
 mod operation;
 mod plain_map;
 mod record;
@@ -12,6 +13,7 @@ mod sizes;
 
 pub use address_space::AddressSpace;
 pub use hash_file::HashFile;
+pub use mixing::mixed;
 pub use operation::{Answer, Operation, Outcome, Restructuring};
 pub use plain_map::PlainMap;
 pub use record::Record;

@@ -1,5 +1,8 @@
 //! The cases that document 01 checks by hand (P1 to P8), and the limits of the sizes.
 
+mod common;
+
+use common::key;
 use sequential::{AddressSpace, HashFile, Operation, Record, Restructuring, Sizes};
 
 fn space(originals: u32, level: u32, next: u32) -> AddressSpace {
@@ -20,12 +23,13 @@ fn sizes([originals, records_a_page, most_chains, overflow_pages, parties]: [u32
     }
 }
 
-/// A record of a key, its setting told from the key.
-fn record(key: u32) -> Record {
-    let setting = 100 + key;
+/// A record of the key that goes where m would, its setting told from m.
+fn record(m: u32) -> Record {
+    let (key, setting) = (key(m), 100 + m);
     Record { key, setting }
 }
 
+/// "The address cases of document 01 are read with the mixed key given" (document 02, change 3).
 #[test]
 fn p1_to_p5_addresses() {
     let cases = [
@@ -35,8 +39,9 @@ fn p1_to_p5_addresses() {
         (space(3, 1, 2), 7, 7),
         (space(1, 8, 0), 4294967295, 255),
     ];
-    for (space, key, chain) in cases {
-        assert_eq!(space.address(key), chain, "key {key} in {space:?}");
+    for (space, mixed, chain) in cases {
+        let address = space.address_of(mixed);
+        assert_eq!(address, chain, "mixed key {mixed} in {space:?}");
     }
 }
 
@@ -55,18 +60,18 @@ fn p7_a_merge_at_next_0_lowers_level() {
 #[test]
 fn p6_and_p7_by_operations() {
     let mut file = HashFile::format(sizes([2, 1, 8, 20, 1])).unwrap();
-    for key in [0, 2, 1, 3, 4, 5, 6, 7] {
-        file.insert(record(key));
+    for m in [0, 2, 1, 3, 4, 5, 6, 7] {
+        file.insert(record(m));
     }
     assert_eq!((file.space(), file.chains().len()), (space(2, 2, 0), 8));
 
     let mut file = HashFile::format(sizes([2, 1, 4, 20, 1])).unwrap();
-    for key in [0, 2, 1, 3] {
-        file.insert(record(key));
+    for m in [0, 2, 1, 3] {
+        file.insert(record(m));
     }
     assert_eq!(file.space(), space(2, 1, 0));
-    assert_eq!(file.chains(), [0, 1, 2, 3].map(|key| vec![record(key)]));
-    assert_eq!(file.delete(2).restructuring, Restructuring::Merged);
+    assert_eq!(file.chains(), [0, 1, 2, 3].map(|m| vec![record(m)]));
+    assert_eq!(file.delete(key(2)).restructuring, Restructuring::Merged);
     assert_eq!(file.space(), space(2, 0, 1));
     let joined = [vec![record(0)], vec![record(1), record(3)], vec![]];
     assert_eq!(file.chains(), joined);

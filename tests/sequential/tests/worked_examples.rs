@@ -1,5 +1,9 @@
 //! Short runs worked out by hand: splits, merges and shortages, with the chains that each leaves.
+//! A number m stands for the key that goes where m would if keys were not mixed (`common::key`).
 
+mod common;
+
+use common::key;
 use sequential::{HashFile, Operation, Record, Sizes};
 
 /// A file of N, b, P and V.
@@ -15,13 +19,21 @@ fn formatted([originals, records_a_page, most_chains, overflow_pages]: [u32; 4])
 }
 
 /// The setting that a key has in these runs.
-fn setting(key: u32) -> u32 {
-    !key
+fn setting(m: u32) -> u32 {
+    !m
 }
 
-/// An insert of a key with its setting.
-fn insert(key: u32) -> Operation {
-    Operation::Insert(key, setting(key))
+/// An insert of a key with its setting, a find and a delete.
+fn insert(m: u32) -> Operation {
+    Operation::Insert(key(m), setting(m))
+}
+
+fn find(m: u32) -> Operation {
+    Operation::Find(key(m))
+}
+
+fn delete(m: u32) -> Operation {
+    Operation::Delete(key(m))
 }
 
 /// Performs each operation and compares what it reports.
@@ -34,16 +46,16 @@ fn run(file: &mut HashFile, script: &[(Operation, &str)]) {
 
 /// Inserts keys that all go in and bring about no restructuring.
 fn fill(file: &mut HashFile, keys: &[u32]) {
-    for key in keys {
-        run(file, &[(insert(*key), "inserted none")]);
+    for m in keys {
+        run(file, &[(insert(*m), "inserted none")]);
     }
 }
 
 /// The records of keys with their settings.
 fn records(keys: &[u32]) -> Vec<Record> {
-    let record = |&key| Record {
-        key,
-        setting: setting(key),
+    let record = |&m| Record {
+        key: key(m),
+        setting: setting(m),
     };
     keys.iter().map(record).collect()
 }
@@ -72,10 +84,10 @@ fn an_overflow_splits_the_chain_that_is_next() {
     run(
         &mut file,
         &[
-            (Operation::Find(20), "(found 4294967275) none"),
-            (Operation::Find(12), "absent none"),
+            (find(20), "(found 4294967275) none"),
+            (find(12), "absent none"),
             (insert(42), "present none"),
-            (Operation::Delete(10), "absent none"),
+            (delete(10), "absent none"),
         ],
     );
     expect(&file, (1, 1), 7, &chains);
@@ -90,7 +102,7 @@ fn a_split_is_skipped_at_the_most_chains() {
         &[
             (insert(5), "inserted split-skipped"),
             (insert(9), "inserted split-skipped"),
-            (insert(4294967295), "no-page none"),
+            (insert(11), "no-page none"),
         ],
     );
     expect(&file, (0, 0), 1, &[&[5, 7, 9]]);
@@ -135,20 +147,17 @@ fn a_change_is_refused_for_want_of_pages() {
             (insert(4), "inserted split-skipped"),
             (insert(1), "inserted none"),
             (insert(3), "inserted split-skipped"),
-            (Operation::Delete(4), "no-page none"),
+            (delete(4), "no-page none"),
             (insert(5), "no-page none"),
             (insert(4), "present none"),
-            (Operation::Delete(6), "absent none"),
-            (Operation::Find(4), "(found 4294967291) none"),
+            (delete(6), "absent none"),
+            (find(4), "(found 4294967291) none"),
         ],
     );
     expect(&file, (0, 0), 0, &[&[0, 2, 4], &[1, 3]]);
     run(
         &mut file,
-        &[
-            (Operation::Delete(3), "deleted none"),
-            (Operation::Delete(4), "deleted none"),
-        ],
+        &[(delete(3), "deleted none"), (delete(4), "deleted none")],
     );
     expect(&file, (0, 0), 2, &[&[0, 2], &[1]]);
 }
@@ -160,13 +169,13 @@ fn an_emptied_chain_merges_the_last_chain() {
     fill(&mut file, &[0]);
     run(&mut file, &[(insert(2), "inserted split")]);
     fill(&mut file, &[1]);
-    run(&mut file, &[(Operation::Delete(1), "deleted merged")]);
+    run(&mut file, &[(delete(1), "deleted merged")]);
     expect(&file, (0, 0), 1, &[&[0, 2], &[]]);
     run(
         &mut file,
         &[
-            (Operation::Delete(0), "deleted none"),
-            (Operation::Delete(2), "deleted merge-skipped"),
+            (delete(0), "deleted none"),
+            (delete(2), "deleted merge-skipped"),
         ],
     );
     expect(&file, (0, 0), 2, &[&[], &[]]);
@@ -183,16 +192,13 @@ fn a_merge_is_skipped_for_want_of_pages() {
         &[
             (insert(3), "inserted split-skipped"),
             (insert(4), "inserted split-skipped"),
-            (Operation::Delete(2), "deleted merge-skipped"),
+            (delete(2), "deleted merge-skipped"),
         ],
     );
     expect(&file, (0, 1), 0, &[&[0, 4], &[1, 3], &[]]);
     run(
         &mut file,
-        &[
-            (Operation::Delete(3), "deleted none"),
-            (Operation::Delete(1), "deleted merged"),
-        ],
+        &[(delete(3), "deleted none"), (delete(1), "deleted merged")],
     );
     expect(&file, (0, 0), 1, &[&[0, 4], &[]]);
 }
@@ -201,13 +207,13 @@ fn a_merge_is_skipped_for_want_of_pages() {
 #[test]
 fn a_merge_moves_next_back() {
     let mut file = formatted([2, 1, 8, 4]);
-    for key in [0, 2, 1, 3, 4] {
-        file.perform(insert(key));
+    for m in [0, 2, 1, 3, 4] {
+        file.perform(insert(m));
     }
     expect(&file, (1, 1), 4, &[&[0], &[1], &[2], &[3], &[4]]);
-    run(&mut file, &[(Operation::Delete(3), "deleted merged")]);
+    run(&mut file, &[(delete(3), "deleted merged")]);
     expect(&file, (1, 0), 3, &[&[0, 4], &[1], &[2], &[]]);
-    run(&mut file, &[(Operation::Delete(1), "deleted merged")]);
+    run(&mut file, &[(delete(1), "deleted merged")]);
     expect(&file, (0, 1), 3, &[&[0, 4], &[], &[2]]);
 }
 
@@ -219,8 +225,8 @@ fn the_largest_key_is_a_key() {
         &mut file,
         &[
             (Operation::Find(key), "absent none"),
-            (insert(key), "inserted none"),
-            (insert(key), "present none"),
+            (Operation::Insert(key, 0), "inserted none"),
+            (Operation::Insert(key, 0), "present none"),
             (Operation::Find(key), "(found 0) none"),
             (Operation::Delete(key), "deleted merge-skipped"),
             (Operation::Delete(key), "absent none"),
@@ -235,17 +241,17 @@ fn a_present_key_keeps_its_setting() {
     run(
         &mut file,
         &[
-            (Operation::Insert(7, 5), "inserted none"),
-            (Operation::Insert(7, 6), "present none"),
-            (Operation::Find(7), "(found 5) none"),
-            (Operation::Insert(9, 4294967295), "inserted split"),
-            (Operation::Insert(9, 5), "present none"),
-            (Operation::Find(9), "(found 4294967295) none"),
-            (Operation::Find(7), "(found 5) none"),
-            (Operation::Delete(7), "deleted none"),
-            (Operation::Find(7), "absent none"),
-            (Operation::Insert(7, 6), "inserted split-skipped"),
-            (Operation::Find(7), "(found 6) none"),
+            (Operation::Insert(key(7), 5), "inserted none"),
+            (Operation::Insert(key(7), 6), "present none"),
+            (find(7), "(found 5) none"),
+            (Operation::Insert(key(9), 4294967295), "inserted split"),
+            (Operation::Insert(key(9), 5), "present none"),
+            (find(9), "(found 4294967295) none"),
+            (find(7), "(found 5) none"),
+            (delete(7), "deleted none"),
+            (find(7), "absent none"),
+            (Operation::Insert(key(7), 6), "inserted split-skipped"),
+            (find(7), "(found 6) none"),
         ],
     );
 }

@@ -4,6 +4,7 @@ use mathlib.Core.Bool.{true, false}
 use native.Mathlib.Omega.{arith}
 use Prim.Native.Nat.{ℕ, _-_, _≤_, _<_}
 use borrow.Author.Tests.{not-true, not-false}
+use Rattle.model.specs.Mixing.{mixed}
 use Rattle.model.specs.Pages.{withPage, levelOf, pageSound, mostLevel}
 use Rattle.model.specs.Steps.Chase.{chase}
 use Rattle.records.specs.Words.{partyIn}
@@ -97,7 +98,7 @@ returns-3 c =
     let w = at-load .load .result in
     let sound : pageSound (a .root) w ≡ true = sym (at-page-sound .page-sound .ensures) ∙ not-false _ (at-if1 .if1 .left) in
     let risen : p .lev ≤ levelOf w = omega (arith, at-level-of .level-of .ensures, at-if2 .if2 .left) in
-    let from : ℕ → _ = λ l. chase (a .root .originals) (p .key) (p .chain) (l - p .lev) (p .lev) in
+    let from : ℕ → _ = λ l. chase (a .root .originals) (mixed (p .key)) (p .chain) (l - p .lev) (p .lev) in
     let ended = at-chase .chase .ensures ∙ ap from (at-level-of .level-of .ensures) in
     chain-beyond-refused (a .root) p (a .q) (a .locks .now) (a .pages .now) (at-load .load .ensures) sound risen ended (c .if3 .taken)
 
@@ -136,7 +137,7 @@ returns-4 c =
     let w = at-load .load .result in
     let sound : pageSound (a .root) w ≡ true = sym (at-page-sound .page-sound .ensures) ∙ not-false _ (at-if1 .if1 .left) in
     let risen : p .lev ≤ levelOf w = omega (arith, at-level-of .level-of .ensures, at-if2 .if2 .left) in
-    let from : ℕ → _ = λ l. chase (a .root .originals) (p .key) (p .chain) (l - p .lev) (p .lev) in
+    let from : ℕ → _ = λ l. chase (a .root .originals) (mixed (p .key)) (p .chain) (l - p .lev) (p .lev) in
     let ended = at-chase .chase .ensures ∙ ap from (at-level-of .level-of .ensures) in
     let written = at-store .store .ensures ∙ ap (λ (x : ℕ). withPage (a .pages .now) x w) (at-scratch-page .scratch-page .ensures) in
     all-sound-moves (a .root) p (a .q) (a .locks .now) (a .pages .now) (at-load .load .ensures) sound risen ended (at-if3 .if3 .left) (at-after-chase .after-chase .ensures) written

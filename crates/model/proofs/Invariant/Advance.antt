@@ -8,7 +8,7 @@ use mathlib.Core.Bool.{true, false}
 use Prim.Native.Nat.{ℕ, suc, _+_, _<_}
 use native.Mathlib.Omega.{arith}
 use lib.Dec.{ltb, eqb}
-use Rattle.model.specs.Addresses.{span, hash, addressLevel, addressOf}
+use Rattle.model.specs.Addresses.{span, hash, levelFor, addressFor, addressLevel, addressOf}
 use Rattle.model.proofs.Laws.Lists.{Ord, lt, ge, ord, cond-ind, eqb-true, eqb-false, ltb-true, ltb-false}
 use Rattle.model.proofs.Laws.Addresses.{span-next, hash-lt, hash-next, address-lt}
 use Rattle.model.proofs.Invariant.Ghost.{Extent, extent, size, advance, localLevel}
@@ -94,7 +94,7 @@ module _ (n : ℕ) (e : Extent) (fits : e .next < span n (e .level)) where
 
     -- The hash function that leads a key home is that of its home's local level.
     pub address-local : localLevel n e (addressOf n (e .level) (e .next) k) ≡ addressLevel n (e .level) (e .next) k
-    unfolding addressOf addressLevel
+    unfolding addressFor levelFor
     address-local = cond-ind (λ (j : ℕ). localLevel n e (hash n j k) ≡ j) (ltb (hash n (e .level) k) (e .next)) (e .level + 1) (e .level) up level
       where
         up : ltb (hash n (e .level) k) (e .next) ≡ true → localLevel n e (hash n (e .level + 1) k) ≡ e .level + 1
@@ -113,7 +113,7 @@ module _ (n : ℕ) (e : Extent) (fits : e .next < span n (e .level)) where
     home-inside = address-lt n (e .level) (e .next) k some
 
     pub home-leads : hash n (localLevel n e home) k ≡ home
-    unfolding addressOf
+    unfolding addressFor
     home-leads = ap (λ (j : ℕ). hash n j k) address-local
 
     -- Only a key that h_level leads to the chain that splits is at home there.

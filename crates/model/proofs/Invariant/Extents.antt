@@ -14,7 +14,7 @@ use lib.Dec.{ltb, leb, eqb}
 use Rattle.model.specs.declared.Root.{Root}
 use Rattle.model.specs.declared.Party.{Party}
 use Rattle.model.specs.Sizes.{within}
-use Rattle.model.specs.Addresses.{span, hash, addressLevel, addressOf, chainCount}
+use Rattle.model.specs.Addresses.{span, hash, levelFor, addressFor, addressLevel, addressOf, chainCount}
 use Rattle.model.specs.Entries.{hasKey}
 use Rattle.model.specs.Pages.{mostLevel}
 use Rattle.model.specs.Memory.{Memory, partyAt}
@@ -142,14 +142,14 @@ module _ (n : ℕ) (e : Extent) (k : ℕ) (some : 0 < n) where
 
   -- The address, worked out with an older level and the present next.
   pub located-heads : (lev : ℕ) → lev ≤ e .level → Heads n e (addressOf n lev (e .next) k) (addressLevel n lev (e .next) k) k
-  unfolding addressOf addressLevel
+  unfolding addressFor levelFor
   located-heads lev h =
       cond-ind (λ (j : ℕ). Heads n e (hash n j k) j k) (ltb (hash n lev k) (e .next)) _ _
       (λ t. next-heads lev (outgrown-heads lev h .inside) (omega (arith, local-split n e (hash n lev k) (ltb-true (hash n lev k) (e .next) t)))) (λ _. outgrown-heads lev h)
 
 -- The chain that a hash function leads to is the key's home, where its local level is that function's.
 pub home-is : (n : ℕ) (e : Extent) (c lev k : ℕ) → 0 < n → e .next ≤ span n (e .level) → Heads n e c lev k → lev ≡ localLevel n e c → addressOf n (e .level) (e .next) k ≡ c
-unfolding addressOf addressLevel
+unfolding addressFor levelFor
 home-is n e c lev k some fits h exact = go (ord c (e .next)) (ord c (span n (e .level)))
   where
     at : (l : ℕ) → localLevel n e c ≡ l → hash n l k ≡ c

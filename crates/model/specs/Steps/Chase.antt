@@ -6,7 +6,8 @@ use Prim.Native.Nat.{ℕ, _+_, _-_, zero, suc}
 use lib.Dec.{eqb, ltb, leb}
 use Rattle.model.specs.declared.Party.{Party}
 use Rattle.model.specs.Records.{atStep, withLev, withChain, withOther, findOperation}
-use Rattle.model.specs.Addresses.{hash}
+use Rattle.model.specs.Mixing.{mixed}
+use Rattle.model.specs.Addresses.{hashOf}
 use Rattle.model.specs.Pages.{pageOf, levelOf, pageSound, primaryPage}
 use Rattle.model.specs.Outcome.{View, withParty, Outcome, moved, guarded}
 use Rattle.model.specs.LockRequests.{chainLock, otherLock, request, release}
@@ -17,18 +18,18 @@ pub record Chase : Type 0 where
   pub lev : ℕ
   pub chain : ℕ
 
--- "while lev differs from its local level, raise lev by one and go to 7 as soon as h_lev(k) is another chain": at most d times, from lev on chain c.
+-- "while lev differs from its local level, raise lev by one and go to 7 as soon as h_lev(k) is another chain": at most d times, from lev on chain c, by a mixed key m.
 unfoldable pub chase : ℕ → ℕ → ℕ → ℕ → ℕ → Chase
-chase n k c zero lev = record { lev = lev; chain = c }
-chase n k c (suc d) lev =
-    let on = chase n k c d (lev + 1) in
-    let off : Chase = record { lev = lev + 1; chain = hash n (lev + 1) k } in
-    cond (eqb (hash n (lev + 1) k) c) on off
+chase n m c zero lev = record { lev = lev; chain = c }
+chase n m c (suc d) lev =
+    let on = chase n m c d (lev + 1) in
+    let off : Chase = record { lev = lev + 1; chain = hashOf n (lev + 1) m } in
+    cond (eqb (hashOf n (lev + 1) m) c) on off
 
 unfoldable pub chaseOf : View → Chase
 chaseOf v =
     let p = v .party in
-    chase (v .root .originals) (p .key) (p .chain) (levelOf (pageOf (v .pages) (primaryPage (p .chain))) - p .lev) (p .lev)
+    chase (v .root .originals) (mixed (p .key)) (p .chain) (levelOf (pageOf (v .pages) (primaryPage (p .chain))) - p .lev) (p .lev)
 
 -- The record where the chase stays on the chain, and where it leaves it.
 unfoldable pub arrived : Chase → Party → Party

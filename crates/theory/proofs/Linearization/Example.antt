@@ -17,7 +17,8 @@ use Rattle.model.specs.declared.Restructuring.the-variants as Restructuring
 use Rattle.model.specs.declared.StepAnswer.the-variants as StepAnswer
 use Rattle.model.specs.declared.BeginAnswer.the-variants as BeginAnswer
 use Rattle.model.specs.declared.WithdrawAnswer.the-variants as WithdrawAnswer
-use Rattle.model.specs.Addresses.{addressLevel, addressOf, chainCount, hash, hashed, span}
+use Rattle.model.specs.Mixing.{stirredLeft, stirredRight, nextWord, outputs, table, rowOf, byteOf, tableWord, mixed}
+use Rattle.model.specs.Addresses.{addressFor, chainCount, hashOf, levelFor, span}
 use Rattle.model.specs.Answers.{answerNumber, operationNumber, settingGiven, foundOrAbsent, sameAnswer, settingFound}
 use Rattle.model.specs.Book.{changedAt}
 use Rattle.model.specs.Calls.{beginCall, stepCall, stepped, withBegun, withdrawCall, withdrawnFrom}
@@ -100,7 +101,7 @@ calls = callsOf transcript
 
 -- Every definition that the run takes.
 opened : ℕ
-unfolding addressLevel addressOf chainCount hash hashed span answerNumber operationNumber settingGiven foundOrAbsent changedAt beginCall stepCall stepped withBegun ascendingChain chainOf entriesOn listFrom overflowFrom readChain ascending belowFirst hasKey settingIn insertedInto isEmpty removedFrom filled overflowNeeded overflowWritten pagesFor primaryOf alsoTaken isAmong pagesTaken takenFrom tooFew fieldOf grantedWord holds permits releasedWord withField formatted formattedPages formattedRoot freePages givenUp heldAll isGranted isHeld request withHold withoutHold countOf recordsIn entriesOf wordsOf filledPage freePage levelOf linkOf linkSound linkToFirst namesOverflow pageOf pageSound withPage zeroPage beginRows firstCause lengthsFit partySound recordSound rootSound stepRows afterCall eventOf events finalMemory replyTo withinLimits changeOf changesNothing changing isChange mergeOwed owedBy primaryWritten rebuildWith rebuilt rootAfterTaking splitOwed step10 step11 hasStep stepOf stepTable answered lookedOn step09 arrived chase chaseOf chasing located modeOf release step01 step02 step03 step04 step05 step06 hasTakenEffect isDecided claims builtPages takenBack takenBackSoundly withdrawn withdrawRows withdrawnFrom withdrawCall givenBack pagesGivenBack roomToGiveBack
+unfolding stirredLeft stirredRight nextWord outputs table rowOf byteOf tableWord mixed addressFor chainCount hashOf levelFor span answerNumber operationNumber settingGiven foundOrAbsent changedAt beginCall stepCall stepped withBegun ascendingChain chainOf entriesOn listFrom overflowFrom readChain ascending belowFirst hasKey settingIn insertedInto isEmpty removedFrom filled overflowNeeded overflowWritten pagesFor primaryOf alsoTaken isAmong pagesTaken takenFrom tooFew fieldOf grantedWord holds permits releasedWord withField formatted formattedPages formattedRoot freePages givenUp heldAll isGranted isHeld request withHold withoutHold countOf recordsIn entriesOf wordsOf filledPage freePage levelOf linkOf linkSound linkToFirst namesOverflow pageOf pageSound withPage zeroPage beginRows firstCause lengthsFit partySound recordSound rootSound stepRows afterCall eventOf events finalMemory replyTo withinLimits changeOf changesNothing changing isChange mergeOwed owedBy primaryWritten rebuildWith rebuilt rootAfterTaking splitOwed step10 step11 hasStep stepOf stepTable answered lookedOn step09 arrived chase chaseOf chasing located modeOf release step01 step02 step03 step04 step05 step06 hasTakenEffect isDecided claims builtPages takenBack takenBackSoundly withdrawn withdrawRows withdrawnFrom withdrawCall givenBack pagesGivenBack roomToGiveBack
 opened = 0
 
 its-events : events (start sizes) calls ≡ transcript

@@ -11,6 +11,7 @@ use Rattle.model.specs.declared.Root.{Root}
 use Rattle.model.specs.declared.Party.{Party}
 use Rattle.model.specs.declared.Mode.{Mode}
 use Rattle.model.specs.Records.{atStep, withLev}
+use Rattle.model.specs.Mixing.{mixed}
 use Rattle.model.specs.Addresses.{addressLevel, addressOf}
 use Rattle.model.specs.Pages.{pageOf, withPage, levelOf, pageSound, primaryPage, scratchPage}
 use Rattle.model.specs.Outcome.{View, moved, withParty}
@@ -88,7 +89,7 @@ module _ (kept : StepsKept) (m : Memory) (b : Book) (q : ℕ) (p : Party) (f : F
   unfolding chaseOf chase
   stays-on =
       let near : levelOf (pageOf (m .pages) (primaryPage (p .chain))) - p .lev ≡ 0 = omega (arith, level-is) in
-      ap (λ (d : ℕ). chase n (p .key) (p .chain) d (p .lev)) near
+      ap (λ (d : ℕ). chase n (mixed (p .key)) (p .chain) d (p .lev)) near
 
   abbrev then-record : Party
   then-record = cond (eqb (chaseOf lent .chain) (p .chain)) (arrived (chaseOf lent) p) (chasing (chaseOf lent) p)

@@ -6,6 +6,7 @@ use crate::chains::records_on;
 use crate::damage::{Cause, Damage};
 use crate::locks::Mode;
 use crate::memory::{Root, FIND, LINK, LOCAL_LEVEL};
+use crate::mixing::mixed;
 use crate::reply::{Answer, Outcome, Restructuring, ABSENT};
 
 /// "2 read level."
@@ -18,11 +19,11 @@ pub(super) fn read_level<D: Damage>(lent: &mut Lent<D>) -> Result<D> {
 /// "3 read next; fix lev and chain." Lev stays raised where the chain was split already.
 #[inline]
 pub(super) fn read_next<D: Damage>(lent: &mut Lent<D>) -> Result<D> {
-    let (mut lev, key) = (lent.party.lev, lent.party.key);
-    let mut chain = lent.root.hash(lev, key);
+    let (mut lev, mixed) = (lent.party.lev, mixed(lent.party.key));
+    let mut chain = lent.root.hash(lev, mixed);
     if chain < lent.root.next {
         lev += 1;
-        chain = lent.root.hash(lev, key);
+        chain = lent.root.hash(lev, mixed);
     }
     lent.refuse_if(chain >= lent.root.most_chains, Cause::AddressNotBelow)?;
     lent.party.lev = lev;
@@ -68,7 +69,7 @@ pub(super) fn copy_primary<D: Damage>(lent: &mut Lent<D>) -> Result<D> {
 fn catch_up(root: &Root, mut lev: u32, local_level: u32, key: u32, chain: u32) -> (u32, u32) {
     while lev != local_level {
         lev += 1;
-        let address = root.hash(lev, key);
+        let address = root.hash(lev, mixed(key));
         if address != chain {
             return (lev, address);
         }

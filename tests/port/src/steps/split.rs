@@ -6,6 +6,7 @@ use crate::chains::overflow_needed;
 use crate::damage::{Cause, Damage};
 use crate::locks::{self, Mode};
 use crate::memory::{Record, LINK, SPLIT_MADE};
+use crate::mixing::mixed;
 use crate::reply::{Outcome, Restructuring};
 
 /// "16 if n = P give up root, done, split skipped; else request selective on chain next."
@@ -41,7 +42,7 @@ pub(super) fn divide<D: Damage>(lent: &mut Lent<D>) -> Result<D> {
     let (staying, going): (Vec<Record>, Vec<Record>) = found
         .records
         .iter()
-        .partition(|record| lent.root.hash(local_level, record.key) == chain);
+        .partition(|record| lent.root.hash(local_level, mixed(record.key)) == chain);
     let room = lent.root.page_records;
     let wanted = overflow_needed(staying.len(), room) + overflow_needed(going.len(), room);
     if lent.root.free_count < wanted {

@@ -2,7 +2,7 @@
 
 use std::collections::BTreeMap;
 
-use sequential::{Answer, Operation, Outcome, PlainMap, Restructuring, Sizes};
+use sequential::{mixed, Answer, Operation, Outcome, PlainMap, Restructuring, Sizes};
 
 use crate::placement::{free_pages, home, overflow_pages, placed};
 
@@ -18,7 +18,7 @@ pub fn expected(sizes: Sizes, chains: u32, map: &PlainMap, operation: Operation)
         Operation::Delete(key) if answer == Answer::Deleted => (key, "delete"),
         _ => return (answer.into(), ""),
     };
-    let home = home(sizes, chains, key);
+    let home = home(sizes, chains, mixed(key));
     let old = placed(sizes, chains, map.settings());
     let new = placed(sizes, chains, changed.settings());
     let [old_pages, new_pages] = [&old, &new].map(|all| overflow_pages(sizes, &all[home]));
@@ -37,7 +37,7 @@ pub fn expected(sizes: Sizes, chains: u32, map: &PlainMap, operation: Operation)
     (outcome, reason)
 }
 
-/// What becomes of a split that is owed. The new chain's number, read as a key, tells which chain
+/// What becomes of a split that is owed. The new chain's number, read as a mixed key, tells which chain
 /// it comes from.
 fn split(
     sizes: Sizes,

@@ -181,11 +181,13 @@ fn files_of_the_largest_sizes() {
 #[test]
 fn a_file_grows_to_256_chains_and_shrinks_to_one() {
     let mut run = Run::new(sizes([1, 1, 256, 752]));
-    for key in 0..256 {
-        run.perform(Operation::Insert(key, 256 - key));
+    let mut keys = 0;
+    while run.file.chains().len() < 256 {
+        run.perform(Operation::Insert(keys, 1000 - keys));
+        keys += 1;
     }
     assert_eq!((run.file.space().level, run.file.space().next), (8, 0));
-    for key in 0..256 {
+    for key in 0..keys {
         run.perform(Operation::Delete(key));
     }
     while run.file.chains().len() > 1 {

@@ -3,9 +3,9 @@
 
 use std::collections::BTreeMap;
 
-use sequential::{Record, Sizes};
+use sequential::{mixed, Record, Sizes};
 
-/// The chain of a key among `chains` chains: k mod m for the least m = N 2^i not below their
+/// The chain of a mixed key among `chains` chains: k mod m for the least m = N 2^i not below their
 /// number, or k mod (m / 2) where that chain does not exist yet.
 pub fn home(sizes: Sizes, chains: u32, key: u32) -> usize {
     let mut modulus = sizes.originals;
@@ -25,7 +25,7 @@ pub fn home(sizes: Sizes, chains: u32, key: u32) -> usize {
 pub fn placed(sizes: Sizes, chains: u32, settings: &BTreeMap<u32, u32>) -> Vec<Vec<Record>> {
     let mut placed = vec![Vec::new(); chains as usize];
     for (&key, &setting) in settings {
-        placed[home(sizes, chains, key)].push(Record { key, setting });
+        placed[home(sizes, chains, mixed(key))].push(Record { key, setting });
     }
     placed
 }

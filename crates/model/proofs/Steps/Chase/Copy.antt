@@ -15,6 +15,7 @@ use Rattle.model.specs.declared.Operation.the-variants as Operation
 use Rattle.model.specs.Sizes.{pageWords}
 use Rattle.model.specs.Records.{atStep, withLev, withChain, withOther}
 use Rattle.model.specs.Answers.{operationNumber, settingGiven, foundOrAbsent}
+use Rattle.model.specs.Mixing.{mixed}
 use Rattle.model.specs.Addresses.{hash}
 use Rattle.model.specs.Entries.{settingIn}
 use Rattle.model.specs.Pages.{pageOf, withPage, levelOf, entriesOf, pageSound, primaryPage, scratchPage}
@@ -50,13 +51,13 @@ pub data Chased (n k c top : ℕ) (t : Chase) : Type 0 where
   stayed : t .lev ≡ top → t .chain ≡ c → hash n top k ≡ c → Chased n k c top t
   left : (before : ℕ) → t .lev ≡ before + 1 → t .chain ≡ hash n (before + 1) k → hash n before k ≡ c → hash n (before + 1) k ≢ c → before + 1 ≤ top → Chased n k c top t
 
-pub chase-ends : (n k c d lev top : ℕ) → lev + d ≡ top → hash n lev k ≡ c → Chased n k c top (chase n k c d lev)
+pub chase-ends : (n k c d lev top : ℕ) → lev + d ≡ top → hash n lev k ≡ c → Chased n k c top (chase n (mixed k) c d lev)
 unfolding chase
 chase-ends n k c zero lev top e h = let l : lev ≡ top = omega arith in stayed l refl (ap (λ (x : ℕ). hash n x k) (sym l) ∙ h)
 chase-ends n k c (suc d) lev top e h = go (cmp (hash n (lev + 1) k) c) (λ s. chase-ends n k c d (lev + 1) top (omega arith) s)
   where
-    go : Cmp (hash n (lev + 1) k) c → (hash n (lev + 1) k ≡ c → Chased n k c top (chase n k c d (lev + 1)))
-        → Chased n k c top (cond (eqb (hash n (lev + 1) k) c) (chase n k c d (lev + 1)) (record { lev = lev + 1; chain = hash n (lev + 1) k }))
+    go : Cmp (hash n (lev + 1) k) c → (hash n (lev + 1) k ≡ c → Chased n k c top (chase n (mixed k) c d (lev + 1)))
+        → Chased n k c top (cond (eqb (hash n (lev + 1) k) c) (chase n (mixed k) c d (lev + 1)) (record { lev = lev + 1; chain = hash n (lev + 1) k }))
     go (same s) ih = rw (eqb-same (hash n (lev + 1) k) c s) (ih s)
     go (diff s) ih = rw (eqb-diff (hash n (lev + 1) k) c s) (left lev refl refl h s (omega arith))
 
