@@ -129,7 +129,7 @@ enum bead_restructuring {
     BEAD_SPLIT = 1,         /* an insert split a chain */
     BEAD_SPLIT_SKIPPED = 2, /* an insert owed a split; there were P chains, or too few free pages */
     BEAD_MERGED = 3,        /* a delete merged two chains */
-    BEAD_MERGE_SKIPPED = 4  /* a delete owed a merge; there were N chains, or too few free pages */
+    BEAD_MERGE_SKIPPED = 4  /* a delete owed a merge; there were N chains, or more records than fit a page */
 };
 
 /* The reply to a step. What does not apply is 0: all but the refusal where there is one, answer and restructuring

@@ -350,7 +350,7 @@ static void test_damage(void)
     CHECK(step(0).refusal == BEAD_DAMAGE);
 }
 
-/* Every answer and every restructuring. */
+/* Every answer and every restructuring; a merge is skipped at N chains, and where the records of both chains do not fit. */
 static void test_answers(void)
 {
     make(1, 1, 2, 4, 1);
@@ -363,6 +363,8 @@ static void test_answers(void)
     CHECK(ends(BEAD_INSERT, 4, BEAD_INSERTED, BEAD_NO_RESTRUCTURING));
     CHECK(ends(BEAD_INSERT, 5, BEAD_INSERTED, BEAD_SPLIT));
     CHECK(ends(BEAD_INSERT, 7, BEAD_INSERTED, BEAD_SPLIT_SKIPPED));
+    CHECK(ends(BEAD_DELETE, 5, BEAD_DELETED, BEAD_MERGE_SKIPPED));
+    CHECK(ends(BEAD_INSERT, 5, BEAD_INSERTED, BEAD_NO_RESTRUCTURING));
     CHECK(ends(BEAD_DELETE, 7, BEAD_DELETED, BEAD_NO_RESTRUCTURING));
     CHECK(ends(BEAD_DELETE, 5, BEAD_DELETED, BEAD_MERGED));
     CHECK(ends(BEAD_FIND, 4, BEAD_FOUND, BEAD_NO_RESTRUCTURING));

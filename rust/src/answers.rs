@@ -248,7 +248,7 @@ pub enum Restructuring {
     SplitSkipped,
     /// A delete merged two chains: there is one less.
     Merged,
-    /// A delete's merge was skipped: only the original chains are left, or too few overflow pages are free.
+    /// A delete's merge was skipped: only the original chains are left, or both chains' records do not fit one page.
     MergeSkipped,
 }
 

@@ -22,6 +22,7 @@ CHECKS = [
     "Holds.grantsRight (m .root) Book.emptyBook [] m calls",
     "NoPage.noPageKept NoPage.noneWrote (Runs.events m calls)",
     "Withdrawals.withdrawnUnwritten NoPage.noneWrote (Runs.events m calls)",
+    "FittingMerges.mergesFit FittingMerges.nothingHad m calls",
 ]
 
 # The fields of a root record and of a party's record, in the order of the words in a file of single calls.

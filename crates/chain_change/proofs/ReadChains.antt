@@ -10,8 +10,7 @@ use Rattle.model.specs.Pages.{pageOf, linkOf, primaryPage}
 use Rattle.model.specs.Chains.{sound, Chain, listFrom, readChain, chainOf}
 use Rattle.model.proofs.Laws.Lists.{all-map}
 use Rattle.model.proofs.Laws.Tests.{sound-page-counts}
-use Rattle.model.proofs.Laws.Walks.{walked-chained, linked-sound, length-entriesOn}
-use Rattle.chain_keys.proofs.WholeChain.{chain-reads}
+use Rattle.model.proofs.Laws.Walks.{walked-chained, chain-reads, linked-sound, length-entriesOn}
 
 pub chain-link : (r : Root) (ps : List ℕ) (c : ℕ) (d : Chain) → chainOf r ps c ≡ sound d → d .link ≡ linkOf (pageOf ps (primaryPage c))
 unfolding readChain

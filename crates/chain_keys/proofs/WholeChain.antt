@@ -1,24 +1,22 @@
 -- A chain whose pages were walked and whose records were gathered, over the model's chainOf.
--- Main statements: chain-reads (what was read of a chain looked through whole), sound-ascends (its records ascend); pages-bounded, unwalked-damaged; walked-chain (what chainOf is once the pages
+-- Main statements: sound-ascends (the records of a chain looked through whole ascend); pages-bounded, unwalked-damaged; walked-chain (what chainOf is once the pages
 -- were walked), pages-walked (how many they are); keys-fall-damaged, keys-ascend-gathered, keys-ascend-in-front (what gather answers and leaves); Whole, gathered-damaged, gathered-whole
--- (what its caller learns); front-is, front-long, front-words (a chain gathered, as the front of its buffer is lent).
+-- (what its caller learns); front-is (a chain gathered, as the front of its buffer is lent).
 use mathlib.Core.Path.{_≡_, refl, sym, ap, _∙_}
 use mathlib.Core.Bool.{Bool, true, false, cond}
 use mathlib.Core.List.{List, _∷_, _++_}
 use Prim.Native.Nat.{ℕ, _-_, _*_, _≤_}
 use native.Mathlib.Omega.{arith}
 use lib.ListN.{length, take, length-take}
-use lib.Dec.{eqb}
 use lib.Seq.{length-take-le}
 use Rattle.model.specs.declared.Root.{Root}
 use Rattle.model.specs.declared.Entry.{Entry}
 use Rattle.model.specs.Sizes.{mostRecords, recordWords}
 use Rattle.model.specs.Entries.{ascending}
-use Rattle.model.specs.Pages.{pageOf, levelOf, countOf, linkOf, recordsIn, entriesOf, pageSound, primaryPage}
+use Rattle.model.specs.Pages.{pageOf, levelOf, countOf, linkOf, recordsIn, entriesOf, pageSound}
 use Rattle.model.specs.Chains.{Checked, damaged, sound, soundIf, andThen, Chain, listFrom, entriesOn, readChain, ascendingChain, chainOf}
-use Rattle.model.proofs.Laws.Lists.{front-part}
 use Rattle.model.proofs.Laws.RecordWords.{length-records, records-front}
-use Rattle.model.proofs.Laws.Walks.{walked-chained}
+use Rattle.model.proofs.Laws.Walks.{walked-chained, chain-reads}
 use Rattle.chains.specs.Walks.{counted}
 use Rattle.chains.specs.declared.Walked.the-variants as Walked
 use Rattle.model.proofs.Laws.Tests.{sound-page-links, sound-page-counts}
@@ -27,31 +25,6 @@ use Rattle.chain_keys.specs.declared.Gathered.{Gathered}
 use Rattle.chain_keys.specs.declared.Gathered.the-variants as Gathered
 use Rattle.chain_keys.specs.Gathering.{overflowOf, CanGather, Followed, entriesFrom, frontOf, gathered, inFront, entriesIn}
 use Rattle.chain_keys.proofs.Following.{walked-walks}
-
--- ---- What was read of a chain
-
--- Chain c was looked through whole, its overflow pages are xs, and d is what was read.
-pub record Reads (r : Root) (ps : List ℕ) (c : ℕ) (d : Chain) : Type 0 where
-  pub xs : List ℕ
-  pub page-sound : pageSound r (pageOf ps (primaryPage c)) ≡ true
-  pub listed : listFrom r ps (linkOf (pageOf ps (primaryPage c))) ≡ sound xs
-  pub chain-is : readChain ps c xs ≡ d
-  pub ascends : ascending (d .entries) ≡ true
-
-pub chain-reads : (r : Root) (ps : List ℕ) (c : ℕ) (d : Chain) → chainOf r ps c ≡ sound d → Reads r ps c d
-unfolding chainOf ascendingChain
-chain-reads r ps c d e = go (pageSound r (pageOf ps c)) (listFrom r ps (linkOf (pageOf ps c))) refl refl e
-  where
-    whole : (xs : List ℕ) → pageSound r (pageOf ps c) ≡ true → listFrom r ps (linkOf (pageOf ps c)) ≡ sound xs
-        → (b : Bool) → b ≡ ascending (readChain ps c xs .entries) → soundIf b (readChain ps c xs) ≡ sound d → Reads r ps c d
-    whole xs g f true eb e = let q : readChain ps c xs ≡ d = cc in record { xs = xs; page-sound = g; listed = f; chain-is = q; ascends = rw (← q) (sym eb) }
-    whole xs g f false eb e = absurd (let z : _≡_ {A = ℕ} 0 1 = cc in omega arith)
-
-    go : (b : Bool) (x : Checked (List ℕ)) → b ≡ pageSound r (pageOf ps c) → x ≡ listFrom r ps (linkOf (pageOf ps c))
-        → cond b (andThen x (λ xs. ascendingChain (readChain ps c xs))) damaged ≡ sound d → Reads r ps c d
-    go true damaged eb ex e = absurd (let z : _≡_ {A = ℕ} 0 1 = cc in omega arith)
-    go true (sound xs) eb ex e = whole xs (sym eb) (sym ex) (ascending (readChain ps c xs .entries)) refl e
-    go false x eb ex e = absurd (let z : _≡_ {A = ℕ} 0 1 = cc in omega arith)
 
 pub sound-ascends : (r : Root) (ps : List ℕ) (c : ℕ) (d : Chain) → chainOf r ps c ≡ sound d → ascending (d .entries) ≡ true
 sound-ascends r ps c d e = chain-reads r ps c d e .ascends
@@ -189,9 +162,3 @@ gathered-whole {r} {ps} {c} {n} {room} can {a} {g} words told f = go (chainOf r 
 module _ {x : Checked Chain} {n : ℕ} (g : Front) (words : List ℕ) (whole : Whole x n g words) where
   pub front-is : recordsIn (take (g .count * recordWords - 0) words) ≡ whole .chain .entries
   front-is = records-front (g .count) words ∙ whole .entries
-
-  pub front-long : length (recordsIn (take (g .count * recordWords - 0) words)) ≡ g .count
-  front-long = ap length front-is ∙ sym (whole .count)
-
-  pub front-words : length (take (g .count * recordWords - 0) words) ≡ g .count * recordWords
-  front-words = ap length (front-part (g .count * recordWords) words) ∙ length-take-le (g .count * recordWords) words (whole .fits)

@@ -98,7 +98,7 @@ fn merge_step(
         23 => merge_locks::step_23(party, q, locks),
         24 => merge_locks::step_24(r, party, q, locks, pages),
         25 => merge_locks::step_25(party, q, locks),
-        26 => merge_build::step_26(root, party, q, locks, pages),
+        26 => merge_build::step_26(r, party, q, locks, pages),
         27 => merge_write::step_27(root, party, q, locks, pages),
         28 => merge_write::step_28(r, party, q, locks, pages),
         29 => merge_write::step_29(root, party, q, locks, pages),

@@ -1,5 +1,4 @@
 -- Laws that the proofs of this crate share.
 pub mod Scanning
-pub mod Joining
 pub mod Moving
 pub mod Places

@@ -14,12 +14,11 @@ use Rattle.model.specs.declared.Entry.{Entry}
 use Rattle.model.specs.Entries.{keyOf, hasKey, belowFirst, ascending, insertedInto, removedFrom}
 use Rattle.model.specs.Filling.{recordAt}
 use Rattle.model.proofs.Laws.Lists.{Ord, lt, ge, ord, Cmp, same, diff, cmp, or-neither, eqb-same, eqb-diff, eqb-false, le-ltb, lt-ltb, false≢true}
-use Rattle.model.proofs.Laws.Joins.{below-absent}
+use Rattle.model.proofs.Laws.Joins.{below-absent, below-rest, below-cons, ascending-first, ascending-rest}
 use Rattle.model.proofs.Laws.Ascending.{beyond-first}
 use Rattle.entries.specs.Places.{placeOf}
 use Rattle.entries.proofs.Scanning.{next-of}
 use Rattle.entries.proofs.Moving.{allBut}
-use Rattle.entries.proofs.Joining.{below-rest, below-cons, ascending-first, ascending-rest}
 
 -- ---- The records counted one by one
 

@@ -1,26 +1,17 @@
-// Lists of records in lent buffers of words, two a record, key first (document 01, "A chain's keys ascend" and steps 10 and 26). A record is told apart by its key alone.
-// Main statements: ascends is ascending, below is placeOf, has_at is hasKey; put_in is insertedInto and leave_out is removedFrom, in place;
-// join is joined, and tells by sharesKey whether a key is in both lists.
+// Lists of records in lent buffers of words, two a record, key first (document 01, "A chain's keys ascend" and step 10). A record is told apart by its key alone.
+// Main statements: ascends is ascending, below is placeOf, has_at is hasKey; put_in is insertedInto and leave_out is removedFrom, in place.
 
 ghost use mathlib.Core.Path.{_≡_};
-ghost use mathlib.Core.Bool.{true, false, not};
+ghost use mathlib.Core.Bool.{true, false};
 ghost use Prim.Native.Nat.{ℕ, _+_, _-_, _*_, _≤_, _<_};
-ghost use lib.ListN.{length, set, take, drop};
+ghost use lib.ListN.{length, set, take};
 ghost use Rattle.model.specs.Sizes.{recordWords};
-ghost use Rattle.model.specs.Entries.{hasKey, ascending, insertedInto, removedFrom, joined, sharesKey};
+ghost use Rattle.model.specs.Entries.{hasKey, ascending, insertedInto, removedFrom};
 ghost use Rattle.model.specs.Pages.{recordsIn};
 ghost use Rattle.model.specs.Filling.{recordAt};
-ghost use Rattle.entries.specs.Sides.{sideOf};
 ghost use Rattle.entries.specs.Places.{placeOf};
 use model::Entry;
 use model::RECORD_WORDS;
-
-// Which of two ascending lists has the smaller first key, if they differ.
-pub enum Side {
-    First,
-    Second,
-    Both,
-}
 
 // "keys that do not strictly ascend in a chain looked through whole" are damage.
 pub fn ascends(words: &[u32]) -> bool
@@ -106,47 +97,4 @@ pub fn leave_out(words: &mut [u32], at: usize, n: usize)
         set_record(words, i - 1, record_at(&words[..], i));
         i += 1;
     }
-}
-
-// Which of the lists has the smaller key, `a` from record i on or `b` from record j on.
-fn next_side(a: &[u32], i: usize, b: &[u32], j: usize) -> Side
-    ensures { λ r. ⌜ r ≡ sideOf (drop i (recordsIn (now (a .entry)))) (drop j (recordsIn (now (b .entry)))) ⌝ }
-{
-    if a.len() / RECORD_WORDS <= i {
-        return Side::Second;
-    }
-    if b.len() / RECORD_WORDS <= j {
-        return Side::First;
-    }
-    if a[i * RECORD_WORDS] < b[j * RECORD_WORDS] {
-        return Side::First;
-    }
-    if b[j * RECORD_WORDS] < a[i * RECORD_WORDS] {
-        return Side::Second;
-    }
-    Side::Both
-}
-
-// Two ascending lists joined in `out`, unless a key is in both: whether none is.
-pub fn join(a: &[u32], b: &[u32], out: &mut [u32]) -> bool
-    requires { ⌜ (ascending (recordsIn (now a)) ≡ true) × (ascending (recordsIn (now b)) ≡ true) × (length (now a) + length (now b) ≤ length (now out)) ⌝ }
-    ensures { λ r. ⌜ (r ≡ not (sharesKey (recordsIn (now (a .entry))) (recordsIn (now (b .entry))))) × (r ≡ true → take (length (recordsIn (now (a .entry))) + length (recordsIn (now (b .entry)))) (recordsIn (now (out .exit))) ≡ joined (recordsIn (now (a .entry))) (recordsIn (now (b .entry)))) ⌝ }
-{
-    let total = a.len() / RECORD_WORDS + b.len() / RECORD_WORDS;
-    let mut i = 0;
-    let mut j = 0;
-    while i + j < total {
-        match next_side(a, i, b, j) {
-            Side::First => {
-                set_record(out, i + j, record_at(a, i));
-                i += 1;
-            }
-            Side::Second => {
-                set_record(out, i + j, record_at(b, j));
-                j += 1;
-            }
-            Side::Both => return false,
-        }
-    }
-    true
 }

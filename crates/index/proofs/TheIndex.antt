@@ -27,6 +27,7 @@ use Rattle.theory.proofs.Linearization.{linearizable}
 use Rattle.theory.proofs.Settings.{founds-right}
 use Rattle.theory.proofs.Withdrawals.{withdrawals-right}
 use Rattle.theory.proofs.Restored.{restored}
+use Rattle.theory.proofs.FittingMerges.{merges-right}
 use Rattle.theory.proofs.Demands.{schedule-right, granted-right, singly-right, lists-right}
 use Rattle.index.specs.TheIndex.{Formatted, Made, begun, stepped, withdrew, happened, Ran, ended, next, StartRight, IndexRight}
 
@@ -117,4 +118,5 @@ module _ (m₀ : Memory) (z : FileSizes) (m : Memory) (is : Formatted m₀ z m) 
         founds = founds-right sizes-given cs (linearizable sizes-given cs);
         withdrawals = withdrawals-right sizes-given cs;
         restores = restored sizes-given cs;
+        merges = merges-right sizes-given cs;
       }

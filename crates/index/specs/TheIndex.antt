@@ -22,6 +22,7 @@ use Rattle.theory.specs.Demands.{Sizes, sizesOf, start, Reached, bookReached, S
 use Rattle.theory.specs.Linearization.{Linearization}
 use Rattle.theory.specs.Settings.{FoundsRight}
 use Rattle.theory.specs.Withdrawals.{Restored, WithdrawalsRight}
+use Rattle.theory.specs.FittingMerges.{nothingHad, mergesFit}
 
 -- ---- Calls of the functions
 
@@ -78,3 +79,5 @@ pub record IndexRight (z : FileSizes) (cs : List Call) (es : List Event) (m : Me
   -- and is withdrawn, all lent memory is what it was before its begin.
   pub withdrawals : WithdrawalsRight sizes cs
   pub restores : (x : Wanted) (n : ℕ) → Restored sizes cs x n
+  -- Change 4: a merge goes ahead exactly where the joined records fit the primary page, takes no page, gives back what both chains had, and leaves a chain of one page.
+  pub merges : mergesFit nothingHad (start sizes) cs ≡ true

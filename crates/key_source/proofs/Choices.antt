@@ -4,10 +4,10 @@
 use mathlib.Core.Path.{_≡_, refl, ap, _∙_}
 use mathlib.Core.Bool.{Bool, true, false, cond, not}
 use mathlib.Core.List.{List, [], _∷_}
-use Prim.Native.Nat.{ℕ, suc, _+_, _≤_, _<_}
+use Prim.Native.Nat.{suc, _+_, _≤_, _<_}
 use native.Mathlib.Omega.{arith}
 use lib.ListN.{length}
-use lib.Dec.{ltb, eqb}
+use lib.Dec.{eqb}
 use borrow.Author.Tests.{lt-ltb, le-ltb}
 use mathlib.Core.Logic.{inl, inr}
 use types.Run.{OneOf}
@@ -15,6 +15,7 @@ use denote.Enum.Declared.{tagOf}
 use Rattle.model.specs.Addresses.{hash}
 use Rattle.model.specs.declared.Entry.{Entry}
 use Rattle.model.specs.Entries.{keyOf, insertedInto, removedFrom, staying, going}
+use Rattle.model.proofs.Laws.Changes.{length-inserted}
 use Rattle.key_source.specs.declared.Halving.{Halving}
 use Rattle.key_source.specs.declared.Choice.{Choice}
 use Rattle.key_source.proofs.Choice.{the-type}
@@ -92,15 +93,6 @@ few-extra (Without k) = omega arith
 few-extra (Staying h) = omega arith
 few-extra (Going h) = omega arith
 
-length-inserted : (x : Entry) (es : List Entry) → length (insertedInto x es) ≡ 1 + length es
-unfolding insertedInto
-length-inserted x [] = refl
-length-inserted x (e ∷ es) = go (ltb (keyOf x) (keyOf e)) (length-inserted x es)
-  where
-    go : (b : Bool) → length (insertedInto x es) ≡ 1 + length es → length (cond b (x ∷ (e ∷ es)) (e ∷ insertedInto x es)) ≡ 1 + suc (length es)
-    go true ih = omega arith
-    go false ih = omega (arith, ih)
-
 pub length-chosen-none : (c : Choice) → length (chosen c []) ≡ extraRecords c
 unfolding chosen extraRecords insertedInto removedFrom staying going
 length-chosen-none All = refl
@@ -131,7 +123,7 @@ length-chosen (Going h) e es = length-first (Going h) e es refl
 -- One record more; both halves of a split.
 pub with-length : (k : Entry) (es : List Entry) → length (chosen (With k) es) ≡ 1 + length es
 unfolding chosen
-with-length k es = length-inserted k es
+with-length k es = omega (arith, length-inserted k es)
 
 pub halves-length : (h : Halving) (es : List Entry) → length (chosen (Staying h) es) + length (chosen (Going h) es) ≡ length es
 unfolding kept extraRecords

@@ -2,3 +2,4 @@
 pub mod Places
 pub mod Choices
 pub mod Takings
+pub mod Looking

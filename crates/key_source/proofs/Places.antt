@@ -17,13 +17,12 @@ use Rattle.model.proofs.Laws.Lists.{all-map}
 use Rattle.model.proofs.Laws.RecordWords.{records-take}
 use Rattle.model.specs.Chains.{sound, Chain, listFrom, entriesOn, readChain, chainOf}
 use Rattle.model.proofs.Laws.Tests.{sound-page-links, sound-page-counts}
-use Rattle.model.proofs.Laws.Walks.{walked-chained, length-entriesOn}
+use Rattle.model.proofs.Laws.Walks.{walked-chained, Reads, chain-reads, length-entriesOn}
 use Rattle.chains.specs.Links.{linkedPages}
 use Rattle.chains.proofs.Walking.{count-at, link-at}
 use Rattle.chains.proofs.Links.{length-linkedPages, leads-all, next-page}
 use Rattle.chain_keys.specs.Gathering.{CanWalk, entriesFrom, Followed}
 use Rattle.chain_keys.proofs.Following.{Walks, walked-walks, entries-next, entries-none}
-use Rattle.chain_keys.proofs.WholeChain.{Reads, chain-reads}
 use Rattle.key_source.specs.declared.Place.{Place}
 use Rattle.key_source.specs.Sources.{recordsAt, Sits, CanStart, onward}
 

@@ -71,7 +71,7 @@ pub fn first_place(pages: &[u32], page: PageAddress, n: u32) -> Place
 }
 
 // The same place past the pages that have no record left.
-fn settled(pages: &[u32], p: Place) -> Place
+pub fn settled(pages: &[u32], p: Place) -> Place
     requires { ⌜ Sits (now pages) p ⌝ }
     ensures { λ r. ⌜ Sits (now (pages .entry)) r × (recordsAt (now (pages .entry)) r ≡ recordsAt (now (pages .entry)) p) × (r .left ≡ 0 → recordsAt (now (pages .entry)) r ≡ []) ⌝ }
 {
@@ -86,7 +86,7 @@ fn settled(pages: &[u32], p: Place) -> Place
 }
 
 // One record further on the same page.
-fn passed(p: Place) -> Place
+pub fn passed(p: Place) -> Place
     requires { ⌜ (1 ≤ p .left) × (p .at + 2 < 2 ^ 64) ⌝ }
     ensures { λ r. ⌜ r ≡ onward p ⌝ }
 {

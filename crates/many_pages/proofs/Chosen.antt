@@ -19,7 +19,8 @@ use Rattle.model.specs.Steps.Rebuild.{changed, changeOf}
 use Rattle.entries.specs.Places.{placeOf}
 use Rattle.entries.proofs.Places.{place-inside, removed-at}
 use Rattle.chain_keys.specs.Gathering.{entriesFrom}
-use Rattle.chain_keys.proofs.WholeChain.{chain-reads, sound-ascends}
+use Rattle.model.proofs.Laws.Walks.{chain-reads}
+use Rattle.chain_keys.proofs.WholeChain.{sound-ascends}
 use Rattle.key_source.specs.declared.Place.{Place}
 use Rattle.key_source.specs.declared.Choice.{Choice}
 use Rattle.key_source.specs.declared.Choice.the-variants.{With, Without}

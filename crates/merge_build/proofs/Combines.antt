@@ -1,164 +1,95 @@
--- Step 26 by its cases: which test refuses it or ends the operation, and what it leaves where none does.
--- Main statements: front-need; too-few-skipped, unbuilt-damaged, built-made (the joined records in new pages); barred-refused, unsound-damaged, sound-combines, open-joins,
--- ending-is (the step);
--- can-join, ready-can-merge, still-at-hand (what each part needs).
+-- Both chains of a merge, read again where they stand.
+-- Main statements: target-looks, partner-looks (what was read of them); can-join (they can be joined), shared-told, records-few, many-joined, page-filled (what that answers).
 use mathlib.Core.Path.{_≡_, refl, sym, ap, ap₂, _∙_}
-use mathlib.Core.Bool.{true, false}
-use mathlib.Core.List.{List}
-use Prim.Native.Nat.{ℕ, _+_, _-_, _*_, _^_, _≤_, _<_}
+use mathlib.Core.Bool.{Bool}
+use mathlib.Core.List.{List, [], _++_}
+use Prim.Native.Nat.{ℕ, _+_, _*_, _≤_}
 use native.Mathlib.Omega.{arith}
-use lib.ListN.{length, take}
-use lib.Seq.{length-take-le}
-use borrow.Author.Tests.{lt-ltb, le-ltb}
+use lib.ListN.{length}
+use lib.Seq.{take-all}
 use Rattle.model.specs.declared.Root.{Root}
-use Rattle.model.specs.declared.Party.{Party}
 use Rattle.model.specs.declared.Entry.{Entry}
-use Rattle.model.specs.Sizes.{pageWords, mostRecords, recordWords}
-use Rattle.model.specs.Pages.{recordsIn, withPage, scratchPage}
-use Rattle.model.specs.Chains.{Checked, damaged, sound}
-use Rattle.model.specs.Filling.{overflowNeeded, pagesFor, primaryOf, overflowWritten}
-use Rattle.model.specs.FreeList.{Taken, tooFew, pagesTaken, rootAfterTaking}
-use Rattle.model.specs.Outcome.{View, Outcome, refuse, damage, checked}
-use Rattle.model.specs.Ready.{Ready, viewing}
-use Rattle.model.specs.Steps.MergeBuild.{Pair, joinedEntries, mergeGoes, combined, combineWith, step26}
-use Rattle.model.specs.Steps.MergeLocks.{mergeStops}
-use Rattle.model.proofs.Laws.RecordWords.{length-records, records-front}
-use Rattle.records.specs.Words.{AtHand}
-use Rattle.free_list.specs.declared.Drawn.{Drawn}
-use Rattle.free_list.specs.declared.Drawn.the-variants as Drawn
+use Rattle.model.specs.Entries.{ascending, joined, sharesKey}
+use Rattle.model.specs.Sizes.{mostRecords}
+use Rattle.model.specs.Pages.{pageOf, linkOf, entriesOf, filledPage, linkToFirst}
+use Rattle.model.specs.Filling.{primaryOf}
+use Rattle.model.proofs.Laws.Joins.{length-joined}
+use Rattle.records.specs.Words.{partyIn}
+use Rattle.chain_keys.specs.Gathering.{CanWalk, entriesFrom}
+use Rattle.chain_keys.proofs.WholeChain.{sound-ascends}
+use Rattle.chain_scan.specs.declared.Looked.{Looked}
+use Rattle.key_source.specs.declared.Place.{Place}
+use Rattle.key_source.specs.Sources.{recordsAt, Sits}
+use Rattle.key_source.proofs.Places.{length-recordsAt}
+use Rattle.key_source.proofs.Looking.{Looks, chain-looked}
 use Rattle.merge_join.specs.Joining.{CanJoin}
-use Rattle.merge_chain.specs.Building.{Chained, chained, chainedOn, builtChain}
-use Rattle.merge_chain.proofs.Building.{ready-can-build}
-use Rattle.merge_build.specs.declared.Combined.{Combined}
-use Rattle.merge_build.specs.declared.Combined.the-variants as Combined
-use Rattle.merge_build.specs.Combining.{endingAs, joinedWith, joinedBoth, CanMerge, BothWalked}
+use Rattle.merge_build.specs.Combining.{CanCombine}
 
--- ---- The joined records es in new pages
+module _ (r : Root) (p : List ℕ) (q : ℕ) (t u : Looked) (ls ps : List ℕ) (can : CanCombine r p q t u ls ps) where
+  walks-target : CanWalk r ps (partyIn p .chain)
+  walks-target = let ready = can .at-hand .ready in record { chain-fits = ready .chain-fits; pages-fit = omega (arith, ready .pages-fit) }
 
--- The n records at the front of a buffer, as they are lent, need as many pages as n records.
-pub front-need : (b n : ℕ) (xs : List ℕ) {k : ℕ} → n * recordWords ≤ length xs → k ≡ overflowNeeded b n → k ≡ pagesFor b (recordsIn (take (n * recordWords - 0) xs))
-unfolding pagesFor
-front-need b n xs h e =
-    e ∙ ap (overflowNeeded b) (sym (ap length (records-front n xs) ∙ length-take-le n (recordsIn xs) (omega (arith, length-records xs, h))))
+  walks-partner : CanWalk r ps (partyIn p .other)
+  walks-partner = let ready = can .at-hand .ready in record { chain-fits = ready .other-fits; pages-fit = omega (arith, ready .pages-fit) }
 
-module _ (r : Root) (p : Party) (q : ℕ) (ls ps : List ℕ) {d : Drawn} {ps′ : List ℕ} where
-  -- Nothing was written where no pages could be taken.
-  none-taken : (t : Checked Taken) (f : Taken → List ℕ) (g : Taken → Outcome) → chained d ps′ ≡ chainedOn ps t f → d ≡ Drawn.Damaged
-      → refuse damage (viewing r p q ls ps′) ≡ checked (viewing r p q ls ps) t g
-  none-taken damaged f g e h = ap (λ (c : Chained). refuse damage (viewing r p q ls (c .pages))) e
-  none-taken (sound t) f g e h =
-      let head : d ≡ Drawn.Head (t .head) = ap (λ (c : Chained). c .drawn) e in
-      absurd (let z : _≡_ {A = ℕ} 0 1 = cc in omega arith)
+  pub target-looks : Looks r ps (partyIn p .chain) t
+  target-looks = let ready = can .at-hand .ready in chain-looked r ps (partyIn p .chain) t (ready .keys-fit) (ready .overflow-fits) walks-target (can .target)
 
-  -- The chain's pages were written, and h is then the free list's head.
-  some-taken : (m : Pair) (es : List Entry) → es ≡ joinedEntries m → (t : Checked Taken) {h : ℕ}
-      → chained d ps′ ≡ chainedOn ps t (λ t. withPage (overflowWritten (r .capacity) ps (t .pages) es) (scratchPage r q) (primaryOf (r .capacity) (m .target .level) es (t .pages)))
-      → d ≡ Drawn.Head h
-      → endingAs (Combined.Made h (r .free - pagesFor (r .capacity) es) (m .target .link)) (viewing r p q ls ps′) ≡ checked (viewing r p q ls ps) t (λ t. combined (viewing r p q ls ps) m t)
-  unfolding combined rootAfterTaking
-  some-taken m es joins damaged e f =
-      let none : d ≡ Drawn.Damaged = ap (λ (c : Chained). c .drawn) e in
-      absurd (let z : _≡_ {A = ℕ} 0 1 = cc in omega arith)
-  some-taken m es joins (sound t) {h} e f =
-      let same : d ≡ Drawn.Head (t .head) = ap (λ (c : Chained). c .drawn) e in
-      let head : h ≡ t .head = cc in
-      rw (head, ap (λ (c : Chained). c .pages) e, ← joins) refl
+  pub partner-looks : Looks r ps (partyIn p .other) u
+  partner-looks = let ready = can .at-hand .ready in chain-looked r ps (partyIn p .other) u (ready .keys-fit) (ready .overflow-fits) walks-partner (can .partner)
 
--- The two chains are m, and their joined records es need k pages.
-module _ (r : Root) (p : Party) (q : ℕ) (ls ps : List ℕ) (m : Pair) (es : List Entry) (joins : es ≡ joinedEntries m) (k : ℕ) (many : k ≡ pagesFor (r .capacity) es) where
-  pub too-few-skipped : r .free < k → endingAs Combined.Skipped (viewing r p q ls ps) ≡ combineWith (viewing r p q ls ps) m
-  unfolding combineWith mergeGoes tooFew
-  too-few-skipped f = rw (← joins, ← many, lt-ltb (r .free) k f) refl
+  -- The places of their first records.
+  module _ (first second : Place) (first-sits : Sits ps first)
+      (first-is : recordsAt ps first ≡ entriesOf (pageOf ps (partyIn p .chain)) ++ entriesFrom ps (t .pages) (linkOf (pageOf ps (partyIn p .chain))))
+      (second-sits : Sits ps second)
+      (second-is : recordsAt ps second ≡ entriesOf (pageOf ps (partyIn p .other)) ++ entriesFrom ps (u .pages) (linkOf (pageOf ps (partyIn p .other)))) where
+    abbrev xs : List Entry
+    xs = target-looks .chain .entries
 
-  module _ (enough : k ≤ r .free) where
-    enough-builds : checked (viewing r p q ls ps) (pagesTaken r ps (pagesFor (r .capacity) es)) (λ t. combined (viewing r p q ls ps) m t) ≡ combineWith (viewing r p q ls ps) m
-    unfolding combineWith mergeGoes tooFew
-    enough-builds = rw (← joins, ← many, le-ltb (r .free) k enough) refl
+    abbrev ys : List Entry
+    ys = partner-looks .chain .entries
 
-    -- d and ps′ are what building the chain answered and left.
-    module _ {level : ℕ} (levels : level ≡ m .target .level) {d : Drawn} {ps′ : List ℕ} (built : chained d ps′ ≡ builtChain r q ps level es) where
-      pub unbuilt-damaged : d ≡ Drawn.Damaged → endingAs Combined.Damaged (viewing r p q ls ps′) ≡ combineWith (viewing r p q ls ps) m
-      unfolding builtChain
-      unbuilt-damaged e = none-taken r p q ls ps (pagesTaken r ps (pagesFor (r .capacity) es)) _ _ built e ∙ enough-builds
+    firsts : recordsAt ps first ≡ xs
+    firsts = first-is ∙ target-looks .records
 
-      pub built-made : {h n link : ℕ} → d ≡ Drawn.Head h → n ≡ r .free - k → link ≡ m .target .link
-          → endingAs (Combined.Made h n link) (viewing r p q ls ps′) ≡ combineWith (viewing r p q ls ps) m
-      unfolding builtChain
-      built-made {h} e en el =
-          let whole = built ∙ ap (λ (l : ℕ). builtChain r q ps l es) levels in
-          ap₂ (λ (y z : ℕ). endingAs (Combined.Made h y z) (viewing r p q ls ps′)) (en ∙ ap (λ (y : ℕ). r .free - y) many) el
-          ∙ some-taken r p q ls ps m es joins (pagesTaken r ps (pagesFor (r .capacity) es)) whole e
-          ∙ enough-builds
+    seconds : recordsAt ps second ≡ ys
+    seconds = second-is ∙ partner-looks .records
 
--- ---- The step
-
-module _ (v : View) where
-  pub barred-refused : mergeStops (v .root) ≡ true → refuse damage v ≡ step26 v
-  unfolding step26
-  barred-refused e = rw e refl
-
-  module _ {x : Checked Pair} where
-    pub unsound-damaged : x ≡ damaged → refuse damage v ≡ joinedWith v x
-    unsound-damaged e = rw e refl
-
-    pub sound-combines : {m : Pair} → x ≡ sound m → combineWith v m ≡ joinedWith v x
-    sound-combines e = rw e refl
-
-  pub open-joins : mergeStops (v .root) ≡ false → joinedBoth v ≡ step26 v
-  unfolding step26
-  open-joins e = rw e refl
-
--- The step ends as joining came to, on records by other names.
-pub ending-is : (q : ℕ) (ls ps ps′ : List ℕ) {r r′ : Root} {p p′ : Party} {x y : Combined} → r ≡ r′ → p ≡ p′ → x ≡ y → mergeStops r′ ≡ false
-    → endingAs x (viewing r p q ls ps′) ≡ joinedBoth (viewing r p q ls ps) → endingAs y (viewing r′ p′ q ls ps′) ≡ step26 (viewing r′ p′ q ls ps)
-ending-is q ls ps ps′ er ep ex goes e = (rw (er, ep, ex) at e) ∙ open-joins _ goes
-
--- ---- What each part needs
-
--- The buffers have room for what was walked.
-pub can-join : (r : Root) (p : Party) (q n m : ℕ) (ps a b out : List ℕ) → CanMerge r p q ps → BothWalked r p n m ps
-    → mostRecords * recordWords * (n + 1) ≤ length a → mostRecords * recordWords * (m + 1) ≤ length b → length a + length b ≤ length out → length out < 2 ^ 32 → CanJoin r p n m ps a b out
-can-join r p q n m ps a b out can walks target-room partner-room out-room few = record {
-  target = record { can-walk = can .target; keys-fit = can .can-build .keys-fit; walked = walks .target-walked; has-room = target-room };
-  partner = record { can-walk = can .partner; keys-fit = can .can-build .keys-fit; walked = walks .partner-walked; has-room = partner-room };
-  out-room = out-room;
-  few = few;
-}
-
-pub ready-can-merge : (v : View) → Ready v → CanMerge (v .root) (v .party) (v .number) (v .pages)
-ready-can-merge v ready =
-    let fit : pageWords * (v .root .primaries + v .root .overflow) ≤ length (v .pages) = omega (arith, ready .pages-fit) in
-    record {
-      can-build = ready-can-build v ready;
-      some-key = ready .some-key;
-      target = record { chain-fits = ready .chain-fits; pages-fit = fit };
-      partner = record { chain-fits = ready .other-fits; pages-fit = fit };
+    pub can-join : CanJoin ps first second
+    can-join = record {
+      first-sits = first-sits;
+      second-sits = second-sits;
+      first-ascends = ap ascending firsts ∙ sound-ascends r ps (partyIn p .chain) (target-looks .chain) (target-looks .is-sound);
+      second-ascends = ap ascending seconds ∙ sound-ascends r ps (partyIn p .other) (partner-looks .chain) (partner-looks .is-sound);
     }
 
--- Page words as many as before.
-pub still-at-hand : (r : Root) (p : List ℕ) (q : ℕ) (ls ps ps′ : List ℕ) → length ps′ ≡ length ps → AtHand r p q ls ps → AtHand r p q ls ps′
-still-at-hand r p q ls ps ps′ long at = record {
-  words = at .words;
-  ready = record {
-    some-original = at .ready .some-original;
-    originals-fit = at .ready .originals-fit;
-    chains-fit = at .ready .chains-fit;
-    overflow-fits = at .ready .overflow-fits;
-    some-key = at .ready .some-key;
-    keys-fit = at .ready .keys-fit;
-    parties-fit = at .ready .parties-fit;
-    locks-fit = at .ready .locks-fit;
-    pages-fit = long ∙ at .ready .pages-fit;
-    number-fits = at .ready .number-fits;
-    level-fits = at .ready .level-fits;
-    next-fits = at .ready .next-fits;
-    count-fits = at .ready .count-fits;
-    free-fits = at .ready .free-fits;
-    step-fits = at .ready .step-fits;
-    lev-fits = at .ready .lev-fits;
-    owed-fits = at .ready .owed-fits;
-    answer-fits = at .ready .answer-fits;
-    chain-fits = at .ready .chain-fits;
-    other-fits = at .ready .other-fits;
-  };
-}
+    pub shared-told : {b : Bool} → b ≡ sharesKey (recordsAt ps first) (recordsAt ps second) → b ≡ sharesKey (target-looks .chain .entries) (partner-looks .chain .entries)
+    shared-told e = e ∙ ap₂ sharesKey firsts seconds
+
+    same-joined : joined (recordsAt ps first) (recordsAt ps second) ≡ joined xs ys
+    same-joined = ap₂ joined firsts seconds
+
+    -- Of each chain no more than its pages can hold.
+    pub records-few : t .count + u .count ≤ 2 * (mostRecords * 753)
+    records-few =
+        omega (
+          arith,
+          target-looks .count,
+          ap length firsts,
+          length-recordsAt ps first first-sits,
+          partner-looks .count,
+          ap length seconds,
+          length-recordsAt ps second second-sits,
+        )
+
+    pub many-joined : t .count + u .count ≡ length (joined (target-looks .chain .entries) (partner-looks .chain .entries))
+    many-joined = omega (arith, target-looks .count, partner-looks .count, length-joined xs ys)
+
+    pub many-records : t .count + u .count ≡ length (joined (recordsAt ps first) (recordsAt ps second))
+    many-records = many-joined ∙ ap length (sym same-joined)
+
+    pub page-filled : {level : ℕ} {w : List ℕ} → level ≡ target-looks .chain .level → t .count + u .count ≤ r .capacity
+        → w ≡ filledPage level (joined (recordsAt ps first) (recordsAt ps second)) 0
+        → w ≡ primaryOf (r .capacity) (target-looks .chain .level) (joined (target-looks .chain .entries) (partner-looks .chain .entries)) []
+    unfolding primaryOf linkToFirst
+    page-filled el fits e = e ∙ rw (el, same-joined, take-all (r .capacity) (joined xs ys) (omega (arith, many-joined))) refl

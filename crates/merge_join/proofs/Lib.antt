@@ -1,2 +1,3 @@
--- Laws that the proofs of this crate and of those above it share.
-pub mod Pairs
+-- Laws that the proofs of this crate share.
+pub mod Seeking
+pub mod Taking

@@ -1,34 +1,28 @@
--- Both chains of a merge gathered and joined: what that needs of the pages and of the buffers, and what it leaves.
--- Main definitions: CanJoin; gatheredBoth and entriesInBoth (what was joined in a buffer).
-use mathlib.Core.List.{List}
-use Prim.Native.Nat.{ℕ, _+_, _^_, _≤_, _<_}
-use lib.ListN.{length}
-use Rattle.model.specs.declared.Root.{Root}
-use Rattle.model.specs.declared.Party.{Party}
-use Rattle.model.specs.Chains.{Checked, damaged, sound, andThen}
-use Rattle.model.specs.declared.Entry.{Entry}
-use Rattle.model.specs.Steps.MergeBuild.{Pair, joinedEntries}
-use Rattle.chain_keys.specs.declared.Front.{Front}
-use Rattle.chain_keys.specs.declared.Gathered.{Gathered}
-use Rattle.chain_keys.specs.declared.Gathered.the-variants as Gathered
-use Rattle.chain_keys.specs.Gathering.{CanGather}
+-- Two chains of a merge, read where they stand.
+-- Main definitions: CanJoin (both can be read, and ascend); goesFirst and Takes (the next record of both).
+use mathlib.Core.Path.{_≡_}
+use mathlib.Core.Bool.{Bool, true, false, cond}
+use mathlib.Core.List.{List, _∷_}
+use Prim.Native.Nat.{ℕ}
+use lib.ListN.{getD}
+use lib.Dec.{ltb, eqb}
+use Rattle.model.specs.Entries.{ascending, joined}
+use Rattle.key_source.specs.declared.Place.{Place}
+use Rattle.key_source.specs.Sources.{recordsAt, Sits}
+use Rattle.merge_join.specs.declared.Taken.{Taken}
 
--- The overflow pages of target and partner were walked, n and m of them, and the buffers have room for the records of each and of both.
-pub record CanJoin (r : Root) (p : Party) (n m : ℕ) (ps a b out : List ℕ) : Type 0 where
-  pub target : CanGather r ps (p .chain) n (length a)
-  pub partner : CanGather r ps (p .other) m (length b)
-  pub out-room : length a + length b ≤ length out
-  pub few : length out < 2 ^ 32
+-- The records from both places on can be read, and ascend.
+pub record CanJoin (ps : List ℕ) (p q : Place) : Type 0 where
+  pub first-sits : Sits ps p
+  pub second-sits : Sits ps q
+  pub first-ascends : ascending (recordsAt ps p) ≡ true
+  pub second-ascends : ascending (recordsAt ps q) ≡ true
 
--- What is said of two chains whose joined records stand at the front of a buffer.
-abbrev pub frontOfBoth : Pair → Front
-frontOfBoth m = record { level = m .target .level; link = m .target .link; count = length (joinedEntries m) }
+-- Of two places past all pages without a record left, whether the next record is that of p: q has none, or a larger key.
+unfoldable pub goesFirst : List ℕ → Place → Place → Bool
+goesFirst ps p q = cond (eqb (q .left) 0) true (cond (eqb (p .left) 0) false (ltb (getD ps (p .at) 0) (getD ps (q .at) 0)))
 
--- What gathering both chains answers.
-abbrev pub gatheredBoth : Checked Pair → Gathered
-gatheredBoth damaged = Gathered.Damaged
-gatheredBoth (sound m) = Gathered.Sound (frontOfBoth m)
-
--- The joined records of two chains that were looked through whole.
-abbrev pub entriesInBoth : Checked Pair → Checked (List Entry)
-entriesInBoth x = andThen x (λ m. sound (joinedEntries m))
+-- The first record of both joined is taken off, and the others are those from the two places on.
+pub record Takes (ps : List ℕ) (p q : Place) (t : Taken) : Type 0 where
+  pub can-join : CanJoin ps (t .first) (t .second)
+  pub records : joined (recordsAt ps p) (recordsAt ps q) ≡ t .entry ∷ joined (recordsAt ps (t .first)) (recordsAt ps (t .second))

@@ -7,3 +7,4 @@ pub mod Gate
 pub mod Calls
 pub mod AllSteps
 pub mod Meanings
+pub mod Merges

@@ -1,9 +1,11 @@
 -- Pages filled with a chain's records (document 01: "the first b in its primary page, the next b in its first overflow page, and so on").
--- Main definitions: overflowNeeded; primaryOf (a chain's primary page); overflowWritten (its overflow pages); PairIs (where a record stands on a page).
+-- Main definitions: overflowNeeded, fitsPrimary; primaryOf (a chain's primary page); overflowWritten (its overflow pages); PairIs (where a record stands on a page).
 use mathlib.Core.Path.{_≡_}
+use mathlib.Core.Bool.{Bool}
 use mathlib.Core.List.{List, [], _∷_}
 use Prim.Native.Nat.{ℕ, _+_, _-_, _*_, _/_}
 use lib.ListN.{length, getD, take, drop}
+use lib.Dec.{leb}
 use Rattle.model.specs.declared.Entry.{Entry}
 use Rattle.model.specs.Sizes.{recordWords}
 use Rattle.model.specs.Entries.{keyOf, settingOf, entryOf}
@@ -16,6 +18,10 @@ overflowNeeded b m = (m + (b - 1)) / b - 1
 -- The overflow pages that a list of records needs.
 unfoldable pub pagesFor : ℕ → List Entry → ℕ
 pagesFor b es = overflowNeeded b (length es)
+
+-- Whether the records "fit the primary page": at most b of them.
+unfoldable pub fitsPrimary : ℕ → List Entry → Bool
+fitsPrimary b es = leb (length es) b
 
 -- The primary page of a chain with these records and the overflow pages xs.
 unfoldable pub primaryOf : ℕ → ℕ → List Entry → List ℕ → List ℕ

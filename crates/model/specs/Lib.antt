@@ -30,3 +30,4 @@ pub mod Effects
 pub mod Holds
 pub mod Consistency
 pub mod PagePlaces
+pub mod Merges

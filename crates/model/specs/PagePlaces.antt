@@ -41,12 +41,13 @@ handIf t m l = cond t (pagesListed (listFrom (m .root) (m .pages) l)) []
 abbrev pub otherLinkOf : Memory → ℕ → ℕ
 otherLinkOf m q = linkOf (pageOf (m .pages) (primaryPage (partyAt (m .parties) q .other)))
 
--- Old pages are yet to be given back from 12 to 14, 19 to 22 and at 29; a changed or joined chain, or a half, is built and not in the file yet at 11, 18, 27 and 28.
+-- Old pages are yet to be given back from 12 to 14, 19 to 22 and at 29; a changed chain, or a half, is built and not in the file yet at 11 and 18.
+-- A joined chain is one page, in scratch at 27 and 28, and has no overflow page.
 unfoldable pub owesOld : Party → Bool
 owesOld p = (eqb (p .step) 12 && isChange (p .answer)) || within 13 14 (p .step) || within 19 22 (p .step) || eqb (p .step) 29
 
 unfoldable pub hasBuilt : Party → Bool
-hasBuilt p = eqb (p .step) 11 || eqb (p .step) 18 || within 27 28 (p .step)
+hasBuilt p = eqb (p .step) 11 || eqb (p .step) 18
 
 -- What party q has in hand: old pages; built pages; the split's new half at 18, or the pages of the partner merged away at 29.
 unfoldable pub inHand : Memory → ℕ → List ℕ

@@ -1,5 +1,5 @@
 -- A party's scratch page (document 01: "then one scratch page a party"): read, written, filled with a chain built beside the file, and written over a primary page.
--- Main definitions: scratchOf, withScratch; builtBeside (steps 10 and 26); primaryWritten (steps 11 and 18).
+-- Main definitions: scratchOf, withScratch; builtBeside (step 10); primaryWritten (steps 11 and 18).
 use mathlib.Core.List.{List}
 use Prim.Native.Nat.{ℕ}
 use Rattle.model.specs.declared.Root.{Root}

@@ -30,7 +30,7 @@ use Rattle.free_list.proofs.Linked.{taken-drawn}
 use Rattle.chain_writer.proofs.Drawing.{drawn-fills}
 use Rattle.split_build.specs.declared.Division.{Division}
 use Rattle.split_build.specs.Dividing.{recordsOf, both, halved, stayingFrom, goingFrom, Divides, CanDivide, firstNeed, bothNeed, CanWriteHalves}
-use Rattle.split_build.proofs.Looking.{Looks, chain-looked}
+use Rattle.key_source.proofs.Looking.{Looks, chain-looked}
 
 -- ---- How many
 
@@ -100,6 +100,7 @@ module _ (r : Root) (p : List ℕ) (q : ℕ) (ls ps : List ℕ) (hand : AtHand r
         chain-looked r ps here l (ready .keys-fit) (ready .overflow-fits) (record { chain-fits = ready .chain-fits; pages-fit = omega (arith, ready .pages-fit) }) looked
 
     pub can-divide : CanDivide r ps here l
+    unfolding recordsOf
     can-divide =
         let ready = hand .ready in
         record {
@@ -116,6 +117,7 @@ module _ (r : Root) (p : List ℕ) (q : ℕ) (ls ps : List ℕ) (hand : AtHand r
 
     module _ (d : Division) (divides : Divides ps (halved r here (recordsOf ps here (l .pages))) d) where
       same : halved r here (recordsOf ps here (l .pages)) ≡ halves
+      unfolding recordsOf
       same = ap (halved r here) (looks .records)
 
       stay-is : d .staying ≡ length (halves .stay)

@@ -1,5 +1,4 @@
 -- Laws that the proofs of this crate share.
-pub mod Looking
 pub mod Halving
 pub mod HalvesWritten
 pub mod Cases

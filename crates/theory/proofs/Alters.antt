@@ -45,7 +45,7 @@ use Rattle.model.specs.Steps.OldPages.{oldGivenBack, step13, step14}
 use Rattle.model.specs.Steps.SplitBuild.{Halves, halvesNeed, divided, divideWith, step17}
 use Rattle.model.specs.Steps.SplitLocks.{splitting, step15, step16, step19, step22}
 use Rattle.model.specs.Steps.SplitWrite.{step18, step20, step21}
-use Rattle.model.specs.Steps.MergeBuild.{Pair, pairOf, joinedEntries, mergeGoes, combined, combineWith, step26}
+use Rattle.model.specs.Steps.MergeBuild.{Pair, pairOf, mergeGoes, combined, combineWith, step26}
 use Rattle.model.specs.Steps.MergeLocks.{mergeStops, merging, step23, step24, step25, step30}
 use Rattle.model.specs.Steps.MergeWrite.{mergedAway, partnerCleared, step27, step28, step29}
 use Rattle.model.specs.Steps.Dispatch.{noStep, stepTable, stepOf, wants}
@@ -318,10 +318,7 @@ effects-25 v = request-does v 25 _ _ (omega arith)
 
 combine-does : (v : View) (m : Pair) → Effect v 26 (combineWith v m)
 unfolding combineWith combined
-combine-does v m =
-    let es = joinedEntries m in
-    either-does v 26 (mergeGoes (v .root) es) (checked-does v 26 (pagesTaken (v .root) (v .pages) (pagesFor (v .root .capacity) es)) (λ t. moved-goes v 26 _ refl (omega arith)))
-    (ended-does v 25 _ _)
+combine-does v m = either-does v 26 (mergeGoes (v .root) m) (moved-goes v 26 _ refl (omega arith)) (ended-does v 25 _ _)
 
 effects-26 : Effects 26 step26
 unfolding step26

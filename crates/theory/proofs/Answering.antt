@@ -34,7 +34,7 @@ use Rattle.model.specs.Steps.OldPages.{oldGivenBack, step13, step14}
 use Rattle.model.specs.Steps.SplitBuild.{Halves, halvesNeed, divided, divideWith, step17}
 use Rattle.model.specs.Steps.SplitLocks.{step15, step16, step19, step22}
 use Rattle.model.specs.Steps.SplitWrite.{step18, step20, step21}
-use Rattle.model.specs.Steps.MergeBuild.{Pair, pairOf, joinedEntries, mergeGoes, combined, combineWith, step26}
+use Rattle.model.specs.Steps.MergeBuild.{Pair, pairOf, mergeGoes, combined, combineWith, step26}
 use Rattle.model.specs.Steps.MergeLocks.{mergeStops, step23, step24, step25, step30}
 use Rattle.model.specs.Steps.MergeWrite.{mergedAway, partnerCleared, step27, step28, step29}
 use Rattle.model.specs.Steps.Dispatch.{noStep, stepTable, stepOf, Want, wantsNone, wantsRoot, wantsChain, wantsChainExclusive, wantsNext, wantsTarget, wantsOther, wantTable, wants}
@@ -154,9 +154,7 @@ module _ (v : View) where
 
   combine-fair : (m : Pair) → Fair v none (combineWith v m)
   unfolding combineWith combined
-  combine-fair m =
-      let es = joinedEntries m in
-      either-fair (mergeGoes (v .root) es) (checked-fair (pagesTaken (v .root) (v .pages) (pagesFor (v .root .capacity) es)) (λ t. moved-fair _)) (ended-fair _ _)
+  combine-fair m = either-fair (mergeGoes (v .root) m) (moved-fair _) (ended-fair _ _)
 
   given-fair : (xs : List ℕ) → Fair v none (oldGivenBack v xs)
   unfolding oldGivenBack

@@ -1,21 +1,20 @@
 -- The clock of the link rule beside a memory: when links were read and pages given back, and what a call does to both.
 -- Main statements: ClockOk (every link that a party has yet to follow was read after its page was last given back);
--- fresh-now, fresh-append, fresh-walked (links followed); Spared, clock-moves, clock-ticks (the clock after a call).
+-- fresh-now, fresh-walked (links followed); Spared, clock-moves, clock-ticks (the clock after a call).
 use mathlib.Core.Path.{_≡_, refl, sym, ap, _∙_, subst}
 use mathlib.Core.Logic.{_≢_}
 use mathlib.Core.Bool.{true, false}
-use mathlib.Core.List.{List, [], _∷_, _++_}
+use mathlib.Core.List.{List, [], _∷_}
 use Prim.Native.Nat.{ℕ, _+_, _≤_, _<_}
 use native.Mathlib.Omega.{arith}
-use lib.Dec.{ltb}
 use Rattle.model.specs.declared.Party.{Party}
 use Rattle.model.specs.Pages.{linkOf, linkToFirst, linkedPage}
 use Rattle.model.specs.FreeList.{isAmong}
 use Rattle.model.specs.ScratchPages.{scratchOf}
 use Rattle.model.specs.Memory.{Memory, partyAt, viewOf}
 use Rattle.model.specs.Book.{changedAt}
-use Rattle.theory.specs.Links.{Follow, Trace, noTrace, readNow, walkedFrom, Clock, ticked, allFresh}
-use Rattle.model.proofs.Laws.Lists.{Cmp, same, diff, cmp, cond-ind, and-both, both-and, lt-ltb, eqb-same, eqb-diff}
+use Rattle.theory.specs.Links.{Trace, noTrace, readNow, walkedFrom, Clock, ticked, allFresh}
+use Rattle.model.proofs.Laws.Lists.{Cmp, same, diff, cmp, cond-ind, both-and, lt-ltb, eqb-same, eqb-diff}
 use Rattle.theory.proofs.OpenLinks.{scratchOpen, oldOpen}
 
 -- ---- The clock beside a memory
@@ -36,13 +35,6 @@ module _ (k : Clock) where
   unfolding allFresh
   fresh-now t [] h = refl
   fresh-now t (x ∷ xs) h = both-and (lt-ltb (k .givenAt x) t (h x)) (fresh-now t xs h)
-
-  pub fresh-append : (fs gs : List Follow) → allFresh k fs ≡ true → allFresh k gs ≡ true → allFresh k (fs ++ gs) ≡ true
-  unfolding allFresh
-  fresh-append [] gs a b = b
-  fresh-append (f ∷ fs) gs a b =
-      let t = and-both (ltb (k .givenAt (f .page)) (f .readAt)) (allFresh k fs) a in
-      both-and (t .0) (fresh-append fs gs (t .1) b)
 
   -- A list walked by a link read earlier.
   pub fresh-walked : (s t l : ℕ) (xs : List ℕ) → l ≡ linkToFirst xs → (l ≢ 0 → k .givenAt (linkedPage l) < s) → ((x : ℕ) → k .givenAt x < t) → allFresh k (walkedFrom s t xs) ≡ true

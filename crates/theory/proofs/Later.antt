@@ -16,7 +16,6 @@ use Rattle.model.specs.LockWords.{Claim}
 use Rattle.model.specs.Addresses.{splitBarred, countOfChains}
 use Rattle.model.specs.Pages.{levelOf, pageSound, namesOverflow}
 use Rattle.model.specs.Chains.{Checked, damaged, sound, Chain, chainOf, listFrom}
-use Rattle.model.specs.Filling.{pagesFor}
 use Rattle.model.specs.FreeList.{tooFew, pagesTaken, roomToGiveBack, pagesGivenBack}
 use Rattle.model.specs.Outcome.{View, Outcome, withParty, refuse, damage, moved, guarded, checked}
 use Rattle.model.specs.ScratchPages.{scratchOf, primaryWritten}
@@ -27,7 +26,7 @@ use Rattle.model.specs.Steps.OldPages.{oldGivenBack, step13, step14}
 use Rattle.model.specs.Steps.SplitBuild.{Halves, halvesNeed, divided, divideWith, step17}
 use Rattle.model.specs.Steps.SplitLocks.{splitting, step15, step16, step19, step22}
 use Rattle.model.specs.Steps.SplitWrite.{step18, step20, step21}
-use Rattle.model.specs.Steps.MergeBuild.{Pair, pairOf, joinedEntries, mergeGoes, combined, combineWith, step26}
+use Rattle.model.specs.Steps.MergeBuild.{Pair, pairOf, mergeGoes, combined, combineWith, step26}
 use Rattle.model.specs.Steps.MergeLocks.{mergeStops, merging, step23, step24, step25, step30}
 use Rattle.model.specs.Steps.MergeWrite.{mergedAway, partnerCleared, step27, step28, step29}
 use Rattle.model.specs.Steps.Dispatch.{noStep, stepTable, stepOf}
@@ -191,10 +190,7 @@ later-25 h v = request-later v _ _ (omega arith) refl
 
 combine-later : (v : View) (m : Pair) → Later v (combineWith v m)
 unfolding combineWith combined
-combine-later v m =
-    let es = joinedEntries m in
-    either-later v (mergeGoes (v .root) es) (checked-later v (pagesTaken (v .root) (v .pages) (pagesFor (v .root .capacity) es)) (λ t. moved-later v _ (omega arith) refl))
-    (ended-later v _ _)
+combine-later v m = either-later v (mergeGoes (v .root) m) (moved-later v _ (omega arith) refl) (ended-later v _ _)
 
 later-26 : LaterStep 26 step26
 unfolding step26

@@ -21,6 +21,7 @@ pub mod Restored
 pub mod BookFed
 pub mod Consistency
 pub mod Places
+pub mod FittingMerges
 pub mod StepReads
 pub mod PlainMaps
 pub mod Singly

@@ -22,7 +22,7 @@ use Rattle.model.specs.declared.Mode.the-variants.{Exclusive}
 use Rattle.model.specs.Records.{idle, begun}
 use Rattle.model.specs.Answers.{operationNumber, isMoved, performs, settingGiven}
 use Rattle.model.specs.LockWords.{chainWord}
-use Rattle.model.specs.Pages.{pageOf, linkOf, linkToFirst, primaryPage, scratchPage, linkedPage}
+use Rattle.model.specs.Pages.{pageOf, linkOf, linkToFirst, scratchPage, linkedPage}
 use Rattle.model.specs.Chains.{Checked, sound, listFrom, pagesListed}
 use Rattle.model.specs.FreeList.{isAmong}
 use Rattle.model.specs.Outcome.{View, Outcome}
@@ -34,12 +34,11 @@ use Rattle.model.specs.Withdraw.{isDecided, builtPages}
 use Rattle.model.specs.Effects.{Withdraws}
 use Rattle.model.specs.Runs.{Call, beginFor, stepFor, withdrawFor, callerOf, replyTo, afterCall}
 use Rattle.model.specs.Book.{Book, Entered, bookAfter, emptyBook}
-use Rattle.theory.specs.Links.{Trace, trace, noTrace, chainPages, traceLooked, readNow, walkedFrom, traceTen, traceNine, traceFourteen, traceTwentyNine, traceOf, Clock, clockStart, traceOfStep, traceAnswered, traceOfWithdraw, traceOfCall, ticked, clockAfter, allFresh, linksFresh}
+use Rattle.theory.specs.Links.{Trace, trace, noTrace, chainPages, traceLooked, walkedFrom, traceTen, traceNine, traceFourteen, traceTwentyNine, traceOf, Clock, clockStart, traceOfStep, traceAnswered, traceOfWithdraw, traceOfCall, ticked, clockAfter, allFresh, linksFresh}
 use Rattle.theory.specs.Demands.{Sizes, start}
 use Rattle.model.specs.Steps.Write.{isChange}
-use Rattle.model.specs.LockRequests.{chainExclusive, otherExclusive, rootSelective}
 use Rattle.model.specs.Steps.Dispatch.{stepTable, stepOf}
-use Rattle.model.proofs.Laws.Lists.{Told, holds, fails, tell, Cmp, same, diff, cmp, cond-ind, not-both, and-both, both-and, or-either, lt-ltb, eqb-true, eqb-diff, among-first, among-append, _▸_, all-in}
+use Rattle.model.proofs.Laws.Lists.{Told, holds, fails, tell, Cmp, same, diff, cmp, cond-ind, not-both, and-both, both-and, or-either, lt-ltb, eqb-true, eqb-diff, among-first, _▸_, all-in}
 use Rattle.model.proofs.Laws.Distinct.{Outside}
 use Rattle.model.proofs.Invariant.Ghost.{Owner, inChain, oldOf, partnerOf, builtBy}
 use Rattle.model.proofs.Invariant.Owners.{own-of-member}
@@ -49,7 +48,7 @@ use Rattle.model.proofs.Laws.Reading.{linked-list, held-length, held-overflow, 
 use Rattle.model.specs.Claims.{claims}
 use Rattle.model.proofs.Invariant.Claims.{isClaimed}
 use Rattle.model.proofs.Invariant.Statement.{Scene, Protected, in-chain, in-old, Written, unchanged, made-change, PartyOk, Inv, sceneOf}
-use Rattle.model.proofs.Invariant.Frame.{claims-at, named, later}
+use Rattle.model.proofs.Invariant.Frame.{claims-at, named}
 use Rattle.model.proofs.Effects.Kept.{row-same, row-other}
 use Rattle.model.proofs.Invariant.Facts.{facts-at}
 use Rattle.model.proofs.Effects.GivingBack.{no-reader}
@@ -60,7 +59,7 @@ use Rattle.model.proofs.Theorems.Calls.{StepsKept, call-kept}
 use Rattle.model.proofs.Invariant.Turn.{Turn}
 use Rattle.model.proofs.Steps.Withdraw.{undecided}
 use Rattle.theory.proofs.Withdraws.{withdraw-alters, WithdrawMet, stranger, unbegun, too-late, taken-back, withdraw-meets}
-use Rattle.theory.proofs.Clock.{ClockOk, fresh-now, fresh-append, fresh-walked, given-none, scratch-now, old-later, old-now, Spared, clock-moves, clock-ticks}
+use Rattle.theory.proofs.Clock.{ClockOk, fresh-now, fresh-walked, given-none, scratch-now, old-later, old-now, Spared, clock-moves, clock-ticks}
 use Rattle.theory.proofs.OpenLinks.{openSteps, scratchOpen, oldOpen, open-at, OldLink, closed, read-now, kept-old, Marks}
 use Rattle.theory.proofs.Traces.{Leaves, Traced, stays, goes, moves-by-link, step-traced}
 
@@ -143,6 +142,11 @@ module _ (m : Memory) (b : Book) (i : Inv m b) where
     at-twelve c e (unchanged a n o x) = absurd (not-both (isChange (p .answer)) c n)
     at-twelve c e (made-change l o) = inl (l .trash .link)
 
+    -- No old link, and no old pages.
+    none-left : p .old ≡ 0 → i .ghost .held (oldOf j) ≡ [] → p .old ≡ linkToFirst (i .ghost .held (oldOf j))
+    unfolding linkToFirst
+    none-left e n = e ∙ sym (ap linkToFirst n)
+
     old-is : oldOpen p ≡ true → OldIs
     unfolding oldOpen
     old-is h =
@@ -159,7 +163,7 @@ module _ (m : Memory) (b : Book) (i : Inv m b) where
         ▸ (λ e. inl (facts-at 21 before j p e ok .facts .trash .link))
         ▸ (λ e. inr (facts-at 26 before j p e ok .facts .0 .keeps-link))
         ▸ (λ e. inr (facts-at 27 before j p e ok .facts .0 .keeps-link))
-        ▸ (λ e. inl (facts-at 28 before j p e ok .facts .0 .trash .link))
+        ▸ (λ e. let x = facts-at 28 before j p e ok .facts .0 in inl (none-left (x .no-old-link) (x .settled .no-pages .nothing-old .no-old)))
         ▸ tt) (t .0) refl
       where
         ok : PartyOk before j p
@@ -262,26 +266,16 @@ module _ (m : Memory) (b : Book) (i : Inv m b) where
                 gives-old (inl (own-of-member (i .pages-ok .owned) (oldOf q) x h)) (f .busy .chain-fits) (rw (claims-at (m .root) me 14 e) (named [] (chainWord (me .chain)) Exclusive));
           })
 
+      -- Neither chain of a merge had an overflow page.
+      none-listed : listFrom (m .root) (m .pages) 0 ≡ sound []
+      unfolding linkToFirst
+      none-listed = linked-list (m .root) (m .pages) [] tt (omega arith)
+
       fair-twenty-nine : me .step ≡ 29 → Fair (traceTwentyNine (viewOf m q) (k .oldRead q) now)
-      unfolding traceTwentyNine pagesListed oldOpen isAmong
+      unfolding traceTwentyNine pagesListed walkedFrom
       fair-twenty-nine e =
-          let f = facts-at 28 before q me e (i .parties-ok q in-row) in
-          let x = f .facts .0 in
-          let olds = i .ghost .held (oldOf q) in
-          let partners = i .ghost .held (partnerOf q) in
-          rw (list-held (oldOf q) (me .old) (x .trash .link) (x .trash .linked), list-held (partnerOf q) (linkOf (pageOf (m .pages) (primaryPage (me .other)))) (x .partner-link) (x .partner-linked))
-          (record {
-            fresh = fresh-append k (walkedFrom (k .oldRead q) now olds) (readNow now partners) (walked-old (open-at me 29 e) (x .trash .link)) (fresh-now k now partners earlier);
-            given = λ y h.
-                gives-old (whose y (or-either (isAmong y olds) (isAmong y partners) (sym (among-append y olds partners) ∙ h))) (f .busy .chain-fits)
-                (rw (claims-at (m .root) me 29 e)
-                (later rootSelective (chainExclusive me ∷ (otherExclusive me ∷ [])) (chainWord (me .chain)) Exclusive (named (otherExclusive me ∷ []) (chainWord (me .chain)) Exclusive)));
-          })
-        where
-          whose : (y : ℕ) → (isAmong y (i .ghost .held (oldOf q)) ≡ true) ⊎ (isAmong y (i .ghost .held (partnerOf q)) ≡ true)
-              → (i .ghost .own y ≡ oldOf q) ⊎ (i .ghost .own y ≡ partnerOf q)
-          whose y (inl h) = inl (own-of-member (i .pages-ok .owned) (oldOf q) y h)
-          whose y (inr h) = inr (own-of-member (i .pages-ok .owned) (partnerOf q) y h)
+          let x = facts-at 28 before q me e (i .parties-ok q in-row) .facts .0 in
+          rw (x .no-old-link, x .partner-link, none-listed) fair-none
 
       -- By step number.
       trace-fair : (a : StepAnswer) (next : ℕ) → (me .step ≡ 9 → isMoved a ≡ true → linkOf (scratchOf (viewOf m q)) ≢ 0)

@@ -41,7 +41,7 @@ use Rattle.model.specs.Steps.SplitBuild.{Halves, halvesOf, halvesNeed, divided,
 use Rattle.model.specs.Steps.SplitLocks.{nextSelective, splitting, step15, step16, step19, step22}
 use Rattle.model.specs.Steps.SplitWrite.{step18, step20, step21}
 use Rattle.model.specs.Steps.MergeLocks.{mergeStops, targetExclusive, merging, mergeLocks, step23, step24, step25, step30}
-use Rattle.model.specs.Steps.MergeBuild.{Pair, pairOf, joinedEntries, mergeGoes, combined, combineWith, step26}
+use Rattle.model.specs.Steps.MergeBuild.{Pair, pairOf, mergeGoes, combined, combineWith, step26}
 use Rattle.model.specs.Steps.MergeWrite.{mergedAway, partnerCleared, step27, step28, step29}
 use Rattle.model.specs.Steps.Dispatch.{hasStep, noStep, stepTable, stepOf, wantsNone, wantTable}
 use Rattle.model.proofs.Laws.Lists.{cond-ind, _▸_, Numbered, numbered-at}
@@ -373,15 +373,14 @@ unfolding step25 wantTable givesUpMoving claims
 step25-trades v at has =
     request-trades v 25 at (otherExclusive (v .party)) (atStep 26 (v .party)) refl (trade-more (rootExclusive ∷ (chainExclusive (v .party) ∷ [])) (otherExclusive (v .party)))
 
-combined-trades : (v : View) (m : Pair) (t : Taken) → Trades v 26 (combined v m t)
+combined-trades : (v : View) (m : Pair) → Trades v 26 (combined v m)
 unfolding combined wantTable givesUpMoving requested claims
-combined-trades v m t = moved-trades v 26 _ refl refl (trade-none (mergeLocks rootExclusive (v .party)))
+combined-trades v m = moved-trades v 26 _ refl refl (trade-none (mergeLocks rootExclusive (v .party)))
 
 combine-trades : (v : View) → v .party .step ≡ 26 → (m : Pair) → Trades v 26 (combineWith v m)
 unfolding combineWith givesUpDone
 combine-trades v at m =
-    cond-ind (Trades v 26) (mergeGoes (v .root) (joinedEntries m)) _ _
-    (λ _. checked-trades v 26 at (pagesTaken (v .root) (v .pages) (pagesFor (v .root .capacity) (joinedEntries m))) _ (combined-trades v m))
+    cond-ind (Trades v 26) (mergeGoes (v .root) m) _ _ (λ _. combined-trades v m)
     (λ _. ended-trades v 26 at (mergeLocks rootExclusive (v .party)) Restructuring.MergeSkipped refl)
 
 step26-trades : TradeStep 26 step26

@@ -33,7 +33,7 @@ use Rattle.model.proofs.Laws.Reading.{held-overflow, held-length, linked-list}
 use Rattle.model.proofs.Laws.FreeList.{taken-front}
 use Rattle.model.proofs.Invariant.Ghost.{Owner, owner, Named, nobody, free, inChain, oldOf, partnerOf, builtBy, newBy, sameOwner, owns, size, Ghost}
 use Rattle.model.proofs.Invariant.Owners.{owner-diff, kinds-apart, indices-apart, owns-self, owns-diff, owns-nothing, no-repeats}
-use Rattle.model.proofs.Invariant.Statement.{Scene, NothingOld, NoPages, Building, Trash, Leaving, Written, unchanged, made-change, Divided, Joined, Emptying, Facts, factsNone, factTable, PartyOk, resting, working, sceneOf, Inv}
+use Rattle.model.proofs.Invariant.Statement.{Scene, NothingOld, NoPages, Building, Trash, Leaving, Written, unchanged, made-change, Divided, Emptying, Facts, factsNone, factTable, PartyOk, resting, working, sceneOf, Inv}
 use Rattle.model.proofs.Effects.BuiltChain.{chain-found}
 use Rattle.model.proofs.Steps.Write.GiveUp.{made-is-change}
 use Rattle.theory.proofs.Reached.{reached-inv}
@@ -111,7 +111,7 @@ module _ (m : Memory) (b : Book) (i : Inv m b) where
 
     -- Which are in its hand at step number n.
     abbrev HandAt : ℕ → Type 0
-    HandAt n = Hand ((eqb n 12 && isChange (p .answer)) || within 13 14 n || within 19 22 n || eqb n 29) (eqb n 11 || eqb n 18 || within 27 28 n) (eqb n 18 || eqb n 29)
+    HandAt n = Hand ((eqb n 12 && isChange (p .answer)) || within 13 14 n || within 19 22 n || eqb n 29) (eqb n 11 || eqb n 18) (eqb n 18 || eqb n 29)
 
     -- A list that is not in its hand: the owner has no pages. One that is: the walk lists the owner's pages.
     not-listed : (o : Owner) (l : ℕ) → g .held o ≡ [] → handIf false m l ≡ g .held o
@@ -135,7 +135,7 @@ module _ (m : Memory) (b : Book) (i : Inv m b) where
     listed-old : Trash s q p → handIf true m (p .old) ≡ g .held (oldOf q)
     listed-old h = listed (oldOf q) (p .old) (h .link) (h .linked)
 
-    -- At rest, at 1 to 10, 15 to 17, 23 to 26 and 30: no pages.
+    -- At rest, at 1 to 10, 15 to 17, 23 to 28 and 30: no pages.
     hand-empty : NoPages s q → Hand false false false
     hand-empty h = record {
       old-is = not-listed (oldOf q) (p .old) (h .nothing-old .no-old);
@@ -156,16 +156,13 @@ module _ (m : Memory) (b : Book) (i : Inv m b) where
     hand-written e (unchanged _ none _ h) = rw none (hand-empty h)
     hand-written e (made-change h _) = rw (made-is-change p (h .made)) (hand-leaving e h)
 
-    -- 11, 27 and 28: a chain built.
+    -- 11: a chain built.
     hand-built : (level : ℕ) (es : List Entry) → Building s q level es → g .held (newBy q) ≡ [] → NothingOld s q → Hand false true false
     hand-built level es h no-new n = record {
       old-is = not-listed (oldOf q) (p .old) (n .no-old);
       built-is = listed-built level es h;
       other-is = nothing-other (n .no-partner) no-new;
     }
-
-    hand-joined : (e : Entered) → Joined s q p e → Hand false true false
-    hand-joined e h = hand-built _ _ (h .joins) (h .no-new) (h .nothing-old)
 
     -- 18: both halves built.
     hand-divided : (e : Entered) → Divided s q p e → Hand false true true
@@ -180,13 +177,19 @@ module _ (m : Memory) (b : Book) (i : Inv m b) where
             listed (newBy q) (otherLinkOf m q) (chain-link (m .root .capacity) (m .pages) (p .other) _ _ (g .held (newBy q)) (h .go))
             (overflow-linked (m .root) (m .pages) (g .held (newBy q)) _ (held-overflow (m .root) (i .pages-ok .owned) (newBy q)) (h .go .overflow))
 
-    -- 29: the old pages of both chains.
+    -- 29: the old pages of both chains, none.
+    none-listed : handIf true m 0 ≡ []
+    unfolding handIf pagesListed linkToFirst
+    none-listed = ap pagesListed (linked-list (m .root) (m .pages) [] tt (omega arith))
+
     hand-emptying : (e : Entered) → Emptying s q p e → Hand true false true
-    hand-emptying e h = record {
-      old-is = listed-old (h .trash);
-      built-is = not-listed (builtBy q) (scratchLink m q) (h .nothing-built .no-built);
-      other-is = λ x. rw (h .nothing-built .no-new, listed (partnerOf q) (otherLinkOf m q) (h .partner-link) (h .partner-linked)) (omega (arith, count-nil x));
-    }
+    hand-emptying e h =
+        let none = h .settled .no-pages in
+        record {
+          old-is = ap (handIf true m) (h .no-old-link) ∙ none-listed ∙ sym (none .nothing-old .no-old);
+          built-is = not-listed (builtBy q) (scratchLink m q) (none .nothing-built .no-built);
+          other-is = λ x. rw (ap (handIf true m) (h .partner-link) ∙ none-listed, none .nothing-old .no-partner, none .nothing-built .no-new) (omega (arith, count-nil x));
+        }
 
     -- The facts of a table, the first for step number n.
     abbrev AllHands : ℕ → List Facts → Type 0
@@ -207,7 +210,7 @@ module _ (m : Memory) (b : Book) (i : Inv m b) where
         ▸ (λ e h. hand-empty (h .no-pages)) ▸ (λ e h. hand-empty (h .no-pages)) ▸ (λ e h. hand-empty (h .settled .no-pages)) ▸ hand-divided
         ▸ hand-leaving ▸ hand-leaving ▸ hand-leaving ▸ hand-leaving ▸ (λ e h. hand-empty (h .no-pages)) ▸ (λ e h. hand-empty (h .no-pages))
         ▸ (λ e h. hand-empty (h .settled .no-pages)) ▸ (λ e h. hand-empty (h .settled .no-pages))
-        ▸ (λ e h. hand-joined e (h .0)) ▸ (λ e h. hand-joined e (h .0)) ▸ (λ e h. hand-emptying e (h .0)) ▸ (λ e h. hand-empty (h .0 .no-pages)) ▸ tt
+        ▸ (λ e h. hand-empty (h .0 .no-pages)) ▸ (λ e h. hand-empty (h .0 .no-pages)) ▸ (λ e h. hand-emptying e (h .0)) ▸ (λ e h. hand-empty (h .0 .no-pages)) ▸ tt
 
     -- A party at rest or under way.
     party-hand : PartyOk s q p → HandAt (p .step)

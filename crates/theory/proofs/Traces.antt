@@ -452,19 +452,17 @@ unfolding step25 oldOpen isAmong
 traced-25 v ready e = request-traced 25 v _ _ (passes 25 v _ _ refl refl)
 
 combine-traced : (v : View) → Ready v → (m : Pair) → Traced 26 v (combineWith v m)
-unfolding combineWith combined rootAfterTaking traceOf isMoved
+unfolding combineWith combined traceOf isMoved
 combine-traced v ready m =
-    let es = joinedEntries m in
-    let k = pagesFor (v .root .capacity) es in
-    cond-ind (Traced 26 v) (mergeGoes (v .root) es) _ _
-    (λ _. checked-traced 26 v (λ (t : Taken). All (IsOverflow (v .root)) (t .pages)) (pagesTaken (v .root) (v .pages) k) (λ t. combined v m t) (taken-overflow (v .root) (v .pages) k)
-    (λ t over. moved-traced 26 v _
+    cond-ind (Traced 26 v) (mergeGoes (v .root) m) _ _
+    (λ _. moved-traced 26 v _
     (record {
       number= = refl;
-      sizes = free-limits (v .root) _ _;
-      spares = built-spares v ready (m .target .level) es (t .pages) over;
+      sizes = same-limits (v .root);
+      spares = spares-written v ready (v .pages) (spares-all v) (scratchPage (v .root) (v .number)) (primaryOf (v .root .capacity) (m .target .level) (joinedEntries m) [])
+          (scratch-writable v ready (scratchPage (v .root) (v .number)) refl) (length-primaryOf (v .root .capacity) (m .target .level) (joinedEntries m) [] (ready .keys-fit));
     })
-    (reads-old 26 v _ _ refl (λ x s o. record { reads = refl; keeps-all = refl }))))
+    (reads-old 26 v _ _ refl (λ x s o. record { reads = refl; keeps-all = refl })))
     (λ _. ended-traced 26 v ready _ _)
 
 traced-26 : TracedAt 26 step26

@@ -5,6 +5,7 @@ pub mod NoPage
 pub mod Sequential
 pub mod Singly
 pub mod Reads
+pub mod FittingMerges
 pub mod Demands
 pub mod Linearization
 pub mod Settings

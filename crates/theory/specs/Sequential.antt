@@ -4,7 +4,7 @@
 -- Main definitions: File, freeIn; Finished, findIn, insertIn, deleteIn; splitFile, mergeFile; performedOn (one operation); mapIn (the map that a file holds), startFile (the file that format
 -- leaves), fileOf (the file that a memory holds), ChainsRead.
 use mathlib.Core.Path.{_≡_}
-use mathlib.Core.Bool.{Bool, cond, _||_}
+use mathlib.Core.Bool.{Bool, cond, not, _||_}
 use mathlib.Core.List.{List, [], _∷_, _++_}
 use Prim.Native.Nat.{ℕ, zero, suc, _+_, _-_, _<_}
 use lib.ListN.{getD, set, take, replicate}
@@ -21,7 +21,7 @@ use Rattle.model.specs.Answers.{foundOrAbsent}
 use Rattle.model.specs.declared.Entry.{Entry}
 use Rattle.model.specs.Entries.{entryOf, hasKey, settingIn, insertedInto, removedFrom, joined, staying, going}
 use Rattle.model.specs.Chains.{Checked, damaged, sound, Chain, chainOf}
-use Rattle.model.specs.Filling.{pagesFor}
+use Rattle.model.specs.Filling.{pagesFor, fitsPrimary}
 use Rattle.model.specs.Steps.Rebuild.{splitOwed, mergeOwed}
 use Rattle.model.specs.Memory.{Memory}
 use Rattle.model.specs.GivenSizes.{sizedRoot}
@@ -91,11 +91,12 @@ rejoined r f target es = record {
   chains = take (mergePartner (r .originals) (f .level) (f .next)) (set (f .chains) target es);
 }
 
+-- "A merge now goes ahead only if the joined records fit the primary page" (document 02, change 4).
 unfoldable pub mergeFile : Root → File → OperationAnswer → Finished
 mergeFile r f a =
     let target = mergeTarget (r .originals) (f .level) (f .next) in
     let es = joined (recordsAt f target) (recordsAt f (mergePartner (r .originals) (f .level) (f .next))) in
-    cond (mergeBarred (chainsIn r f) (r .originals) || shortOf r f (pagesFor (r .capacity) es))
+    cond (mergeBarred (chainsIn r f) (r .originals) || not (fitsPrimary (r .capacity) es))
     (finishes a Restructuring.MergeSkipped f)
     (finishes a Restructuring.Merged (rejoined r f target es))
 

@@ -37,7 +37,7 @@ pub(crate) fn overflow_needed(records: usize, page_records: u32) -> u32 {
 
 /// A page of some records, at most b; unused words are zero.
 #[inline]
-fn page_of(records: &[Record], local_level: u32, link: u32) -> Page {
+pub(crate) fn page_of(records: &[Record], local_level: u32, link: u32) -> Page {
     let mut page = EMPTY_PAGE;
     page[LOCAL_LEVEL] = local_level;
     page[RECORD_COUNT] = records.len() as u32;

@@ -128,8 +128,8 @@ impl HashFile {
         Restructuring::Split
     }
 
-    /// Joins the last chain to its target; skipped at N chains, or where the joined chain needs more
-    /// pages than are free.
+    /// Joins the last chain to its target; skipped at N chains, or where the joined records do not
+    /// fit a page.
     fn merge(&mut self) -> Restructuring {
         let target = match self.space.merge_target() {
             Some(target) => target,
@@ -139,7 +139,7 @@ impl HashFile {
         let pair = [&self.chains[target as usize][..], &self.chains[partner]];
         let mut joined = pair.concat();
         joined.sort_unstable_by_key(|record| record.key);
-        if self.pages_for(&joined) > self.free_pages() {
+        if joined.len() > self.sizes.records_a_page as usize {
             return Restructuring::MergeSkipped;
         }
         self.chains.pop();

@@ -71,9 +71,9 @@ fn p6_and_p7_by_operations() {
     }
     assert_eq!(file.space(), space(2, 1, 0));
     assert_eq!(file.chains(), [0, 1, 2, 3].map(|m| vec![record(m)]));
-    assert_eq!(file.delete(key(2)).restructuring, Restructuring::Merged);
+    assert_eq!(file.delete(key(1)).restructuring, Restructuring::Merged);
     assert_eq!(file.space(), space(2, 0, 1));
-    let joined = [vec![record(0)], vec![record(1), record(3)], vec![]];
+    let joined = [vec![record(0)], vec![record(3)], vec![record(2)]];
     assert_eq!(file.chains(), joined);
 }
 

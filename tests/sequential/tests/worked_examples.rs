@@ -165,12 +165,15 @@ fn a_change_is_refused_for_want_of_pages() {
 /// The chain emptied need not be one of the two that are joined.
 #[test]
 fn an_emptied_chain_merges_the_last_chain() {
-    let mut file = formatted([2, 1, 3, 2]);
-    fill(&mut file, &[0]);
-    run(&mut file, &[(insert(2), "inserted split")]);
+    let mut file = formatted([2, 2, 3, 2]);
+    fill(&mut file, &[0, 2]);
+    run(&mut file, &[(insert(4), "inserted split")]);
     fill(&mut file, &[1]);
-    run(&mut file, &[(delete(1), "deleted merged")]);
-    expect(&file, (0, 0), 1, &[&[0, 2], &[]]);
+    run(
+        &mut file,
+        &[(delete(4), "deleted none"), (delete(1), "deleted merged")],
+    );
+    expect(&file, (0, 0), 2, &[&[0, 2], &[]]);
     run(
         &mut file,
         &[
@@ -181,9 +184,27 @@ fn an_emptied_chain_merges_the_last_chain() {
     expect(&file, (0, 0), 2, &[&[], &[]]);
 }
 
+/// Pages are free, and the joined records would need one.
 #[test]
-fn a_merge_is_skipped_for_want_of_pages() {
-    let mut file = formatted([2, 1, 3, 2]);
+fn a_merge_is_skipped_where_the_records_do_not_fit() {
+    let mut file = formatted([2, 2, 3, 2]);
+    fill(&mut file, &[0, 2]);
+    run(&mut file, &[(insert(4), "inserted split")]);
+    fill(&mut file, &[1]);
+    run(&mut file, &[(delete(1), "deleted merge-skipped")]);
+    expect(&file, (0, 1), 2, &[&[0, 4], &[], &[2]]);
+    fill(&mut file, &[1]);
+    run(
+        &mut file,
+        &[(delete(0), "deleted none"), (delete(1), "deleted merged")],
+    );
+    expect(&file, (0, 0), 2, &[&[2, 4], &[]]);
+}
+
+/// The last free page is in a chain that the merge does not touch.
+#[test]
+fn a_merge_needs_no_free_page() {
+    let mut file = formatted([2, 1, 3, 1]);
     fill(&mut file, &[0]);
     run(&mut file, &[(insert(2), "inserted split")]);
     fill(&mut file, &[1]);
@@ -191,16 +212,10 @@ fn a_merge_is_skipped_for_want_of_pages() {
         &mut file,
         &[
             (insert(3), "inserted split-skipped"),
-            (insert(4), "inserted split-skipped"),
-            (delete(2), "deleted merge-skipped"),
+            (delete(2), "deleted merged"),
         ],
     );
-    expect(&file, (0, 1), 0, &[&[0, 4], &[1, 3], &[]]);
-    run(
-        &mut file,
-        &[(delete(3), "deleted none"), (delete(1), "deleted merged")],
-    );
-    expect(&file, (0, 0), 1, &[&[0, 4], &[]]);
+    expect(&file, (0, 0), 0, &[&[0], &[1, 3]]);
 }
 
 /// A merge in the middle of a round moves next back by one and leaves level.
@@ -211,10 +226,10 @@ fn a_merge_moves_next_back() {
         file.perform(insert(m));
     }
     expect(&file, (1, 1), 4, &[&[0], &[1], &[2], &[3], &[4]]);
-    run(&mut file, &[(delete(3), "deleted merged")]);
-    expect(&file, (1, 0), 3, &[&[0, 4], &[1], &[2], &[]]);
+    run(&mut file, &[(delete(4), "deleted merged")]);
+    expect(&file, (1, 0), 4, &[&[0], &[1], &[2], &[3]]);
     run(&mut file, &[(delete(1), "deleted merged")]);
-    expect(&file, (0, 1), 3, &[&[0, 4], &[], &[2]]);
+    expect(&file, (0, 1), 4, &[&[0], &[3], &[2]]);
 }
 
 #[test]

@@ -36,8 +36,10 @@ step-25-requires c κs =
 
 step-26-requires : tie.Need-step-26-requires
 step-26-requires c κs =
-    let start = c .before .before .before .before .before .before .before .before .before .before .before .before in
-    (start .pre .0, start .pre .1)
+    let at-root-of = c .before .before .before .before in
+    let start = at-root-of .before .before .before .before .before .before .before in
+    let a = start .args in
+    at-hand-for (a .party .now) (a .q) (a .locks .now) (a .pages .now) (at-root-of .root-of .ensures) (start .pre .1)
 
 step-27-requires : tie.Need-step-27-requires
 step-27-requires c κs =
@@ -144,13 +146,16 @@ same-length-14 c = search needs
 returns-4 : tie.Need-returns-4
 unfolding stepTable stepOf
 returns-4 c =
-    let at-step-26 = c .before .before .before .before .before .before .before .before in
-    let at-match = at-step-26 .before .before .before .before .before in
-    let start = at-match .before .before .before .before .before .before .before .before in
+    let at-step-26 = c .before .before .before .before .before .before in
+    let at-match = at-step-26 .before .before .before .before in
+    let at-root-of = at-match .before in
+    let start = at-root-of .before .before .before .before .before .before .before in
     let a = start .args in
     let k = partyIn (a .party .now) .step in
     let v = seen (rootIn (a .root .now)) (a .party .now) (a .q) (a .locks .now) (a .pages .now) in
-    at-step-26 .step-26 .ensures ∙ named v k 26 (at-match .match .keys4)
+    let s = at-step-26 .step-26 in
+    let after : Root → _ = λ x. left (s .result) x (s .last .1 .0) (a .q) (s .last .1 .1 .1 .0) (s .last .1 .1 .1 .1 .0) in
+    subst (λ (x : Root). after x ≡ stepOf 26 (seen x (a .party .now) (a .q) (a .locks .now) (a .pages .now))) (at-root-of .root-of .ensures) (s .ensures) ∙ named v k 26 (at-match .match .keys4)
 
 same-length-15 : tie.Need-same-length-15
 same-length-15 c = search needs

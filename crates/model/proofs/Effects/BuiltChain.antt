@@ -1,5 +1,5 @@
 -- A live chain looked through whole, and one chain built beside the file in pages taken from the free list, its
--- primary page in scratch (steps 10 and 26).
+-- primary page in scratch (step 10).
 -- Main statements: chain-found; taken-one (the free list gives the pages); memory-long, built-off (the page memory
 -- then); building-then, kept-by, none-new (what the party then has), Onward and built-parts (the parts of the invariant
 -- after such a step).

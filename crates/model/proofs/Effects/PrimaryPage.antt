@@ -1,6 +1,6 @@
 -- A step that writes the primary page of a chain that the party holds selectively or exclusively: what else stays.
 -- Main statements: held-alone (nobody else holds the chain but to read it), held-exclusively (nobody else holds it); primary-off, primary-same, primary-long, owned-apart
--- (the pages afterwards); written-here, written-beside (the chains), chain-linked, old-linked (the pages that a chain leaves), free-beside; built-sound, built-level (scratch, where a chain is built);
+-- (the pages afterwards); written-here, written-beside (the chains), old-linked (the pages that a chain leaves), free-beside; built-sound, built-level (scratch, where a chain is built);
 -- read-beside (what a reader may walk).
 use mathlib.Core.Path.{_≡_, refl, sym, ap, _∙_, subst}
 use mathlib.Core.Logic.{_≢_}
@@ -106,14 +106,11 @@ module _ (m : Memory) (b : Book) (i : Inv m b) (c : ℕ) (fits : c < m .root .pr
       → ChainIs (m .root .capacity) (withPage (m .pages) (primaryPage c) w) d level es (i .ghost .held o)
   written-beside d level es o n f = chain-frame (m .root .capacity) (m .pages) then-pages d level es (i .ghost .held o) (primary-off d n) (primary-same o) f
 
-  -- The overflow pages of a live chain are linked as before, whoever has them then.
-  pub chain-linked : (d : ℕ) → d < size (m .root .originals) (i .ghost .live) → Linked (m .root) (withPage (m .pages) (primaryPage c) w) (i .ghost .held (inChain d))
-  chain-linked d live =
-      overflow-linked (m .root) then-pages (i .ghost .held (inChain d)) (drop (m .root .capacity) (i .ghost .records d)) (held-overflow (m .root) (i .pages-ok .owned) (inChain d))
-      (overflow-frame (m .root .capacity) (m .pages) then-pages (i .ghost .held (inChain d)) (drop (m .root .capacity) (i .ghost .records d)) (primary-same (inChain d)) (i .pages-ok .chain d live .overflow))
-
+  -- The overflow pages that the chain had are linked as before, whoever has them then.
   pub old-linked : c < size (m .root .originals) (i .ghost .live) → Linked (m .root) (withPage (m .pages) (primaryPage c) w) (i .ghost .held (inChain c))
-  old-linked = chain-linked c
+  old-linked live =
+      overflow-linked (m .root) then-pages (i .ghost .held (inChain c)) (drop (m .root .capacity) (i .ghost .records c)) (held-overflow (m .root) (i .pages-ok .owned) (inChain c))
+      (overflow-frame (m .root .capacity) (m .pages) then-pages (i .ghost .held (inChain c)) (drop (m .root .capacity) (i .ghost .records c)) (primary-same (inChain c)) (i .pages-ok .chain c live .overflow))
 
   pub free-beside : FreePages (withPage (m .pages) (primaryPage c) w) (i .ghost .held free)
   free-beside = free-frame (m .pages) then-pages (i .ghost .held free) (primary-same free) (i .pages-ok .free-pages)

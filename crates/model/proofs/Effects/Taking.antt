@@ -1,4 +1,4 @@
--- Pages taken from the front of the free list for what a party builds beside the file (steps 10, 17 and 26): the first
+-- Pages taken from the front of the free list for what a party builds beside the file (steps 10 and 17): the first
 -- go to the chain that scratch leads to, the next to a split's new chain.
 -- Main statements: Takes (what is taken), taken-is (the free list gives them), owned-then, built-then, new-then,
 -- free-then, held-kept; TakesOut (what such a step leaves), touches and taking-parts (the parts of the invariant after

@@ -30,7 +30,7 @@ use Rattle.model.proofs.Laws.Lists.{_▸_}
 use Rattle.model.proofs.Invariant.Ghost.{owner, inChain, oldOf, partnerOf, builtBy, newBy, Extent, size, localLevel}
 use Rattle.model.specs.Claims.{claims, claimTable, noLock}
 use Rattle.model.proofs.Invariant.Claims.{isClaimed}
-use Rattle.model.proofs.Invariant.Statement.{restructures, Scene, scratchIn, heldIn, NothingBuilt, NothingOld, NoPages, Early, Heads, Chasing, Protected, Walking, AtHome, Building, Rebuilt, Trash, Leaving, Written, unchanged, made-change, Returning, Settled, SplitChains, Dividing, Divided, MergeChains, Joining, Joined, MovedBack, Emptying, uses, Facts, factsNone, factsEarly, factsLevelRead, factsLocated, factsLocked, factsChasing, factsCoupled, factsHome, factsRebuilt, factsJoined, factsMovedBack, factsEmptying, factsMerged, factTable, Busy, PartyOk, resting, working}
+use Rattle.model.proofs.Invariant.Statement.{restructures, Scene, scratchIn, heldIn, NothingBuilt, NothingOld, NoPages, Early, Heads, Chasing, Protected, Walking, AtHome, Building, Rebuilt, Trash, Leaving, Written, unchanged, made-change, Returning, Settled, SplitChains, Dividing, Divided, MergeChains, Joining, Joined, MovedBack, OnePage, Emptying, uses, Facts, factsNone, factsEarly, factsLevelRead, factsLocated, factsLocked, factsChasing, factsCoupled, factsHome, factsRebuilt, factsJoined, factsMovedBack, factsEmptying, factsMerged, factTable, Busy, PartyOk, resting, working}
 use borrow.Author.Tests.{eq-eqb, eqb-true}
 
 -- Two root records of the same sizes.
@@ -128,6 +128,24 @@ pub entries-frame : (ps qs xs : List ℕ) → SameOn ps qs xs → entriesOn qs x
 unfolding entriesOn
 entries-frame ps qs [] a = refl
 entries-frame ps qs (x ∷ xs) a = rw (a .0, entries-frame ps qs xs (a .1)) refl
+
+-- ---- Which locks a party holds
+
+-- The claims of a party whose step number is known.
+pub claims-at : (r : Root) (p : Party) (n : ℕ) → p .step ≡ n → claims r p ≡ getD claimTable n noLock p
+unfolding claims
+claims-at r p n e = rw e refl
+
+-- A lock that a claim of the list names.
+pub named : (cs : List Claim) (i : ℕ) (m : Mode) → isClaimed (record { word = i; mode = m } ∷ cs) i m ≡ true
+unfolding isClaimed sameMode
+named cs i Read = rw (eq-eqb i i refl) refl
+named cs i Selective = rw (eq-eqb i i refl) refl
+named cs i Exclusive = rw (eq-eqb i i refl) refl
+
+pub later : (c : Claim) (cs : List Claim) (i : ℕ) (m : Mode) → isClaimed cs i m ≡ true → isClaimed (c ∷ cs) i m ≡ true
+unfolding isClaimed
+later c cs i m h = rw (h, or-true (eqb (c .word) i && sameMode (c .mode) m)) refl
 
 -- ---- The frame of each fact
 
@@ -300,22 +318,24 @@ module _ (s t : Scene) (j : ℕ) (p : Party) (k : Keeps s t j p) where
         joins = subst₃ (λ (l : ℕ) (xs ys : List Entry). Building t j l (joined xs ys)) (sym (local-kept (p .chain) Exclusive c refl (held (p .chain)))) (sym (f .0)) (sym (u .0))
             (building-kept (localLevel (s .root .originals) (s .ghost .live) (p .chain)) (joined (s .ghost .records (p .chain)) (s .ghost .records (p .other))) (h .joins));
         keeps-link = h .keeps-link ∙ ap linkToFirst (sym (f .1));
-        no-new = k .ours 6 (omega arith) (omega arith) .0 ∙ h .no-new;
-        nothing-old = old-kept (h .nothing-old);
+        no-pages = none-kept (h .no-pages);
       }
 
-  emptying-kept : uses p (p .other) ≡ true → (e : Entered) → Emptying s j p e → Emptying t j p e
-  emptying-kept u e h =
-      let n = k .ours 4 (omega arith) (omega arith) in
-      record {
-        noted = h .noted;
-        made = h .made;
-        trash = trash-kept (h .trash);
-        partner-sound = sound-sizes (s .root) (t .root) (k .sizes) (pageOf (t .pages) (primaryPage (p .other))) ∙ ap (pageSound (s .root)) (k .spare u) ∙ h .partner-sound;
-        partner-link = ap linkOf (k .spare u) ∙ h .partner-link ∙ ap linkToFirst (sym (n .0));
-        partner-linked = rw (n .0) (linked-kept (heldIn s (partnerOf j)) (n .1) (h .partner-linked));
-        nothing-built = built-kept (h .nothing-built);
-      }
+  -- A target of one page, which the party holds exclusively beside the root and the partner.
+  one-page-kept : restructures p ≡ true → claims (s .root) p ≡ mergeLocks rootSelective p → OnePage s p → OnePage t p
+  unfolding sameMode
+  one-page-kept ours c h =
+      let held = later rootSelective (chainExclusive p ∷ (otherExclusive p ∷ [])) (chainWord (p .chain)) Exclusive (named (otherExclusive p ∷ []) (chainWord (p .chain)) Exclusive) in
+      k .chain= (p .chain) Exclusive (rw c held) refl (λ n. absurd (false≢true (sym n ∙ ours))) .1 ∙ h
+
+  emptying-kept : restructures p ≡ true → claims (s .root) p ≡ mergeLocks rootSelective p → uses p (p .other) ≡ true → (e : Entered) → Emptying s j p e → Emptying t j p e
+  emptying-kept ours c u e h = record {
+    settled = settled-kept e (h .settled);
+    one-page = one-page-kept ours c (h .one-page);
+    no-old-link = h .no-old-link;
+    partner-sound = sound-sizes (s .root) (t .root) (k .sizes) (pageOf (t .pages) (primaryPage (p .other))) ∙ ap (pageSound (s .root)) (k .spare u) ∙ h .partner-sound;
+    partner-link = ap linkOf (k .spare u) ∙ h .partner-link;
+  }
 
   dividing-kept : SameExtents s t → (e : Entered) → Dividing s j p e → Dividing t j p e
   dividing-kept x e h = record { settled = settled-kept e (h .settled); chains = split-chains-kept x (h .chains) }
@@ -356,22 +376,6 @@ all-framed-at n (f ∷ fs) a (suc i) s t j p e h b k x = all-framed-at (suc n) f
 
 framed-none : Framed 0 factsNone
 framed-none s t j p e h b k x = x
-
--- The claims of a party whose step number is known.
-pub claims-at : (r : Root) (p : Party) (n : ℕ) → p .step ≡ n → claims r p ≡ getD claimTable n noLock p
-unfolding claims
-claims-at r p n e = rw e refl
-
--- A lock that a claim of the list names.
-pub named : (cs : List Claim) (i : ℕ) (m : Mode) → isClaimed (record { word = i; mode = m } ∷ cs) i m ≡ true
-unfolding isClaimed sameMode
-named cs i Read = rw (eq-eqb i i refl) refl
-named cs i Selective = rw (eq-eqb i i refl) refl
-named cs i Exclusive = rw (eq-eqb i i refl) refl
-
-pub later : (c : Claim) (cs : List Claim) (i : ℕ) (m : Mode) → isClaimed cs i m ≡ true → isClaimed (c ∷ cs) i m ≡ true
-unfolding isClaimed
-later c cs i m h = rw (h, or-true (eqb (c .word) i && sameMode (c .mode) m)) refl
 
 -- The chain of a party that holds it alone, in the mode of its operation.
 pub holds-chain : (r : Root) (p : Party) (n : ℕ) → p .step ≡ n → getD claimTable n noLock p ≡ chainLock p ∷ [] → isClaimed (claims r p) (chainWord (p .chain)) (modeOf p) ≡ true
@@ -484,10 +488,14 @@ framed-moved-back s t j p e h b k x =
 
 framed-emptying : Framed 29 factsEmptying
 framed-emptying s t j p e h b k x =
-    (emptying-kept s t j p k (uses-other p 29 h refl) e (x .0), moved-back-kept s t j p k (same-extents s t j p 29 h refl k) (x .1))
+    (emptying-kept s t j p k (restructures-at p 29 h) (claims-at (s .root) p 29 h) (uses-other p 29 h refl) e (x .0), moved-back-kept s t j p k (same-extents s t j p 29 h refl k) (x .1))
 
 framed-merged : Framed 30 factsMerged
-framed-merged s t j p e h b k x = (settled-kept s t j p k e (x .0), moved-back-kept s t j p k (same-extents s t j p 30 h refl k) (x .1))
+framed-merged s t j p e h b k x = (
+  settled-kept s t j p k e (x .0),
+  moved-back-kept s t j p k (same-extents s t j p 30 h refl k) (x .1),
+  one-page-kept s t j p k (restructures-at p 30 h) (claims-at (s .root) p 30 h) (x .2),
+)
 
 framed-written : Framed 12 Written
 framed-written s t j p e h b k x = written-kept s t j p k e x

@@ -274,14 +274,13 @@ pub record Joining (s : Scene) (q : ℕ) (p : Party) (e : Entered) : Type 0 wher
   pub settled : Settled s q p e
   pub chains : MergeChains s p
 
--- 27 and 28: the joined chain is built.
+-- 27 and 28: the joined chain is built, in scratch alone: it has no overflow pages.
 pub record Joined (s : Scene) (q : ℕ) (p : Party) (e : Entered) : Type 0 where
   pub noted : Noted p e
   pub made : Made p
   pub joins : Building s q (localLevel (s .root .originals) (s .ghost .live) (p .chain)) (joined (s .ghost .records (p .chain)) (s .ghost .records (p .other)))
   pub keeps-link : KeepsLink s p
-  pub no-new : heldIn s (newBy q) ≡ []
-  pub nothing-old : NothingOld s q
+  pub no-pages : NoPages s q
 
 -- 28 to 30: the root has moved back to the target; the partner is the chain behind the last.
 pub record MovedBack (s : Scene) (p : Party) : Type 0 where
@@ -289,15 +288,17 @@ pub record MovedBack (s : Scene) (p : Party) : Type 0 where
   pub partner : p .other ≡ countOfChains (s .root)
   pub room : countOfChains (s .root) < s .root .primaries
 
--- 29: the old pages of both chains, yet to be given back.
+-- 29 and 30: the target has no overflow page.
+abbrev pub OnePage : Scene → Party → Type 0
+OnePage s p = heldIn s (inChain (p .chain)) ≡ []
+
+-- 29: neither target nor partner had an overflow page; the partner's primary page is yet to be zeroed.
 pub record Emptying (s : Scene) (q : ℕ) (p : Party) (e : Entered) : Type 0 where
-  pub noted : Noted p e
-  pub made : Made p
-  pub trash : Trash s q p
+  pub settled : Settled s q p e
+  pub one-page : OnePage s p
+  pub no-old-link : p .old ≡ 0
   pub partner-sound : pageSound (s .root) (pageOf (s .pages) (primaryPage (p .other))) ≡ true
-  pub partner-link : linkOf (pageOf (s .pages) (primaryPage (p .other))) ≡ linkToFirst (heldIn s (partnerOf q))
-  pub partner-linked : Linked (s .root) (s .pages) (heldIn s (partnerOf q))
-  pub nothing-built : NothingBuilt s q
+  pub partner-link : linkOf (pageOf (s .pages) (primaryPage (p .other))) ≡ 0
 
 -- ---- The facts by step number
 
@@ -341,7 +342,7 @@ abbrev pub factsEmptying : Facts
 factsEmptying s q p e = Emptying s q p e × MovedBack s p
 
 abbrev pub factsMerged : Facts
-factsMerged s q p e = Settled s q p e × MovedBack s p
+factsMerged s q p e = Settled s q p e × MovedBack s p × OnePage s p
 
 -- From 0: 1, 2; 3; 4, 5; 6; 7; 8; 9; 10; 11; 12; 13, 14; 15, 16; 17; 18; 19 to 22; 23, 24; 25, 26; 27; 28; 29; 30.
 abbrev pub factTable : List Facts

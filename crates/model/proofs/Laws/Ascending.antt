@@ -13,7 +13,7 @@ use Rattle.model.specs.Entries.{keyOf, settingOf, entryOf, hasKey, setti
 use Rattle.model.specs.Book.{isIn}
 use Rattle.model.proofs.Laws.Entries.{has-setting, setting-absent}
 use Rattle.model.proofs.Laws.Lists.{Cmp, same, diff, cmp, and-both, left-or, or-either, eqb-true, eqb-same, eqb-diff, ltb-true, true≢false, false≢true}
-use Rattle.model.proofs.Laws.Joins.{below-absent}
+use Rattle.model.proofs.Laws.Joins.{below-absent, ascending-rest}
 
 -- ---- One list
 
@@ -47,11 +47,6 @@ first-least e es a k h n =
     let rest : hasKey k es ≡ true = rw (eqb-diff (keyOf e) k (λ s. n (sym s))) at h in
     beyond-first (keyOf e) k es (f .0) (f .1) rest
 
--- The rest ascends.
-rest-ascends : (e : Entry) (es : List Entry) → ascending (e ∷ es) ≡ true → ascending es ≡ true
-unfolding ascending
-rest-ascends e es a = and-both (belowFirst (keyOf e) es) (ascending es) a .1
-
 has-none : (k : ℕ) → hasKey k [] ≡ false
 unfolding hasKey
 has-none k = refl
@@ -79,7 +74,7 @@ pub same-ascending : (xs ys : List Entry) → ascending xs ≡ true → ascendin
 same-ascending [] [] a b f = refl
 same-ascending [] (y ∷ ys) a b f = absurd (false≢true (sym (has-none (keyOf y)) ∙ same-keys [] (y ∷ ys) f (keyOf y) ∙ has-first y ys))
 same-ascending (x ∷ xs) [] a b f = absurd (true≢false (sym (has-first x xs) ∙ same-keys (x ∷ xs) [] f (keyOf x) ∙ has-none (keyOf x)))
-same-ascending (x ∷ xs) (y ∷ ys) a b f = go (cmp (keyOf x) (keyOf y)) (same-ascending xs ys (rest-ascends x xs a) (rest-ascends y ys b))
+same-ascending (x ∷ xs) (y ∷ ys) a b f = go (cmp (keyOf x) (keyOf y)) (same-ascending xs ys (ascending-rest x xs a) (ascending-rest y ys b))
   where
     g : (k : ℕ) → hasKey k (x ∷ xs) ≡ hasKey k (y ∷ ys)
     g = same-keys (x ∷ xs) (y ∷ ys) f

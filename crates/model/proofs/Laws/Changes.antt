@@ -1,12 +1,13 @@
 -- What an insert or a delete makes of a chain's records: one key more or one key less, every other key with the setting it had, and the keys still ascend.
--- Main statements: has-inserted (the keys afterwards); setting-inserted, setting-removed (their settings); ascends-inserted, ascends-removed; ChangeMade and change-made (a change, beside what the book makes of its key).
+-- Main statements: has-inserted, length-inserted (the keys afterwards); setting-inserted, setting-removed (their settings); ascends-inserted, ascends-removed; ChangeMade and change-made (a change, beside what the book makes of its key).
 use mathlib.Core.Path.{_≡_, refl, sym, ap, subst, _∙_}
 use mathlib.Core.Bool.{Bool, true, false, cond, _||_, false≢true}
 use mathlib.Core.Logic.{_≢_}
 use mathlib.Core.List.{List, [], _∷_}
 use mathlib.Core.Option.{Option, none, some}
-use Prim.Native.Nat.{ℕ, _<_}
+use Prim.Native.Nat.{ℕ, suc, _<_}
 use native.Mathlib.Omega.{arith}
+use lib.ListN.{length}
 use lib.Dec.{ltb, eqb}
 use Rattle.model.specs.declared.Operation.{Operation}
 use Rattle.model.specs.declared.Operation.the-variants as Operation
@@ -35,6 +36,15 @@ has-inserted x k (e ∷ es) = go (ltb (keyOf x) (keyOf e)) (has-inserted x k es)
         → hasKey k (cond t (x ∷ (e ∷ es)) (e ∷ insertedInto x es)) ≡ (eqb (keyOf x) k || (eqb (keyOf e) k || hasKey k es))
     go true ih = refl
     go false ih = ap (λ (t : Bool). eqb (keyOf e) k || t) ih ∙ swap (eqb (keyOf e) k) (eqb (keyOf x) k) (hasKey k es)
+
+pub length-inserted : (x : Entry) (es : List Entry) → length (insertedInto x es) ≡ suc (length es)
+unfolding insertedInto
+length-inserted x [] = refl
+length-inserted x (e ∷ es) = go (ltb (keyOf x) (keyOf e)) (length-inserted x es)
+  where
+    go : (t : Bool) → length (insertedInto x es) ≡ suc (length es) → length (cond t (x ∷ (e ∷ es)) (e ∷ insertedInto x es)) ≡ suc (suc (length es))
+    go true ih = refl
+    go false ih = ap suc ih
 
 -- ---- Their settings
 

@@ -1,6 +1,6 @@
 -- Page filling for every number b of records a page: how many overflow pages a chain needs, and what its pages are once filled.
 -- Main definitions: Chained (the pages that a link word leads to), Room (pages enough to write a chain), Written (what holds once it is written).
--- Main statements: needed-few, needed-more (overflow pages needed); overflow-filled, filled-other, length-filled (overflow pages filled);
+-- Main statements: needed-few, needed-more (overflow pages needed); none-over, one-page, fits-page (records that fit the primary page); overflow-filled, filled-other, length-filled (overflow pages filled);
 -- overflow-entries, overflow-linked, chain-entries, chain-chained (what a chain's pages say); chain-written (a chain written whole).
 use mathlib.Core.Path.{_≡_, refl, sym, ap, _∙_}
 use mathlib.Core.Logic.{_≢_}
@@ -65,6 +65,20 @@ needed-exact b m some = go ((m + (b - 1)) / b) (div-add-mod' (m + (b - 1)) b) (m
 
 exact-less : (b n k : ℕ) → Exact b n (suc k) → Exact b (n - b) k
 exact-less b n k x = record { enough = omega arith; none-empty = omega arith }
+
+-- ---- Records that fit the primary page
+
+-- They leave no record for an overflow page.
+pub none-over : (b : ℕ) (es : List Entry) → length es ≤ b → drop b es ≡ []
+none-over b es h = drop-of-length-le es h
+
+-- A chain of such records has no overflow page, and a chain without overflow pages such records.
+pub one-page : (b : ℕ) (ps xs : List ℕ) (es : List Entry) → length es ≤ b → Overflow b ps xs (drop b es) → xs ≡ []
+one-page b ps [] es h k = refl
+one-page b ps (x ∷ xs) es h k = absurd (let n = k .0 in let l = length-drop b es in omega arith)
+
+pub fits-page : (b : ℕ) (es : List Entry) → drop b es ≡ [] → length es ≤ b
+fits-page b es e = let l = length-drop b es in let z = ap length e in omega arith
 
 -- ---- What the overflow pages of a chain say
 

@@ -1,5 +1,5 @@
 -- What a walk finds: the pages that a link leads to are linked and sound, no more than the walk may follow, and none stands twice.
--- Main statements: walked-chained (a walk without damage); linked-sound, linked-overflow, linked-distinct (of pages that stand linked);
+-- Main statements: walked-chained (a walk without damage); Reads and chain-reads (a chain looked through whole); linked-sound, linked-overflow, linked-distinct (of pages that stand linked);
 -- same-beside (a page that is none of them is written); length-entriesOn (how many records pages hold at most).
 use mathlib.Core.Path.{_≡_, refl, sym, ap, _∙_}
 use mathlib.Core.Logic.{_≢_}
@@ -11,8 +11,9 @@ use lib.ListN.{length, length-append, length-take}
 use lib.Dec.{eqb}
 use Rattle.model.specs.declared.Root.{Root}
 use Rattle.model.specs.Sizes.{pageWords}
-use Rattle.model.specs.Pages.{pageOf, withPage, countOf, linkOf, entriesOf, linkSound, pageSound, linkToFirst}
-use Rattle.model.specs.Chains.{Checked, damaged, sound, soundIf, andThen, overflowFrom, entriesOn}
+use Rattle.model.specs.Entries.{ascending}
+use Rattle.model.specs.Pages.{pageOf, withPage, countOf, linkOf, entriesOf, linkSound, pageSound, primaryPage, linkToFirst}
+use Rattle.model.specs.Chains.{Checked, damaged, sound, soundIf, andThen, overflowFrom, listFrom, entriesOn, Chain, readChain, ascendingChain, chainOf}
 use Rattle.model.proofs.Laws.Lists.{All, eqb-true, eqb-false}
 use Rattle.model.proofs.Laws.Distinct.{Outside, Distinct}
 use Rattle.model.proofs.Laws.Pages.{Has, page-other}
@@ -50,6 +51,31 @@ module _ (r : Root) (ps : List ℕ) where
           let found = next ys (sym er) in
           let here : xs ≡ (l - 1) ∷ ys = cc in
           rw here (record { first = omega (arith, some); linked = (sym eg, found .0 .first, found .0 .linked) }, omega (arith, found .1))
+
+-- ---- What was read of a chain
+
+-- Chain c was looked through whole, its overflow pages are xs, and d is what was read.
+pub record Reads (r : Root) (ps : List ℕ) (c : ℕ) (d : Chain) : Type 0 where
+  pub xs : List ℕ
+  pub page-sound : pageSound r (pageOf ps (primaryPage c)) ≡ true
+  pub listed : listFrom r ps (linkOf (pageOf ps (primaryPage c))) ≡ sound xs
+  pub chain-is : readChain ps c xs ≡ d
+  pub ascends : ascending (d .entries) ≡ true
+
+pub chain-reads : (r : Root) (ps : List ℕ) (c : ℕ) (d : Chain) → chainOf r ps c ≡ sound d → Reads r ps c d
+unfolding chainOf ascendingChain
+chain-reads r ps c d e = go (pageSound r (pageOf ps c)) (listFrom r ps (linkOf (pageOf ps c))) refl refl e
+  where
+    whole : (xs : List ℕ) → pageSound r (pageOf ps c) ≡ true → listFrom r ps (linkOf (pageOf ps c)) ≡ sound xs
+        → (b : Bool) → b ≡ ascending (readChain ps c xs .entries) → soundIf b (readChain ps c xs) ≡ sound d → Reads r ps c d
+    whole xs g f true eb e = let q : readChain ps c xs ≡ d = cc in record { xs = xs; page-sound = g; listed = f; chain-is = q; ascends = rw (← q) (sym eb) }
+    whole xs g f false eb e = absurd (let z : _≡_ {A = ℕ} 0 1 = cc in omega arith)
+
+    go : (b : Bool) (x : Checked (List ℕ)) → b ≡ pageSound r (pageOf ps c) → x ≡ listFrom r ps (linkOf (pageOf ps c))
+        → cond b (andThen x (λ xs. ascendingChain (readChain ps c xs))) damaged ≡ sound d → Reads r ps c d
+    go true damaged eb ex e = absurd (let z : _≡_ {A = ℕ} 0 1 = cc in omega arith)
+    go true (sound xs) eb ex e = whole xs (sym eb) (sym ex) (ascending (readChain ps c xs .entries)) refl e
+    go false x eb ex e = absurd (let z : _≡_ {A = ℕ} 0 1 = cc in omega arith)
 
 -- ---- Pages that stand linked
 

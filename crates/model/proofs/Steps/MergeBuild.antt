@@ -1,23 +1,23 @@
--- Step 26 keeps the invariant: both chains of a merge are joined beside the file, or the merge is skipped.
--- Main statement: step26-kept.
-use mathlib.Core.Path.{_≡_, refl, sym, ap, _∙_}
-use mathlib.Core.Bool.{true, false, not}
+-- Step 26 keeps the invariant: the records of both chains of a merge are joined in scratch, or the merge is skipped.
+-- Main statements: step26-is, step26-kept.
+use mathlib.Core.Path.{_≡_, refl, sym}
+use mathlib.Core.Bool.{true, false, cond}
 use mathlib.Core.List.{List, [], _∷_}
 use Prim.Native.Nat.{ℕ, _≤_, _<_}
 use native.Mathlib.Omega.{arith}
-use lib.ListN.{take, drop}
-use lib.Dec.{eqb, ltb}
+use lib.ListN.{length, set}
+use lib.Dec.{eqb, leb}
 use Rattle.model.specs.declared.Root.{Root}
 use Rattle.model.specs.declared.Party.{Party}
 use Rattle.model.specs.declared.Restructuring.the-variants as Restructuring
+use Rattle.model.specs.Sizes.{pageWords}
 use Rattle.model.specs.Records.{idle, atStep, withOld}
 use Rattle.model.specs.Addresses.{addressOf, mergePartner}
 use Rattle.model.specs.declared.Entry.{Entry}
 use Rattle.model.specs.Entries.{hasKey, joined, sharesKey, keyOf}
-use Rattle.model.specs.Pages.{linkToFirst}
+use Rattle.model.specs.Pages.{withPage, scratchPage, linkToFirst}
 use Rattle.model.specs.Chains.{Chain, sound}
-use Rattle.model.specs.Filling.{pagesFor}
-use Rattle.model.specs.FreeList.{tooFew, rootAfterTaking}
+use Rattle.model.specs.Filling.{fitsPrimary, primaryOf}
 use Rattle.model.specs.Memory.{Memory, viewOf}
 use Rattle.model.specs.Book.{Book}
 use Rattle.model.specs.Endings.{endedWith}
@@ -25,16 +25,22 @@ use Rattle.model.specs.LockRequests.{rootExclusive}
 use Rattle.model.specs.Steps.MergeLocks.{mergeLocks}
 use Rattle.model.specs.Steps.MergeBuild.{Pair, pairOf, joinedEntries, mergeGoes, combined, combineWith, step26}
 use Rattle.model.specs.Steps.Dispatch.{hasStep}
-use Rattle.model.proofs.Laws.Lists.{Told, holds, fails, tell, cond-ind, left-or, right-or, neither-or, not-true, ltb-false, eqb-same}
+use Rattle.model.proofs.Laws.Lists.{Told, holds, fails, tell, cond-ind, left-or, right-or, neither-or, leb-true, eqb-same}
+use Rattle.model.proofs.Laws.Filling.{length-primaryOf, none-over}
 use Rattle.model.proofs.Laws.Retreat.{merge-retreats, target-before}
-use Rattle.model.proofs.Invariant.Ghost.{free, inChain, oldOf, partnerOf, rootExtent, size, localLevel}
+use Rattle.model.proofs.Invariant.Ghost.{inChain, rootExtent, size, localLevel}
+use Rattle.model.specs.Claims.{claims}
+use Rattle.model.proofs.Invariant.LockMoves.{locks-stay}
 use Rattle.model.proofs.Invariant.Extents.{home-is}
+use Rattle.model.proofs.Invariant.Facts.{no-pages-held}
 use Rattle.model.proofs.Invariant.Statement.{restructures, liveFor, lowFor, Scene, NoPages, MergeChains, Joined, working}
-use Rattle.model.proofs.Invariant.Turn.{Turn, before, has-step, live-now, me, note-still}
-use Rattle.model.proofs.Effects.Kept.{Kept, Parts, moved-kept}
+use Rattle.model.proofs.Invariant.Turn.{Turn, before, has-step, its-claims, live-now, me, note-still, row-long, uses-none}
+use Rattle.model.proofs.Effects.Kept.{Kept, moved-kept}
 use Rattle.model.proofs.Effects.Done.{ended-kept}
-use Rattle.model.proofs.Effects.Moves.{busy-onto, extents-stop}
-use Rattle.model.proofs.Effects.BuiltChain.{chain-found, builtRoot, builtMemory, builtScene, taken-one, none-new, kept-by, building-then, Builds, built-parts, builtGhost}
+use Rattle.model.proofs.Effects.Moves.{busy-onto, same-file, extents-keep, extents-stop}
+use Rattle.model.proofs.Effects.OwnRecord.{OwnChange}
+use Rattle.model.proofs.Effects.ScratchPage.{scratch-same, scratch-parts}
+use Rattle.model.proofs.Effects.BuiltChain.{chain-found}
 
 -- Lists of which no key is in both.
 shares-none : (xs ys : List Entry) → ((k : ℕ) → hasKey k xs ≡ true → hasKey k ys ≡ false) → sharesKey xs ys ≡ false
@@ -61,13 +67,13 @@ module _ {m : Memory} {b : Book} {q : ℕ} (t : Turn m b q 26) where
   before-other : me t .chain < me t .other
   before-other = omega (arith, chains .target, chains .partner, target-before (r .originals) (r .level) (r .next) (t .inv .limits .some-original) (t .inv .extents-ok .root-next) (chains .goes-on))
 
-  other-live : me t .other < size (r .originals) (t .inv .ghost .live)
+  pub other-live : me t .other < size (r .originals) (t .inv .ghost .live)
   unfolding size mergePartner
   other-live =
       rw live-is
       (omega (arith, chains .partner, merge-retreats (r .originals) (r .level) (r .next) (t .inv .limits .some-original) (t .inv .extents-ok .root-next) (chains .goes-on) .one-less))
 
-  chain-live : me t .chain < size (r .originals) (t .inv .ghost .live)
+  pub chain-live : me t .chain < size (r .originals) (t .inv .ghost .live)
   chain-live = omega (arith, before-other, other-live)
 
   -- ---- Both chains looked through
@@ -96,7 +102,7 @@ module _ {m : Memory} {b : Book} {q : ℕ} (t : Turn m b q 26) where
   unfolding pairOf
   pair-found = rw (chain-found m b (t .inv) (me t .chain) chain-live, chain-found m b (t .inv) (me t .other) other-live, none-shared) refl
 
-  -- ---- Too few pages: the merge is skipped
+  -- ---- More records than fit: the merge is skipped
 
   skipped : Kept m b q (endedWith (viewOf m q) (mergeLocks rootExclusive (me t)) Restructuring.MergeSkipped)
   unfolding restructures liveFor lowFor
@@ -114,7 +120,7 @@ module _ {m : Memory} {b : Book} {q : ℕ} (t : Turn m b q 26) where
       })
       Restructuring.MergeSkipped
 
-  -- ---- The joined chain is built: on to 27
+  -- ---- The joined records are in scratch: on to 27
 
   abbrev level : ℕ
   level = localLevel (r .originals) (t .inv .ghost .live) (me t .chain)
@@ -122,47 +128,55 @@ module _ {m : Memory} {b : Book} {q : ℕ} (t : Turn m b q 26) where
   abbrev both : List Entry
   both = joined (t .inv .ghost .records (me t .chain)) (t .inv .ghost .records (me t .other))
 
-  abbrev need : ℕ
-  need = pagesFor (r .capacity) both
+  abbrev page : List ℕ
+  page = primaryOf (r .capacity) level both []
 
-  abbrev builds : need ≤ r .free → Builds t both
-  builds enough = record { no-pages = no-pages; enough = enough }
+  abbrev pages-then : List ℕ
+  pages-then = withPage (m .pages) (scratchPage r q) page
 
-  module _ (enough : need ≤ r .free) where
-    abbrev p-then : Party
-    p-then = atStep 27 (withOld (linkToFirst (t .inv .ghost .held (inChain (me t .chain)))) (me t))
+  abbrev p-then : Party
+  p-then = atStep 27 (withOld (linkToFirst (t .inv .ghost .held (inChain (me t .chain)))) (me t))
 
-    abbrev scene-then : Scene
-    scene-then = builtScene t level both (builds enough) p-then b
+  abbrev scene-then : Scene
+  scene-then = record { root = r; parties = set (m .parties) q p-then; pages = pages-then; ghost = t .inv .ghost; entries = b .entries }
 
+  page-long : length page ≡ pageWords
+  page-long = length-primaryOf (r .capacity) level both [] (t .inv .limits .keys-fit)
+
+  module _ (fits : length both ≤ r .capacity) where
     joined-then : Joined scene-then q p-then (t .entered)
     joined-then =
-        let keeps = kept-by t level both (builds enough) in
+        let none = no-pages .nothing-built .no-built in
         record {
           noted = t .facts .settled .noted;
           made = t .facts .settled .made;
-          joins = building-then t level both (builds enough) p-then b;
-          keeps-link = ap linkToFirst (sym (keeps (inChain (me t .chain)) refl refl refl));
-          no-new = none-new t level both (builds enough);
-          nothing-old = record { no-old = keeps (oldOf q) refl refl refl ∙ no-pages .nothing-old .no-old; no-partner = keeps (partnerOf q) refl refl refl ∙ no-pages .nothing-old .no-partner };
+          joins = record { scratch-is = rw none (scratch-same m b (t .inv) q (t .in-row) page page-long); built = rw none (none-over (r .capacity) both fits) };
+          keeps-link = refl;
+          no-pages = no-pages-held (before t) scene-then q refl no-pages;
         }
 
-    parts-then : Parts m b (t .inv) q (builtRoot t level both (builds enough)) (m .locks) (builtMemory t level both (builds enough)) p-then b (builtGhost t level both (builds enough))
-    unfolding restructures liveFor lowFor hasStep
-    parts-then =
-        built-parts t level both (builds enough) p-then b
-        (record { uses-no-page = refl; same-claims = refl; same-part = refl; same-live = refl; same-low = refl; entries= = λ j n. refl; contents= = refl })
-        (working (t .entered) (busy-onto t 27 (has-step t) (omega arith) scene-then refl refl (linkToFirst (t .inv .ghost .held (inChain (me t .chain)))))
-        (joined-then, record { target = chains .target; partner = chains .partner; goes-on = chains .goes-on }))
+    own-change : OwnChange m b (t .inv) q pages-then p-then b (m .locks)
+    unfolding restructures liveFor lowFor claims hasStep
+    own-change = record {
+      entries= = λ j n. refl;
+      contents= = refl;
+      stays = λ x e. refl;
+      frees = λ d _. uses-none t refl d;
+      extents = extents-keep t (same-file t) p-then refl refl refl;
+      locks = locks-stay r (m .parties) q p-then (row-long t) (sym (its-claims t)) (t .inv .locks-ok);
+      self = working (t .entered) (busy-onto t 27 (has-step t) (omega arith) scene-then refl refl (linkToFirst (t .inv .ghost .held (inChain (me t .chain)))))
+          (joined-then, record { target = chains .target; partner = chains .partner; goes-on = chains .goes-on });
+    }
 
-    combined-kept : Kept m b q (combined (viewOf m q) pair (record { pages = take need (t .inv .ghost .held free); head = linkToFirst (drop need (t .inv .ghost .held free)) }))
-    unfolding combined joinedEntries rootAfterTaking
-    combined-kept = moved-kept t (note-still t refl) parts-then
+    combined-kept : Kept m b q (combined (viewOf m q) pair)
+    unfolding combined joinedEntries
+    combined-kept = moved-kept t (note-still t refl) (scratch-parts t page page-long p-then b (m .locks) own-change)
+
+  -- No test fails, and the joined records decide.
+  pub step26-is : step26 (viewOf m q) ≡ cond (fitsPrimary (r .capacity) both) (combined (viewOf m q) pair) (endedWith (viewOf m q) (mergeLocks rootExclusive (me t)) Restructuring.MergeSkipped)
+  unfolding step26 combineWith joinedEntries mergeGoes
+  step26-is = rw (chains .goes-on, pair-found) refl
 
   pub step26-kept : Kept m b q (step26 (viewOf m q))
-  unfolding step26 combineWith joinedEntries mergeGoes tooFew
-  step26-kept =
-      rw (chains .goes-on, pair-found)
-      (cond-ind (Kept m b q) (not (ltb (r .free) need)) _ _
-      (λ e. let enough = ltb-false (r .free) need (not-true (ltb (r .free) need) e) in
-      rw (taken-one t level both (builds enough)) (combined-kept enough)) (λ _. skipped))
+  unfolding fitsPrimary
+  step26-kept = rw step26-is (cond-ind (Kept m b q) (leb (length both) (r .capacity)) _ _ (λ e. combined-kept (leb-true (length both) (r .capacity) e)) (λ _. skipped))

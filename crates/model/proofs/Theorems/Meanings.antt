@@ -1,8 +1,8 @@
 -- Definitions that the demands could lose unseen, said once more in other words: parts of the book and of the link rule that only forbid, what steps and yardstick share, the record's words,
 -- and numbers of answers.
--- Main statements: unentered-refused, unnoted-refused (the book); grown-owes, not-grown-owes-none, emptied-owes (what is owed); idle-zero, begun-zeroes, update-alone (a party's record); find-given,
--- insert-given, delete-given, found-carries, others-carry-none (settings); begin-number, format-number, withdraw-number, restructurings-in-order (numbers of answers);
--- decided-find, decided-insert, decided-delete (the decisive step taken).
+-- Main statements: unentered-refused, unnoted-refused (the book); grown-owes, not-grown-owes-none, emptied-owes (what is owed); few-fit, more-do-not-fit (a merge); idle-zero, begun-zeroes,
+-- update-alone (a party's record); find-given, insert-given, delete-given, found-carries, others-carry-none (settings); begin-number, format-number, withdraw-number, restructurings-in-order (numbers
+-- of answers); decided-find, decided-insert, decided-delete (the decisive step taken).
 use mathlib.Core.Path.{_≡_, refl, sym}
 use mathlib.Core.Logic.{_≢_}
 use mathlib.Core.Bool.{true, false, or-false}
@@ -12,7 +12,7 @@ use Prim.Native.Nat.{ℕ, _≤_, _<_}
 use native.Mathlib.Omega.{arith}
 use lib.ListN.{length, replicate, set}
 use lib.Dec.{eqb, leb}
-use borrow.Author.Tests.{ne-eqb, lt-ltb, le-ltb}
+use borrow.Author.Tests.{ne-eqb, lt-ltb, le-ltb, le-leb, lt-leb}
 use Rattle.model.specs.declared.Party.{Party}
 use Rattle.model.specs.declared.OperationAnswer.{OperationAnswer}
 use Rattle.model.specs.declared.OperationAnswer.the-variants as OperationAnswer
@@ -23,6 +23,7 @@ use Rattle.model.specs.Records.{rootOfSizes, idle, begun, atStep, withLe
 use Rattle.model.specs.Answers.{answerOf, settingGiven, settingFound, restructuringNumber, beginRefusal, formatRefusal, withdrawRefusal}
 use Rattle.model.specs.declared.Entry.{Entry}
 use Rattle.model.specs.Entries.{isEmpty}
+use Rattle.model.specs.Filling.{fitsPrimary}
 use Rattle.model.specs.Steps.Rebuild.{splitOwed, mergeOwed}
 use Rattle.model.specs.Memory.{Memory}
 use Rattle.model.specs.Refusals.{firstCause, formatRows, beginRows, withdrawRows}
@@ -54,6 +55,15 @@ pub emptied-owes : (es : List Entry) → mergeOwed es ≡ eqb (length es) 0
 unfolding mergeOwed isEmpty
 emptied-owes [] = refl
 emptied-owes (e ∷ es) = sym (ne-eqb (length (e ∷ es)) 0 (λ z. omega arith))
+
+-- Records fit the primary page exactly where there are no more than b.
+pub few-fit : (b : ℕ) (es : List Entry) → length es ≤ b → fitsPrimary b es ≡ true
+unfolding fitsPrimary
+few-fit b es h = le-leb (length es) b h
+
+pub more-do-not-fit : (b : ℕ) (es : List Entry) → b < length es → fitsPrimary b es ≡ false
+unfolding fitsPrimary
+more-do-not-fit b es h = lt-leb (length es) b h
 
 -- The ten words of a party's record: all zero where nobody is under way; operation, key, step 1, six zeros and the setting where an operation has begun.
 abbrev pub words : Party → List ℕ

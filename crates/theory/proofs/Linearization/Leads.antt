@@ -34,7 +34,7 @@ use Rattle.model.specs.Steps.OldPages.{oldGivenBack, step13, step14}
 use Rattle.model.specs.Steps.SplitBuild.{Halves, halvesNeed, divided, divideWith, step17}
 use Rattle.model.specs.Steps.SplitLocks.{splitting, step15, step16, step19, step22}
 use Rattle.model.specs.Steps.SplitWrite.{step18, step20, step21}
-use Rattle.model.specs.Steps.MergeBuild.{Pair, pairOf, joinedEntries, mergeGoes, combined, combineWith, step26}
+use Rattle.model.specs.Steps.MergeBuild.{Pair, pairOf, mergeGoes, combined, combineWith, step26}
 use Rattle.model.specs.Steps.MergeLocks.{mergeStops, merging, step23, step24, step25, step30}
 use Rattle.model.specs.Steps.MergeWrite.{mergedAway, partnerCleared, step27, step28, step29}
 use Rattle.model.specs.Steps.Dispatch.{hasStep, noStep, stepTable, stepOf}
@@ -319,10 +319,7 @@ leads-25 v e = request-leads v 25 _ _ (goes-on refl refl)
 
 combine-leads : (v : View) (m : Pair) → Leads v 26 (combineWith v m)
 unfolding combineWith combined isBehind
-combine-leads v m =
-    let es = joinedEntries m in
-    either-leads v 26 (mergeGoes (v .root) es)
-    (checked-leads v 26 (pagesTaken (v .root) (v .pages) (pagesFor (v .root .capacity) es)) (λ t. moved-leads v 26 _ refl (goes-on refl refl))) (ended-leads v 26 refl _ _)
+combine-leads v m = either-leads v 26 (mergeGoes (v .root) m) (moved-leads v 26 _ refl (goes-on refl refl)) (ended-leads v 26 refl _ _)
 
 leads-26 : LeadsOn 26 step26
 unfolding step26

@@ -1,7 +1,7 @@
 -- The yardstick answers as a plain map does, and leaves the map that a plain map then is.
 -- Main statements: map-held (the map that a file holds); AsMap, performed-as-map (one operation); all-as-map (a list of operations).
 use mathlib.Core.Path.{_≡_, refl, sym, ap, _∙_}
-use mathlib.Core.Bool.{true, false, cond, _||_}
+use mathlib.Core.Bool.{true, false, cond, _||_, not}
 use mathlib.Core.List.{List, [], _∷_}
 use mathlib.Core.Option.{Option, none, some}
 use Prim.Native.Nat.{ℕ, _<_}
@@ -16,7 +16,7 @@ use Rattle.model.specs.Answers.{answerNumber, foundOrAbsent, sameAnswer, settin
 use Rattle.model.specs.Addresses.{splitBarred, mergeBarred}
 use Rattle.model.specs.declared.Entry.{Entry}
 use Rattle.model.specs.Entries.{entryOf, hasKey, insertedInto, removedFrom, settingIn}
-use Rattle.model.specs.Filling.{pagesFor}
+use Rattle.model.specs.Filling.{pagesFor, fitsPrimary}
 use Rattle.model.specs.Book.{changedAt, Value, isIn}
 use Rattle.theory.specs.PlainMap.{PlainMap, plainAnswer, keptOr, plainAfter, mayLackPages, isNoPage, answersAsMap, mapLeftBy}
 use Rattle.model.specs.Steps.Rebuild.{splitOwed, mergeOwed}
@@ -57,8 +57,8 @@ module _ (r : Root) (positive : 0 < r .originals) (f : File) (s : PlainMap) (h :
   merge-map : Restructured (r .originals) s a (mergeFile r f a)
   unfolding mergeFile chainsIn
   merge-map =
-      cond-ind (Restructured (r .originals) s a) (mergeBarred (chainsIn r f) (r .originals) || shortOf r f _) _ _ (λ _. (refl, h))
-      (λ e. (refl, holding-rejoined r f s h positive (or-neither (mergeBarred (chainsIn r f) (r .originals)) (shortOf r f _) e .0)))
+      cond-ind (Restructured (r .originals) s a) (mergeBarred (chainsIn r f) (r .originals) || not (fitsPrimary (r .capacity) _)) _ _ (λ _. (refl, h))
+      (λ e. (refl, holding-rejoined r f s h positive (or-neither (mergeBarred (chainsIn r f) (r .originals)) (not (fitsPrimary (r .capacity) _)) e .0)))
 
 module _ (r : Root) (positive : 0 < r .originals) (f : File) (s : PlainMap) (h : Holding (r .originals) f s) (k : ℕ) where
   abbrev n : ℕ

@@ -36,7 +36,7 @@ use Rattle.model.specs.Steps.MergeLocks.{mergeStops, step23, step24, step25, st
 use Rattle.model.specs.Steps.MergeBuild.{Pair, pairOf, joinedEntries, mergeGoes, combined, combineWith, step26}
 use Rattle.model.specs.Steps.MergeWrite.{mergedAway, partnerCleared, step27, step28, step29}
 use Rattle.model.specs.Steps.Dispatch.{noStep, stepTable, stepOf}
-use Rattle.model.proofs.Laws.Lists.{cond-ind, not-true, All, _▸_, Numbered, numbered-at, all-left as all-first, all-right as all-second, all-from, all-in, among-take, among-drop}
+use Rattle.model.proofs.Laws.Lists.{cond-ind, All, _▸_, Numbered, numbered-at, all-left as all-first, all-right as all-second, all-from, all-in, among-take, among-drop}
 use Rattle.model.proofs.Laws.Pages.{length-pageOf, length-zeroPage, length-withLocalLevel}
 use Rattle.model.proofs.Laws.Filling.{IsOverflow, length-primaryOf}
 use Rattle.theory.proofs.Scratches.{IfSound, has-page, list-overflow, names-page, names-linked, sound-link}
@@ -291,13 +291,12 @@ unfolding step25
 reads-25 v ps′ opens b = request-reads 25 v ps′ opens b _ _
 
 combine-reads : (v : View) (ps′ : List ℕ) (opens : ℕ → Bool) → Beside v ps′ opens → (m : Pair) → Reads 26 v ps′ opens (combineWith v m) (combineWith (withPages ps′ v) m)
-unfolding combineWith combined rootAfterTaking mergeGoes
+unfolding combineWith combined
 combine-reads v ps′ opens b m =
-    let es = joinedEntries m in
-    let k = pagesFor (v .root .capacity) es in
-    cond-reads 26 v ps′ opens (mergeGoes (v .root) es) _ _ _ _
-    (λ goes. taking-reads 26 v ps′ opens b k (λ t. combined v m t) (λ t. combined (withPages ps′ v) m t) (not-true (tooFew (v .root) k) goes) (λ t. refl)
-    (λ t o over. moved-same 26 v ps′ opens _ _ (built-alike 26 v ps′ opens b (m .target .level) es (t .pages) o over)))
+    cond-reads 26 v ps′ opens (mergeGoes (v .root) m) _ _ _ _
+    (λ _. moved-reads 26 v ps′ opens _ _
+    (scratch-written 26 v ps′ opens b (v .pages) ps′ (alike-start v ps′ opens b) (scratchPage (v .root) (v .number)) (primaryOf (v .root .capacity) (m .target .level) (joinedEntries m) []) refl
+    (length-primaryOf (v .root .capacity) (m .target .level) (joinedEntries m) [] (b .ready .keys-fit))))
     (λ _. ended-reads 26 v ps′ opens b _ _)
 
 -- The two chains of a merge are those of the trace.

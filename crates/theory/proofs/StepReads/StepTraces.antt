@@ -42,7 +42,7 @@ use Rattle.model.specs.Steps.SplitLocks.{splitting, step15, step16, step19, ste
 use Rattle.model.specs.Steps.SplitBuild.{Halves, halvesOf, halvesNeed, divided, divideWith, step17}
 use Rattle.model.specs.Steps.SplitWrite.{step18, step20, step21}
 use Rattle.model.specs.Steps.MergeLocks.{mergeStops, merging, step23, step24, step25, step30}
-use Rattle.model.specs.Steps.MergeBuild.{Pair, pairOf, joinedEntries, mergeGoes, combined, combineWith, step26}
+use Rattle.model.specs.Steps.MergeBuild.{Pair, pairOf, mergeGoes, combined, combineWith, step26}
 use Rattle.model.specs.Steps.MergeWrite.{rootMovedBack, mergedAway, partnerCleared, step27, step28, step29}
 use Rattle.model.specs.Steps.Dispatch.{noStep, stepTable, stepOf}
 use Rattle.model.proofs.Laws.Lists.{cond-ind, eqb-false, ltb-false, not-both, and-both, All, all-in, _▸_, Numbered, numbered-at}
@@ -476,16 +476,13 @@ both-known t s w v [] ys a b = b
 both-known t s w v (x ∷ xs) ys a b = (a .0, both-known t s w v xs ys (a .1) b)
 
 tells-combined : (t s w : ℕ) (v : View) → Ready v → (m : Pair) → TargetLink v m → Tells t s w 26 v (combineWith v m)
-unfolding combineWith combined rootAfterTaking traceOf isMoved
+unfolding combineWith combined traceOf isMoved
 tells-combined t s w v ready m l =
-    let es = joinedEntries m in
-    let k = pagesFor (v .root .capacity) es in
     let xs = chainPages v (v .party .chain) in
     let ys = chainPages v (v .party .other) in
     let known = both-known t s w v xs ys (chain-known v t s w (v .party .chain) (ready .chain-fits)) (chain-known v t s w (v .party .other) (ready .other-fits)) in
-    cond-ind (Tells t s w 26 v) (mergeGoes (v .root) es) _ _
-    (λ _. checked-tells t s w v 26 (pagesTaken (v .root) (v .pages) k) (λ x. combined v m x)
-    (λ x _. record { go = λ _. looked-read t s w v _ _ (xs ++ ys) known (none-more (v .root .free) k) l refl }))
+    cond-ind (Tells t s w 26 v) (mergeGoes (v .root) m) _ _
+    (λ _. record { go = λ _. looked-read t s w v _ _ (xs ++ ys) known (omega arith) l refl })
     (λ _. ended-as t s w v 26 (traceLooked t (xs ++ ys) false) (λ a r. refl) (λ u e. looked-basis t s w v u (xs ++ ys) known e) _ _)
 
 tells-26 : TellsAt 26 step26

@@ -18,7 +18,7 @@ const NAMES: [&str; 19] = [
     "split skipped for pages",
     "merged",
     "merge skipped at N chains",
-    "merge skipped for pages",
+    "merge skipped for records",
     "level raised",
     "level lowered",
     "level 8 with all 256 chains",
@@ -71,7 +71,7 @@ impl Met {
             Restructuring::SplitSkipped => "split skipped for pages",
             Restructuring::Merged => "merged",
             Restructuring::MergeSkipped if at_least => "merge skipped at N chains",
-            Restructuring::MergeSkipped => "merge skipped for pages",
+            Restructuring::MergeSkipped => "merge skipped for records",
         });
         let after = model.space().level;
         self.add_met(&[

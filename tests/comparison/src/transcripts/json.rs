@@ -1,4 +1,4 @@
-//! The small part of JSON that memory.jsonl uses: objects, lists, plain strings, whole numbers and null.
+//! The small part of JSON that single calls are stored in: objects, lists, plain strings, whole numbers and null.
 
 pub enum Value {
     Null,

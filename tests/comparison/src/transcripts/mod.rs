@@ -1,4 +1,4 @@
-//! Replays stored transcripts (NAME.in and NAME.out) and the single calls of memory.jsonl.
+//! Replays stored transcripts (NAME.in and NAME.out) and single calls (NAME.jsonl).
 
 pub mod forms;
 mod json;
@@ -21,18 +21,21 @@ pub struct Agreed {
 /// Replays all of a folder; the first difference is an error.
 pub fn replay(folder: &Path, callee: &mut dyn Callee) -> Result<Agreed, String> {
     let mut agreed = Agreed::default();
-    for script in scripts(folder)? {
+    for script in files(folder, "in")? {
         agreed.lines += replay_transcript(&script, callee)?;
         agreed.transcripts += 1;
     }
-    agreed.calls = replay_single_calls(&folder.join("memory.jsonl"), callee)?;
+    for calls in files(folder, "jsonl")? {
+        agreed.calls += replay_single_calls(&calls, callee)?;
+    }
     Ok(agreed)
 }
 
-fn scripts(folder: &Path) -> Result<Vec<PathBuf>, String> {
+/// The files of a folder with an ending, in the order of their names.
+fn files(folder: &Path, ending: &str) -> Result<Vec<PathBuf>, String> {
     let entries = fs::read_dir(folder).map_err(|error| format!("{}: {error}", folder.display()))?;
     let mut found: Vec<PathBuf> = entries.flatten().map(|entry| entry.path()).collect();
-    found.retain(|path| path.extension().map_or(false, |ending| ending == "in"));
+    found.retain(|path| path.extension() == Some(ending.as_ref()));
     found.sort();
     Ok(found)
 }
@@ -94,7 +97,7 @@ impl Turns<'_> {
     }
 }
 
-/// Replays every call of memory.jsonl; answers their number.
+/// Replays every call of a file; answers their number.
 fn replay_single_calls(path: &Path, callee: &mut dyn Callee) -> Result<usize, String> {
     let text = String::from_utf8(load(path)?).map_err(|error| error.to_string())?;
     for (number, line) in text.lines().enumerate() {
@@ -178,10 +181,12 @@ mod tests {
     #[test]
     fn a_wrong_word_is_caught() {
         let mut wrong = WrongPages(Port::default());
-        let scripts = scripts(&stored()).unwrap();
+        let [scripts, calls] = ["in", "jsonl"].map(|ending| files(&stored(), ending).unwrap());
         assert!(scripts
             .iter()
             .any(|script| replay_transcript(script, &mut wrong).is_err()));
-        assert!(replay_single_calls(&stored().join("memory.jsonl"), &mut wrong).is_err());
+        assert!(calls
+            .iter()
+            .all(|calls| replay_single_calls(calls, &mut wrong).is_err()));
     }
 }

@@ -199,7 +199,7 @@ fn steps_of(cause: Cause) -> &'static [usize] {
             &[6, 9, 10, 11, 14, 17, 18, 26, 28, 29]
         }
         Cause::ChainTooLong => &[10, 14, 17, 26, 29],
-        Cause::FreeListEnds | Cause::FreeListTwice | Cause::FreeListAstray => &[10, 17, 26],
+        Cause::FreeListEnds | Cause::FreeListTwice | Cause::FreeListAstray => &[10, 17],
         Cause::RootLockNotHeld => &[5, 16, 17, 22, 24, 26, 30],
         Cause::ChainLockNotHeld => &[9, 12, 14, 17, 19, 26, 30],
         Cause::OtherLockNotHeld => &[8, 26, 30],

@@ -77,7 +77,7 @@ fn craft_chains(image: &mut Image, pool: &mut Vec<u32>, random: &mut Random) {
     }
 }
 
-/// Writes a chain of so many overflow pages, packed or loose, its keys ascending.
+/// Writes a chain of so many overflow pages, packed, loose or nearly empty, its keys ascending.
 fn craft_chain(image: &mut Image, chain: u32, overflow: &[u32], random: &mut Random) {
     let root = image.root_record();
     let split = chain < root.next || chain >= root.level_chains();
@@ -91,7 +91,7 @@ fn craft_chain(image: &mut Image, chain: u32, overflow: &[u32], random: &mut Ran
     } else {
         random.between(1, 50)
     };
-    let loose = random.pick(&[0, 0, 4, 2, 1]);
+    let (loose, sparse) = (random.pick(&[0, 0, 4, 2, 1]), random.one_in(8));
     let mut key = if random.one_in(8) {
         u32::MAX - random.below(5000)
     } else {
@@ -102,7 +102,9 @@ fn craft_chain(image: &mut Image, chain: u32, overflow: &[u32], random: &mut Ran
         let last = place + 1 == numbers.len();
         let full = root.page_records
             - u32::from(last && random.one_in(2)) * random.below(root.page_records);
-        let count = if loose > 0 && random.one_in(loose) {
+        let count = if sparse {
+            u32::from(random.one_in(4))
+        } else if loose > 0 && random.one_in(loose) {
             random.between(0, root.page_records)
         } else {
             full

@@ -15,6 +15,10 @@ enum Situation {
     EmptyPageWithin,
     LongListSmallPages,
     LongListLargePages,
+    JoinedWithOverflow,
+    JoinedWithNoneFree,
+    JoinedFull,
+    OneTooMany,
     PageOnBothLists,
     SameChains,
     PastTheEnd,
@@ -22,10 +26,10 @@ enum Situation {
 }
 
 /// Each situation with the steps at which it must be met.
-const WANTED: [(Situation, &[u32], &str); 9] = [
+const WANTED: [(Situation, &[u32], &str); 13] = [
     (
         Situation::TakenFromChain,
-        &[10, 17, 26],
+        &[10, 17],
         "a page taken that stands in the chain itself",
     ),
     (
@@ -48,6 +52,18 @@ const WANTED: [(Situation, &[u32], &str); 9] = [
         &[10, 14, 17, 26, 29],
         "more than 200 overflow pages, b at least 5",
     ),
+    (
+        Situation::JoinedWithOverflow,
+        &[26],
+        "joined, with overflow pages in both chains",
+    ),
+    (
+        Situation::JoinedWithNoneFree,
+        &[26],
+        "joined, with no page free",
+    ),
+    (Situation::JoinedFull, &[26], "b records joined"),
+    (Situation::OneTooMany, &[26], "b + 1 records not joined"),
     (Situation::PageOnBothLists, &[29], "a page on both lists"),
     (
         Situation::SameChains,
@@ -76,7 +92,7 @@ impl Situations {
     pub fn count(&mut self, before: &Image, after: &Image, number: u32) {
         let party = before.party(number);
         for (what, step, count) in &mut self.counts {
-            if *step == party.step && is_met(*what, before, after, &party) {
+            if *step == party.step && is_met(*what, before, after, number) {
                 *count += 1;
             }
         }
@@ -97,15 +113,17 @@ impl Situations {
     }
 }
 
-fn is_met(what: Situation, before: &Image, after: &Image, party: &Party) -> bool {
-    let root = before.root_record();
-    let lists = || lists_read(before, party);
+fn is_met(what: Situation, before: &Image, after: &Image, number: u32) -> bool {
+    let (root, party) = (before.root_record(), before.party(number));
+    let lists = || lists_read(before, &party);
     let within = |list: &[u32]| {
         list.split_last()
             .map_or(Vec::new(), |(_, within)| within.to_vec())
     };
     let long = || lists().iter().any(|list| list.len() > 200);
     let count = |page: u32| before.page(page)[RECORD_COUNT];
+    let records = || lists().concat().into_iter().map(count).sum::<u32>();
+    let goes_on = after.party(number).step == party.step + 1;
     match what {
         Situation::TakenFromChain => lists()
             .concat()
@@ -121,6 +139,10 @@ fn is_met(what: Situation, before: &Image, after: &Image, party: &Party) -> bool
             .any(|list| within(list).iter().skip(1).any(|page| count(*page) == 0)),
         Situation::LongListSmallPages => root.page_records <= 3 && long(),
         Situation::LongListLargePages => root.page_records >= 5 && long(),
+        Situation::JoinedWithOverflow => goes_on && lists().iter().all(|list| list.len() > 1),
+        Situation::JoinedWithNoneFree => goes_on && root.free_count == 0,
+        Situation::JoinedFull => goes_on && records() == root.page_records,
+        Situation::OneTooMany => !goes_on && records() == root.page_records + 1,
         Situation::PageOnBothLists => lists()[0].iter().any(|page| lists()[1].contains(page)),
         Situation::SameChains => party.chain == party.other,
         Situation::PastTheEnd => after.root_record().next == 0,

@@ -2,7 +2,7 @@
 
 use super::{chain_lock, Result, ROOT_LOCK};
 use crate::calls::Lent;
-use crate::chains::overflow_needed;
+use crate::chains::page_of;
 use crate::damage::{Cause, Damage};
 use crate::locks::{self, Mode};
 use crate::memory::{Record, EMPTY_PAGE, LINK, LOCAL_LEVEL};
@@ -42,7 +42,8 @@ pub(super) fn request_partner<D: Damage>(lent: &mut Lent<D>) -> Result<D> {
     lent.request(chain_lock(lent.party.other), Mode::Exclusive, 26)
 }
 
-/// "26 join both key lists in new pages, primary page in scratch at the target's local level, and set the old link to the target's."
+/// "26 join both key lists, ... primary page in scratch at the target's local level, and set the old link to the target's"; merge
+/// skipped unless "the joined records fit the primary page".
 #[inline(never)]
 pub(super) fn join<D: Damage>(lent: &mut Lent<D>) -> Result<D> {
     lent.refuse_if(
@@ -51,27 +52,35 @@ pub(super) fn join<D: Damage>(lent: &mut Lent<D>) -> Result<D> {
     )?;
     let target = lent.chain_records(lent.party.chain)?;
     let partner = lent.chain_records(lent.party.other)?;
-    let records = joined(&target.records, &partner.records)?;
-    let wanted = overflow_needed(records.len(), lent.root.page_records);
-    if lent.root.free_count < wanted {
+    let room = lent.root.page_records as usize;
+    let records = joined(&target.records, &partner.records, room)?;
+    if records.len() > room {
         give_up_three(lent, Mode::Exclusive)?;
         return lent.done_changed(Restructuring::MergeSkipped);
     }
-    lent.test_free_list(wanted)?;
     let primary = &lent.pages[lent.party.chain as usize];
     let (local_level, old_link) = (primary[LOCAL_LEVEL], primary[LINK]);
-    *lent.scratch() = lent.take_and_fill(&records, local_level);
+    *lent.scratch() = page_of(&records, local_level, 0);
     lent.party.old_link = old_link;
     lent.move_to(27)
 }
 
-/// Two ascending lists of records as one; "a key in both halves of a merge" is damage.
-fn joined<D: Damage>(target: &[Record], partner: &[Record]) -> std::result::Result<Vec<Record>, D> {
+/// Two ascending lists of records as one; "a key in both halves of a merge" is damage, also where they do not fit a page's `room`.
+fn joined<D: Damage>(
+    target: &[Record],
+    partner: &[Record],
+    room: usize,
+) -> std::result::Result<Vec<Record>, D> {
+    let in_both = if target.len() + partner.len() > room {
+        Cause::KeyInBothThatDoNotFit
+    } else {
+        Cause::KeyInBothHalves
+    };
     let mut records = Vec::with_capacity(target.len() + partner.len());
     let (mut target, mut partner) = (target, partner);
     while let ([first, target_rest @ ..], [second, partner_rest @ ..]) = (target, partner) {
         if first.key == second.key {
-            return Err(D::of(Cause::KeyInBothHalves));
+            return Err(D::of(in_both));
         }
         if first.key < second.key {
             records.push(*first);

@@ -69,8 +69,8 @@ fn merge(
     }
     let target = home(sizes, chains - 1, chains - 1);
     let joined = &placed(sizes, chains - 1, settings)[target];
-    if overflow_pages(sizes, joined) > free_pages(sizes, &placed(sizes, chains, settings)) {
-        return (Restructuring::MergeSkipped, "pages");
+    if joined.len() > sizes.records_a_page as usize {
+        return (Restructuring::MergeSkipped, "records");
     }
     (Restructuring::Merged, "")
 }

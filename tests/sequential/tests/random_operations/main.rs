@@ -17,7 +17,7 @@ const KINDS: [&str; 13] = [
     "(done (found) none)",
     "(done absent none)",
     "(done deleted merge-skipped) chains",
-    "(done deleted merge-skipped) pages",
+    "(done deleted merge-skipped) records",
     "(done deleted merged)",
     "(done deleted none)",
     "(done inserted none)",

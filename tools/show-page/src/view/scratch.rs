@@ -34,7 +34,7 @@ pub fn new_pages(memory: &Memory, party: u32) -> Vec<Page<'_>> {
     memory.pages_from(first.filter(|_| leads_to_new_pages(step)))
 }
 
-/// Whether the next step is one before the scratch page is written as a primary page.
+/// Whether the next step writes the scratch page as a primary page that has pages behind it: a merge's never has.
 fn leads_to_new_pages(step: u32) -> bool {
-    matches!(step, 11 | 18 | 27 | 28)
+    matches!(step, 11 | 18)
 }

@@ -1,9 +1,9 @@
--- Step 29 keeps the invariant: the old pages of both chains of a merge are given back, the partner's primary page is zeroed.
--- Main statement: step29-kept.
+-- Step 29 keeps the invariant: both chains of a merge had no overflow page, so that none is given back; the partner's primary page is zeroed.
+-- Main statements: step29-is, step29-kept.
 use mathlib.Core.Path.{_≡_, refl, sym, ap, _∙_}
 use mathlib.Core.Logic.{_≢_}
-use mathlib.Core.Bool.{true, false}
-use mathlib.Core.List.{List, [], _∷_, _++_}
+use mathlib.Core.Bool.{false}
+use mathlib.Core.List.{List, [], _∷_}
 use Prim.Native.Nat.{ℕ, _+_}
 use native.Mathlib.Omega.{arith}
 use lib.ListN.{set}
@@ -11,7 +11,7 @@ use Rattle.model.specs.declared.Root.{Root}
 use Rattle.model.specs.declared.Party.{Party}
 use Rattle.model.specs.Sizes.{lockWords}
 use Rattle.model.specs.Records.{atStep}
-use Rattle.model.specs.Pages.{pageOf, withPage, linkOf, linkSound, primaryPage, zeroPage}
+use Rattle.model.specs.Pages.{withPage, linkSound, zeroPage, linkToFirst}
 use Rattle.model.specs.Chains.{listFrom, sound}
 use Rattle.model.specs.Memory.{Memory, viewOf}
 use Rattle.model.specs.Book.{Book}
@@ -20,11 +20,11 @@ use Rattle.model.specs.FreeList.{roomToGiveBack, pagesGivenBack}
 use Rattle.model.specs.Addresses.{countOfChains}
 use Rattle.model.specs.Steps.MergeWrite.{mergedAway, partnerCleared, step29}
 use Rattle.model.specs.Steps.Dispatch.{hasStep}
-use Rattle.model.proofs.Laws.Lists.{eqb-diff, count-append}
+use Rattle.model.proofs.Laws.Lists.{eqb-diff, count-nil}
 use Rattle.model.proofs.Laws.Pages.{Has, length-withPage, page-same, page-other, length-zeroPage}
-use Rattle.model.proofs.Laws.Filling.{link-sound}
-use Rattle.model.proofs.Laws.Reading.{held-overflow, held-length, linked-list}
-use Rattle.model.proofs.Invariant.Ghost.{oldOf, partnerOf, size, count, Ghost}
+use Rattle.model.proofs.Laws.Reading.{linked-list}
+use Rattle.model.proofs.Invariant.Ghost.{free, inChain, oldOf, partnerOf, size, count, Ghost}
+use Rattle.model.proofs.Invariant.Owners.{kinds-apart}
 use Rattle.model.specs.Claims.{claims}
 use Rattle.model.proofs.Invariant.Claims.{claimed, LocksOk}
 use Rattle.model.proofs.Invariant.LockMoves.{locks-root, locks-stay}
@@ -34,7 +34,7 @@ use Rattle.model.proofs.Invariant.Turn.{Turn, before, has-step, its-cla
 use Rattle.model.proofs.Effects.Kept.{Kept, Parts, moved-kept}
 use Rattle.model.proofs.Effects.Touch.{outside}
 use Rattle.model.proofs.Effects.Moves.{busy-onto, extents-keep}
-use Rattle.model.proofs.Effects.GivingBack.{no-reader, oldKinds, one-listed, givenGhost, givenRoot, givenPages, given-sizes, given-long, given-room, no-pages-given, GivesBack, givenScene, giving-parts}
+use Rattle.model.proofs.Effects.GivingBack.{no-reader, oldKinds, one-listed, givenGhost, givenRoot, givenPages, given-sizes, given-long, given-room, given-kept, no-pages-given, GivesBack, givenScene, giving-parts}
 use Rattle.model.proofs.Effects.Releases.{Holds, holds-it}
 
 module _ {m : Memory} {b : Book} {q : ℕ} (t : Turn m b q 29) where
@@ -53,33 +53,21 @@ module _ {m : Memory} {b : Book} {q : ℕ} (t : Turn m b q 29) where
   unfolding size liveFor
   size-is = ap (size (r .originals)) (live-now t refl)
 
-  -- ---- No test fails
-
-  abbrev olds : List ℕ
-  olds = t .inv .ghost .held (oldOf q)
-
-  abbrev partners : List ℕ
-  partners = t .inv .ghost .held (partnerOf q)
+  -- ---- No test fails, and no page is given back
 
   abbrev gone : List ℕ
-  gone = olds ++ partners
+  gone = []
 
-  all-mine : (x : ℕ) → count x gone ≡ count x olds + count x partners
-  all-mine x = count-append x olds partners
+  all-mine : (x : ℕ) → count x gone ≡ count x (t .inv .ghost .held (oldOf q)) + count x (t .inv .ghost .held (partnerOf q))
+  all-mine x = let none = emptying .settled .no-pages .nothing-old in rw (none .no-old, none .no-partner) (omega (arith, count-nil x))
 
-  old-sound : linkSound r (me t .old) ≡ true
-  old-sound = ap (linkSound r) (emptying .trash .link) ∙ link-sound r olds (held-overflow r (t .inv .pages-ok .owned) (oldOf q))
-
-  olds-listed : listFrom r (m .pages) (me t .old) ≡ sound olds
-  olds-listed = ap (listFrom r (m .pages)) (emptying .trash .link) ∙ linked-list r (m .pages) olds (emptying .trash .linked) (held-length r (t .inv .pages-ok .owned) (oldOf q))
-
-  partners-listed : listFrom r (m .pages) (linkOf (pageOf (m .pages) (primaryPage (me t .other)))) ≡ sound partners
-  partners-listed =
-      ap (listFrom r (m .pages)) (emptying .partner-link) ∙ linked-list r (m .pages) partners (emptying .partner-linked) (held-length r (t .inv .pages-ok .owned) (partnerOf q))
+  none-listed : listFrom r (m .pages) 0 ≡ sound gone
+  unfolding linkToFirst
+  none-listed = linked-list r (m .pages) [] tt (omega arith)
 
   found : mergedAway r (m .pages) (me t) ≡ sound gone
-  unfolding mergedAway roomToGiveBack
-  found = rw (old-sound, emptying .partner-sound, olds-listed, partners-listed, given-room t oldKinds gone all-mine) refl
+  unfolding mergedAway roomToGiveBack linkSound
+  found = rw (emptying .no-old-link, emptying .partner-sound, emptying .partner-link, none-listed, given-room t oldKinds gone all-mine) refl
 
   -- ---- What is left
 
@@ -136,10 +124,17 @@ module _ {m : Memory} {b : Book} {q : ℕ} (t : Turn m b q 29) where
       giving-parts t oldKinds gone all-mine pages-then p-then b (me t .other) gives-back (m .locks) extents-then locks-then
       (working (t .entered)
       (busy-onto t 30 (has-step t) (omega arith) (givenScene t oldKinds gone all-mine pages-then p-then b (me t .other) gives-back) refl refl (me t .old)) (
-        record { noted = emptying .noted; made = emptying .made; no-pages = no-pages-given t gone all-mine (emptying .nothing-built) _ refl },
+        record { noted = emptying .settled .noted; made = emptying .settled .made; no-pages = no-pages-given t gone all-mine (emptying .settled .no-pages .nothing-built) _ refl },
         record { target = moved-back .target; partner = moved-back .partner; room = moved-back .room },
+        given-kept t oldKinds gone all-mine (inChain (me t .chain)) (kinds-apart (inChain (me t .chain)) free refl) (kinds-apart (inChain (me t .chain)) (oldOf q) refl)
+            (kinds-apart (inChain (me t .chain)) (partnerOf q) refl)
+            ∙ emptying .one-page,
       ))
 
+  pub step29-is : step29 (viewOf m q) ≡ partnerCleared (viewOf m q) []
+  unfolding step29
+  step29-is = rw found refl
+
   pub step29-kept : Kept m b q (step29 (viewOf m q))
-  unfolding step29 partnerCleared pagesGivenBack
-  step29-kept = rw found (moved-kept t (note-still t refl) parts-then)
+  unfolding partnerCleared pagesGivenBack
+  step29-kept = rw step29-is (moved-kept t (note-still t refl) parts-then)

@@ -32,6 +32,7 @@ use Rattle.model.proofs.Invariant.Claims.{isClaimed, claimed, LocksOk}
 use Rattle.model.proofs.Invariant.LockMoves.{exclusive-alone, locks-turned, locks-move, locks-root}
 use Rattle.model.proofs.Invariant.Statement.{restructures, liveFor, lowFor, ExtentsOk, PagesOk, Scene, Joined, MovedBack, Busy, working}
 use Rattle.model.proofs.Invariant.Frame.{SameLimits, Grows, Keeps, claims-at, named}
+use Rattle.model.proofs.Invariant.Facts.{no-pages-held}
 use Rattle.model.proofs.Invariant.Restructurer.{allBelow, all-below, others-rest}
 use Rattle.model.proofs.Invariant.Turn.{Turn, before, has-step, its-claims, live-now, me, note-still, party-small, restructures-now, row-long, uses-none}
 use Rattle.model.proofs.Effects.Kept.{Kept, extents-by-one, Parts, moved-kept}
@@ -191,8 +192,7 @@ module _ {m : Memory} {b : Book} {q : ℕ} (t : Turn m b q 27) where
         made = h .made;
         joins = record { scratch-is = h .joins .scratch-is; built = h .joins .built };
         keeps-link = h .keeps-link;
-        no-new = h .no-new;
-        nothing-old = record { no-old = h .nothing-old .no-old; no-partner = h .nothing-old .no-partner };
+        no-pages = no-pages-held (before t) then-scene q refl (h .no-pages);
       }
 
   moved-back : MovedBack then-scene (atStep 28 (me t))

@@ -1,13 +1,13 @@
 -- Step 28 keeps the invariant: the joined chain is written over the target, and the file is one chain shorter.
 -- Main statement: step28-kept.
-use mathlib.Core.Path.{_≡_, refl, sym, ap, _∙_, subst, subst₃}
+use mathlib.Core.Path.{_≡_, refl, sym, ap, _∙_, subst, subst₃, subst₂}
 use mathlib.Core.Logic.{_≢_, _⊎_, inl, inr}
 use mathlib.Core.Bool.{Bool, true, false, false≢true, cond}
 use mathlib.Core.List.{List, [], _∷_}
 use mathlib.Core.Option.{Option}
 use Prim.Native.Nat.{ℕ, suc, _+_, _-_, _≤_, _<_}
 use native.Mathlib.Omega.{arith}
-use lib.ListN.{length, set}
+use lib.ListN.{length, set, drop}
 use lib.Dec.{eqb}
 use Rattle.model.specs.declared.Party.{Party}
 use Rattle.model.specs.declared.Mode.{Mode}
@@ -22,33 +22,32 @@ use Rattle.model.specs.Pages.{pageOf, withPage, levelOf, linkOf, scratch
 use Rattle.model.specs.Filling.{primaryOf}
 use Rattle.model.specs.Memory.{Memory, partyAt, viewOf}
 use Rattle.model.specs.Book.{Book, Entered, changedAt, Value}
-use Rattle.model.specs.LockRequests.{modeOf, chainExclusive, rootSelective, otherExclusive}
+use Rattle.model.specs.LockRequests.{chainExclusive, rootSelective, otherExclusive}
 use Rattle.model.specs.Steps.MergeWrite.{step28}
 use Rattle.model.specs.Steps.Dispatch.{hasStep}
 use Rattle.model.proofs.Laws.Lists.{cond-ind, Cmp, same, diff, cmp, or-either, eqb-same, eqb-diff}
 use Rattle.model.proofs.Laws.Pages.{length-withLocalLevel, withLocalLevel-filledPage}
-use Rattle.model.proofs.Laws.Structure.{ChainIs}
-use Rattle.model.proofs.Laws.Filling.{chain-link, chain-sound}
+use Rattle.model.proofs.Laws.Structure.{Overflow, ChainIs}
+use Rattle.model.proofs.Laws.Filling.{chain-link, chain-sound, fits-page, one-page}
 use Rattle.model.proofs.Laws.Reading.{held-overflow}
 use Rattle.model.proofs.Laws.Entries.{setting-absent}
-use Rattle.model.proofs.Laws.Joins.{has-joined, setting-joined, ascends-joined}
-use Rattle.model.proofs.Invariant.Ghost.{owner, nobody, free, inChain, oldOf, partnerOf, builtBy, newBy, Extent, rootExtent, size, advance, localLevel, Ghost}
-use Rattle.model.proofs.Invariant.Owners.{kinds-apart, indices-apart}
-use Rattle.model.proofs.Invariant.Handing.{ownAlso, heldAlso, Also, beside-chain, beside-party, beside-kind, also-to, also-from, also-chain, also-old, also-built, also-other, owned-also, own-also-other, kinds-also}
+use Rattle.model.proofs.Laws.Joins.{has-joined, setting-joined, ascends-joined, length-joined}
+use Rattle.model.proofs.Invariant.Ghost.{owner, inChain, builtBy, Extent, rootExtent, size, advance, localLevel, Ghost}
 use Rattle.model.proofs.Invariant.Extents.{size-is, local-most, local-rest, key-home, away-absent}
 use Rattle.model.proofs.Invariant.Advance.{advance-size, advance-other, advance-split, advance-made, hash-back, hash-back-made, split-hash, home-splits, home-other, home-split, home-made}
 use Rattle.model.specs.Claims.{claims}
 use Rattle.model.proofs.Invariant.Claims.{isClaimed, claimed}
 use Rattle.model.proofs.Invariant.LockMoves.{locks-stay}
-use Rattle.model.proofs.Invariant.Statement.{restructures, liveFor, lowFor, ExtentsOk, uses, PagesOk, BookOk, Scene, Protected, in-chain, in-old, Building, Joined, MovedBack, Emptying, PartyOk, working}
-use Rattle.model.proofs.Invariant.Frame.{StaysLive, Grows, Keeps, restructures-at, claims-at, named, later}
-use Rattle.model.proofs.Invariant.Facts.{changed-here, changed-elsewhere}
+use Rattle.model.proofs.Invariant.Statement.{restructures, liveFor, lowFor, ExtentsOk, uses, PagesOk, BookOk, Scene, Protected, Building, Joined, MovedBack, Emptying, PartyOk, working}
+use Rattle.model.proofs.Invariant.Frame.{StaysLive, Grows, Keeps, restructures-at, named, later}
+use Rattle.model.proofs.Invariant.Facts.{changed-here, changed-elsewhere, no-pages-held}
 use Rattle.model.proofs.Invariant.Restructurer.{low-at, others-rest, using-restructures}
 use Rattle.model.proofs.Invariant.Turn.{Turn, before, has-step, its-claims, live-now, low-now, me, note-still, restructures-now, row-long, uses-none}
-use Rattle.model.proofs.Effects.Kept.{Kept, row-same, row-other, row-chain, extents-by-one, Parts, moved-kept}
-use Rattle.model.proofs.Effects.OwnRecord.{same-limits}
-use Rattle.model.proofs.Effects.PrimaryPage.{held-exclusively, length-scratch, built-sound, built-level, primary-off, primary-same, primary-long, owned-apart, written-here, written-beside, chain-linked, free-beside}
+use Rattle.model.proofs.Effects.Kept.{Kept, row-same, row-other, extents-by-one, Parts, moved-kept}
+use Rattle.model.proofs.Effects.OwnRecord.{same-limits, protected-row}
+use Rattle.model.proofs.Effects.PrimaryPage.{held-exclusively, length-scratch, built-sound, built-level, primary-off, primary-same, primary-long, written-here, written-beside, free-beside}
 use Rattle.model.proofs.Effects.Moves.{busy-onto}
+use Rattle.model.proofs.Effects.ScratchPage.{protected-bounds}
 
 module _ {m : Memory} {b : Book} {q : ℕ} (t : Turn m b q 28) where
   -- The target, and the partner, which leaves the file.
@@ -120,9 +119,6 @@ module _ {m : Memory} {b : Book} {q : ℕ} (t : Turn m b q 28) where
   apart : here ≢ gone
   apart = omega (arith, back-here, gone-is)
 
-  not-gone : (d : ℕ) → d < size originals back → d ≢ gone
-  not-gone d l = omega (arith, gone-is)
-
   still-live : (d : ℕ) → d < size originals back → d < size originals live
   still-live d l = omega (arith, longer)
 
@@ -176,6 +172,26 @@ module _ {m : Memory} {b : Book} {q : ℕ} (t : Turn m b q 28) where
   chain-here : ChainIs (m .root .capacity) pages-then here (back .level) both (t .inv .ghost .held (builtBy q))
   chain-here = written-here m b (t .inv) here fits lowered whole (back .level) both (builtBy q) lowered-is (built .built)
 
+  -- ---- Neither chain has an overflow page
+
+  both-fit : length both ≤ m .root .capacity
+  both-fit =
+      fits-page (m .root .capacity) both
+      (subst (λ (xs : List ℕ). Overflow (m .root .capacity) (m .pages) xs (drop (m .root .capacity) both)) (facts .no-pages .nothing-built .no-built) (built .built))
+
+  many : length both ≡ length (t .inv .ghost .records here) + length (t .inv .ghost .records gone)
+  many = length-joined (t .inv .ghost .records here) (t .inv .ghost .records gone)
+
+  here-bare : t .inv .ghost .held (inChain here) ≡ []
+  here-bare =
+      one-page (m .root .capacity) (m .pages) (t .inv .ghost .held (inChain here)) (t .inv .ghost .records here) (omega (arith, both-fit, many))
+      (t .inv .pages-ok .chain here live-here .overflow)
+
+  gone-bare : t .inv .ghost .held (inChain gone) ≡ []
+  gone-bare =
+      one-page (m .root .capacity) (m .pages) (t .inv .ghost .held (inChain gone)) (t .inv .ghost .records gone) (omega (arith, both-fit, many))
+      (t .inv .pages-ok .chain gone live-gone .overflow)
+
   -- ---- Ghost and record afterwards
 
   abbrev then-party : Party
@@ -184,11 +200,11 @@ module _ {m : Memory} {b : Book} {q : ℕ} (t : Turn m b q 28) where
   abbrev row-then : List Party
   row-then = set (m .parties) q (atStep 29 (partyAt (m .parties) q))
 
-  -- The partner's records are no part of the file any more, and stay.
+  -- No page changes hands. The partner's records are no part of the file any more, and stay.
   abbrev ghost-then : Ghost
   ghost-then = record {
-    own = ownAlso (t .inv .ghost .own) (t .inv .ghost .held) here q (inChain gone) (partnerOf q);
-    held = heldAlso (t .inv .ghost .held) here q (inChain gone) (partnerOf q);
+    own = t .inv .ghost .own;
+    held = t .inv .ghost .held;
     records = changedAt (t .inv .ghost .records) here both;
     live = rootExtent (m .root);
     low = rootExtent (m .root);
@@ -196,29 +212,6 @@ module _ {m : Memory} {b : Book} {q : ℕ} (t : Turn m b q 28) where
 
   abbrev then-scene : Scene
   then-scene = record { root = m .root; parties = row-then; pages = pages-then; ghost = ghost-then; entries = b .entries }
-
-  -- The target is written anew, and the pages of the partner become the party's to give back.
-  hands : Also (t .inv .ghost .held) here q (inChain gone) (partnerOf q)
-  hands = record {
-    from = beside-chain here q gone (λ e. apart (sym e));
-    to = beside-kind here q (partnerOf q) refl refl refl;
-    two = kinds-apart (inChain gone) (partnerOf q) refl;
-    from-some = kinds-apart (inChain gone) nobody refl;
-    to-some = kinds-apart (partnerOf q) nobody refl;
-    to-kind = omega arith;
-    no-old = facts .nothing-old .no-old;
-    to-none = facts .nothing-old .no-partner;
-  }
-
-  other-chain : (d : ℕ) → d ≢ gone → d ≢ here → ghost-then .held (inChain d) ≡ t .inv .ghost .held (inChain d)
-  other-chain d x y = also-other hands (inChain d) (beside-chain here q d y) (indices-apart (inChain d) (inChain gone) x) (kinds-apart (inChain d) (partnerOf q) refl)
-
-  other-party : (k j : ℕ) → 3 ≤ k → j ≢ q → ghost-then .held (owner k j) ≡ t .inv .ghost .held (owner k j)
-  other-party k j l n =
-      also-other hands (owner k j) (beside-party here q k j l n) (kinds-apart (owner k j) (inChain gone) (eqb-diff k 2 (omega arith))) (indices-apart (owner k j) (partnerOf q) n)
-
-  free-then : ghost-then .held free ≡ t .inv .ghost .held free
-  free-then = also-other hands free (beside-kind here q free refl refl refl) (kinds-apart free (inChain gone) refl) (kinds-apart free (partnerOf q) refl)
 
   records-here : ghost-then .records here ≡ both
   records-here = changed-here (t .inv .ghost .records) here both here refl
@@ -268,24 +261,10 @@ module _ {m : Memory} {b : Book} {q : ℕ} (t : Turn m b q 28) where
         local-other d x (stays-live d x (not-partner j n d o h) (l (others-rest-here j n)) .0);
   }
 
-  -- A page that a reader of another chain may walk stays, and stays protected.
-  read-page : (d x : ℕ) → d ≢ here → d ≢ gone → Protected (before t) d x → Protected then-scene d x × (pageOf pages-then x ≡ pageOf (m .pages) x)
-  read-page d x n k (in-chain y) = (
-    in-chain
-        (own-also-other hands (t .inv .pages-ok .owned) x (inChain d) (indices-apart (inChain d) (inChain here) n) (kinds-apart (inChain d) (builtBy q) refl)
-        (indices-apart (inChain d) (inChain gone) k) y),
-    off x (owned-apart m b (t .inv) here fits lowered whole x (inChain d) y refl),
-  )
-  read-page d x n k (in-old j y z) = (
-    in-old j
-        (own-also-other hands (t .inv .pages-ok .owned) x (oldOf j) (kinds-apart (oldOf j) (inChain here) refl) (kinds-apart (oldOf j) (builtBy q) refl)
-        (kinds-apart (oldOf j) (inChain gone) refl) y) (row-chain (m .parties) q then-party (row-long t) refl j ∙ z),
-    off x (owned-apart m b (t .inv) here fits lowered whole x (oldOf j) y refl),
-  )
-
-  -- A find at 9 holds its chain.
-  finds : (j : ℕ) → partyAt (m .parties) j .step ≡ 9 → isClaimed (claims (m .root) (partyAt (m .parties) j)) (chainWord (partyAt (m .parties) j .chain)) (modeOf (partyAt (m .parties) j)) ≡ true
-  finds j e = rw (claims-at (m .root) (partyAt (m .parties) j) 9 e) (named [] (chainWord (partyAt (m .parties) j .chain)) (modeOf (partyAt (m .parties) j)))
+  -- A page that a reader may walk stays, and stays protected.
+  read-page : (d x : ℕ) → Protected (before t) d x → Protected then-scene d x × (pageOf pages-then x ≡ pageOf (m .pages) x)
+  read-page d x h =
+      (protected-row (before t) then-scene q then-party refl refl (row-long t) (λ y o. refl) d x h, off x (λ e. let z = protected-bounds m b (t .inv) q (t .in-row) d x h in omega (arith, fits)))
 
   keeps-others : (j : ℕ) → j ≢ q → Keeps (before t) then-scene j (partyAt (m .parties) j)
   keeps-others j n =
@@ -294,10 +273,10 @@ module _ {m : Memory} {b : Book} {q : ℕ} (t : Turn m b q 28) where
         sizes = same-limits (m .root);
         grows = grows j n;
         entry= = refl;
-        ours = λ k a d. (other-party k j a n, primary-same m b (t .inv) here fits lowered whole (owner k j));
+        ours = λ k a d. (refl, primary-same m b (t .inv) here fits lowered whole (owner k j));
         scratch= = off (scratchPage (m .root) j) (omega (arith, fits));
-        chain= = λ d o h r l. (records-other d (not-here j n d o h), other-chain d (not-partner j n d o h) (not-here j n d o h));
-        reading = λ x e h. read-page (p .chain) x (not-here j n (p .chain) (modeOf p) (finds j e)) (not-partner j n (p .chain) (modeOf p) (finds j e)) h;
+        chain= = λ d o h r l. (records-other d (not-here j n d o h), refl);
+        reading = λ x e h. read-page (p .chain) x h;
         spare = λ u. absurd (false≢true (sym (others-rest-here j n) ∙ using-restructures p (p .other) u));
       }
 
@@ -306,10 +285,9 @@ module _ {m : Memory} {b : Book} {q : ℕ} (t : Turn m b q 28) where
   each-chain : (d : ℕ) → d < size originals back → Cmp d here → ChainIs (m .root .capacity) pages-then d (localLevel originals back d) (ghost-then .records d) (ghost-then .held (inChain d))
   each-chain d l (same e) =
       subst (λ (k : ℕ). ChainIs (m .root .capacity) pages-then k (localLevel originals back k) (ghost-then .records k) (ghost-then .held (inChain k))) (sym e)
-      (subst₃ (λ (j : ℕ) (es : List Entry) (xs : List ℕ). ChainIs (m .root .capacity) pages-then here j es xs) (sym local-back) (sym records-here) (sym (also-chain hands)) chain-here)
+      (subst₃ (λ (j : ℕ) (es : List Entry) (xs : List ℕ). ChainIs (m .root .capacity) pages-then here j es xs) (sym local-back) (sym records-here) (facts .no-pages .nothing-built .no-built ∙ sym here-bare) chain-here)
   each-chain d l (diff n) =
-      subst₃ (λ (j : ℕ) (es : List Entry) (xs : List ℕ). ChainIs (m .root .capacity) pages-then d j es xs) (sym (local-other d n l)) (sym (records-other d n))
-      (sym (other-chain d (not-gone d l) n))
+      subst₂ (λ (j : ℕ) (es : List Entry). ChainIs (m .root .capacity) pages-then d j es (t .inv .ghost .held (inChain d))) (sym (local-other d n l)) (sym (records-other d n))
       (written-beside m b (t .inv) here fits lowered whole d _ (t .inv .ghost .records d) (inChain d) n (t .inv .pages-ok .chain d (still-live d l)))
 
   -- The two chains have no key in common: a key has one home.
@@ -343,10 +321,10 @@ module _ {m : Memory} {b : Book} {q : ℕ} (t : Turn m b q 28) where
   each-homed d l (diff n) k h =
       ap (λ (j : ℕ). hash originals j k) (local-other d n l) ∙ t .inv .pages-ok .homed d (still-live d l) k (sym (ap (hasKey k) (records-other d n)) ∙ h)
 
-  -- Outside the shorter file the partner alone has pages in use, all of them the party's now.
+  -- Outside the shorter file no chain has pages.
   each-beyond : (d : ℕ) → size originals back ≤ d → Cmp d gone → ghost-then .held (inChain d) ≡ []
-  each-beyond d far (same e) = ap (λ (k : ℕ). ghost-then .held (inChain k)) e ∙ also-from hands
-  each-beyond d far (diff n) = other-chain d n (omega (arith, back-here)) ∙ t .inv .pages-ok .beyond d (omega (arith, longer, gone-is))
+  each-beyond d far (same e) = ap (λ (k : ℕ). ghost-then .held (inChain k)) e ∙ gone-bare
+  each-beyond d far (diff n) = t .inv .pages-ok .beyond d (omega (arith, longer, gone-is))
 
   uses-gone : uses then-party gone ≡ true
   unfolding uses
@@ -368,12 +346,12 @@ module _ {m : Memory} {b : Book} {q : ℕ} (t : Turn m b q 28) where
   pages-ok-then =
       let ok = t .inv .pages-ok in
       record {
-        owned = owned-also hands (ok .owned);
-        kinds = λ x. kinds-also hands (ok .owned) x (ok .kinds x);
+        owned = ok .owned;
+        kinds = ok .kinds;
         beyond = λ d l. each-beyond d l (cmp d gone);
-        head-is = ok .head-is ∙ ap linkToFirst (sym free-then);
-        free-count = ok .free-count ∙ ap length (sym free-then);
-        free-pages = rw free-then (free-beside m b (t .inv) here fits lowered whole);
+        head-is = ok .head-is;
+        free-count = ok .free-count;
+        free-pages = free-beside m b (t .inv) here fits lowered whole;
         chain = λ d l. each-chain d l (cmp d here);
         ascends = λ d l. each-ascends d l (cmp d here);
         homed = λ d l. each-homed d l (cmp d here);
@@ -437,25 +415,18 @@ module _ {m : Memory} {b : Book} {q : ℕ} (t : Turn m b q 28) where
   -- ---- The party at 29
 
   emptying-then : Emptying then-scene q then-party entered
+  unfolding linkToFirst
   emptying-then =
       let partner = t .inv .pages-ok .chain gone live-gone in
       let unwritten : pageOf pages-then (primaryPage gone) ≡ pageOf (m .pages) (primaryPage gone) = off gone (λ e. apart (sym e)) in
       record {
-        noted = facts .noted;
-        made = facts .made;
-        trash = record {
-          link = facts .keeps-link ∙ ap linkToFirst (sym (also-old hands));
-          linked = rw (also-old hands) (chain-linked m b (t .inv) here fits lowered whole here live-here);
-        };
+        settled = record { noted = facts .noted; made = facts .made; no-pages = no-pages-held (before t) then-scene q refl (facts .no-pages) };
+        one-page = here-bare;
+        no-old-link = facts .keeps-link ∙ ap linkToFirst here-bare;
         partner-sound = ap (pageSound (m .root)) unwritten
             ∙ chain-sound (m .root) (m .pages) gone _ (t .inv .ghost .records gone) (t .inv .ghost .held (inChain gone)) partner (held-overflow (m .root) (t .inv .pages-ok .owned) (inChain gone)) (local-most (t .inv) gone);
         partner-link = ap linkOf unwritten
-            ∙ chain-link (m .root .capacity) (m .pages) gone _ (t .inv .ghost .records gone) (t .inv .ghost .held (inChain gone)) partner ∙ ap linkToFirst (sym (also-to hands));
-        partner-linked = rw (also-to hands) (chain-linked m b (t .inv) here fits lowered whole gone live-gone);
-        nothing-built = record {
-          no-built = also-built hands;
-          no-new = also-other hands (newBy q) (beside-kind here q (newBy q) refl refl refl) (kinds-apart (newBy q) (inChain gone) refl) (kinds-apart (newBy q) (partnerOf q) refl) ∙ facts .no-new;
-        };
+            ∙ chain-link (m .root .capacity) (m .pages) gone _ (t .inv .ghost .records gone) (t .inv .ghost .held (inChain gone)) partner ∙ ap linkToFirst gone-bare;
       }
 
   self-then : PartyOk then-scene q then-party
