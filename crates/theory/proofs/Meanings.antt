@@ -2,7 +2,9 @@
 -- and every proof of it would still stand.
 -- Main statements: answers-allowed (what a plain map may answer, as a table), other-replies-refused, lengths-agree;
 -- clock-starts-at-zero, read-before-given (the link rule); accepted-replies, unanswered-comes-after-all;
--- begins-write-none, steps-write-eleven, withdraws-write-none, withdrawn-wrote-none (what alters the map).
+-- begins-write-none, steps-write-eleven, withdraws-write-none, withdrawn-wrote-none (what alters the map). Merges has
+-- those of merges that fit.
+pub mod Merges
 use mathlib.Core.Path.{_≡_, refl, ap}
 use mathlib.Core.Bool.{Bool, true, false, _&&_, or-false}
 use mathlib.Core.List.{List, [], _∷_, map}
