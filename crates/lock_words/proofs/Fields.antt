@@ -1,12 +1,13 @@
 -- Fields of a word under masks and shifts, over the place k and the width n: what a mask reads, clears, puts and tests.
--- Main laws: shifted-and-mask (read), bit-set and bit-cleared (one reader bit), field-put (a holder's field), masked-test and joined-test (Table I).
+-- Main laws: shifted-and-mask (read), bit-set and bit-cleared (one reader bit), field-put (a holder's field), field-some and field-none (who holds).
 use mathlib.Core.Path.{_≡_, refl, sym, ap, ap₂, _∙_}
-use mathlib.Core.Bool.{Bool, _&&_}
+use mathlib.Core.Logic.{_≢_}
+use mathlib.Core.Bool.{true, false, not}
 use Prim.Native.Nat.{ℕ, zero, suc, _+_, _-_, _*_, _/_, _%_, _^_, _<_}
-use native.Mathlib.Nat.{mod-lt, mod-eq-of-lt, add-mul, add-zero, zero-mul, zero-add}
+use native.Mathlib.Nat.{mod-lt, mod-eq-of-lt, add-mul, zero-mul, zero-add}
 use native.Mathlib.Omega.{arith}
 use lib.Bits.{bitAnd, bitOr, and-block, or-block, and-mask, and-zero-r, or-zero-r}
-use lib.Pow.{pow-pos, split, ones-split, ones-lt, shr-lt, shl-exact, mod-pow-add, shr-shr}
+use lib.Pow.{pow-pos, split, ones-split, ones-lt, shr-lt, shl-exact}
 use lib.Dec.{eqb, eqb·suc-zero, lit<}
 use borrow.Author.Tests.{eq-eqb, ne-eqb}
 use Rattle.model.specs.LockWords.{fieldOf, withField}
@@ -129,19 +130,13 @@ zero-product-test (suc a) k =
     ne-eqb (suc a * 2 ^ k) 0 (λ e. omega (arith, add-mul a 1 (2 ^ k), pow-pos k))
     ∙ sym (eqb·suc-zero a)
 
-zero-sum-test : (a b : ℕ) → eqb (a + b) 0 ≡ (eqb b 0 && eqb a 0)
-zero-sum-test a zero = ap (λ (x : ℕ). eqb x 0) (add-zero a)
-zero-sum-test a (suc b) = ne-eqb (a + suc b) 0 (λ e. omega arith) ∙ sym (ap (λ (x : Bool). x && eqb a 0) (eqb·suc-zero b))
-
--- `w & (ones << k) == 0` asks whether the field is zero.
-pub masked-test : (k n w : ℕ) → eqb (bitAnd w ((2 ^ n - 1) * 2 ^ k)) 0 ≡ eqb (fieldOf k n w) 0
+masked-test : (k n w : ℕ) → eqb (bitAnd w ((2 ^ n - 1) * 2 ^ k)) 0 ≡ eqb (fieldOf k n w) 0
 masked-test k n w = ap (λ (x : ℕ). eqb x 0) (masked-field k n w) ∙ zero-product-test (fieldOf k n w) k
 
--- Two fields side by side are zero together.
-pub joined-test : (k n j w : ℕ) → eqb (fieldOf k (j + n) w) 0 ≡ (eqb (fieldOf k n w) 0 && eqb (fieldOf (k + n) j w) 0)
-unfolding fieldOf
-joined-test k n j w =
-    ap (λ (x : ℕ). eqb x 0) (mod-pow-add (w / 2 ^ k) j n)
-    ∙ zero-sum-test (w / 2 ^ k / 2 ^ n % 2 ^ j * 2 ^ n) (w / 2 ^ k % 2 ^ n)
-    ∙ ap (λ (x : Bool). eqb (w / 2 ^ k % 2 ^ n) 0 && x) (zero-product-test (w / 2 ^ k / 2 ^ n % 2 ^ j) n)
-    ∙ ap (λ (x : ℕ). eqb (w / 2 ^ k % 2 ^ n) 0 && eqb (x % 2 ^ j) 0) (shr-shr w k n)
+-- `w & (ones << k) != 0`: somebody is in the field.
+pub field-some : (k n w : ℕ) → bitAnd w ((2 ^ n - 1) * 2 ^ k) ≢ 0 → not (eqb (fieldOf k n w) 0) ≡ true
+field-some k n w ne = ap not (sym (masked-test k n w) ∙ ne-eqb (bitAnd w ((2 ^ n - 1) * 2 ^ k)) 0 ne)
+
+-- `w & (ones << k) == 0`: nobody is.
+pub field-none : (k n w : ℕ) → bitAnd w ((2 ^ n - 1) * 2 ^ k) ≡ 0 → not (eqb (fieldOf k n w) 0) ≡ false
+field-none k n w e = ap not (sym (masked-test k n w) ∙ eq-eqb (bitAnd w ((2 ^ n - 1) * 2 ^ k)) 0 e)

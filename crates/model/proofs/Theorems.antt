@@ -4,6 +4,7 @@ pub mod Mixing
 pub mod Pairs
 pub mod RefusalOrder
 pub mod Gate
+pub mod GrantTable
 pub mod Calls
 pub mod AllSteps
 pub mod Meanings

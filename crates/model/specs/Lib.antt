@@ -28,6 +28,7 @@ pub mod Cases
 pub mod Progress
 pub mod Effects
 pub mod Holds
+pub mod GrantTable
 pub mod Consistency
 pub mod PagePlaces
 pub mod Merges

@@ -1,37 +1,51 @@
--- One mask a mode: the exclusive field, both holders' fields, and these with the reader bits (Fields.masked-test), which are zero together (Fields.joined-test).
-use mathlib.Core.Path.{ap, _∙_}
-use mathlib.Core.Bool.{Bool, _&&_}
-use lib.Dec.{eqb}
-use Rattle.lock_words.proofs.Fields.{masked-test, joined-test}
-use Rattle.model.specs.LockWords.{fieldOf, permits}
+-- Where none is held every request is granted, else Table I's entry beside the strongest lock held decides: the model's word-judged.
+use mathlib.Core.Path.{_≡_, refl, sym, _∙_}
+use mathlib.Core.Bool.{true}
+use mathlib.Core.Option.{Option, none, some}
+use Rattle.model.specs.declared.Mode.{Mode}
+use Rattle.model.specs.Holds.{tableOne}
+use Rattle.model.specs.GrantTable.{heldIn, strongest, grantedBeside}
+use Rattle.model.proofs.Theorems.GrantTable.{word-judged}
+use Rattle.lock_words.specs.declared.Held.the-variants.{None, In}
+use Rattle.lock_words.specs.HeldLock.{asHeld}
 use borrow.Author.Needs.{needs}
 use Rattle.lock_words.proofs.permits.Statement.{statement}
 use Rattle.lock_words.proofs.permits.Tie as tie
 
+none-granted : (m : Mode) (o : Option Mode) → asHeld o ≡ None → grantedBeside m o ≡ true
+unfolding asHeld grantedBeside
+none-granted m none e = refl
+none-granted m (some s) e = cc
+
+held-decides : (m s : Mode) (o : Option Mode) → asHeld o ≡ In s → grantedBeside m o ≡ tableOne m s
+unfolding asHeld grantedBeside
+held-decides m s none e = cc
+held-decides m s (some t) e = cc
+
+strongest-requires : tie.Need-strongest-requires
+strongest-requires c κs = search needs
+
 enum-told : tie.Need-enum-told
 enum-told c = search needs
 
-enum-told-2 : tie.Need-enum-told-2
-enum-told-2 c = search needs
+enum-known-held : tie.Need-enum-known-held
+enum-known-held c = search needs
 
-enum-told-3 : tie.Need-enum-told-3
-enum-told-3 c = search needs
+entry-requires : tie.Need-entry-requires
+entry-requires c κs = search needs
 
 returns : tie.Need-returns
-unfolding permits
-returns c = rw (c .enum-told .given .1) (masked-test 21 5 (c .before .before .args .w))
+returns c =
+    let a = c .before .before .before .args in
+    let e = c .before .before .strongest .ensures in
+    sym (word-judged (a .w) (a .m) ∙ none-granted (a .m) (strongest (heldIn (a .w))) (sym e ∙ c .enum-told .given .1))
 
 returns-2 : tie.Need-returns-2
-unfolding permits
 returns-2 c =
-    let w = c .before .before .args .w in
-    rw (c .enum-told2 .given .1) (masked-test 16 10 w ∙ joined-test 16 5 5 w)
-
-returns-3 : tie.Need-returns-3
-unfolding permits
-returns-3 c =
-    let w = c .before .before .args .w in
-    rw (c .enum-told3 .given .1) (masked-test 0 26 w ∙ joined-test 0 21 5 w ∙ ap (λ (x : Bool). x && eqb (fieldOf 21 5 w) 0) (joined-test 0 16 5 w))
+    let a = c .before .before .before .before .before .args in
+    let e = c .before .before .before .before .strongest .ensures in
+    let h = c .before .before .held .given in
+    c .entry .ensures ∙ sym (word-judged (a .w) (a .m) ∙ held-decides (a .m) (h .0 .0) (strongest (heldIn (a .w))) (sym e ∙ h .1))
 
 pub permits-spec : {M : Type 1} → statement M
-permits-spec = tie.close (tie.spec enum-told enum-told-2 enum-told-3 returns returns-2 returns-3)
+permits-spec = tie.close (tie.spec strongest-requires enum-told enum-known-held entry-requires returns returns-2)
