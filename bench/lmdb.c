@@ -10,7 +10,7 @@
 
 static MDB_env *environment;
 static MDB_dbi beads;
-static char folder[] = "/tmp/bench-lmdb-XXXXXX";
+static char folder[4096];
 
 const char *map_name(void)
 {
@@ -42,6 +42,8 @@ static void leave(void)
 
 static void make(void)
 {
+    const char *temporary = getenv("TMPDIR");
+    snprintf(folder, sizeof folder, "%s/bench-lmdb-XXXXXX", temporary != NULL ? temporary : P_tmpdir);
     if (mkdtemp(folder) == NULL || atexit(leave) != 0) {
         perror("LMDB: no temporary folder");
         exit(1);
