@@ -6,8 +6,9 @@ from pathlib import Path
 
 HERE = Path(__file__).resolve().parent
 ROOT = HERE.parent
-LIBRARY, PORT = 'the library', 'the port'
-COMPILE = ['cc', '-std=c11', '-D_GNU_SOURCE', '-O2', '-Wall', '-Wextra', '-Werror', f'-I{ROOT}/include', f'-I{HERE}', HERE / 'work.c']
+LIBRARY, C_PORT, RUST_PORT = 'the library', 'the C port', 'the Rust port'
+WARNED = ['cc', '-std=c11', '-Wall', '-Wextra', '-Werror', f'-I{ROOT}/include']
+COMPILE = [*WARNED, '-D_GNU_SOURCE', '-O2', f'-I{HERE}', HERE / 'work.c']
 # Those from Debian: the package that has the header, the contender's source, what is linked, and the name where it is not there.
 DEBIAN = [('libsqlite3-dev', 'sqlite.c', '-lsqlite3', 'SQLite'), ('liblmdb-dev', 'lmdb.c', '-llmdb', 'LMDB')]
 
@@ -64,9 +65,15 @@ def library(room, archive=None):
     return built(room, 'library', f'-DNAME="{LIBRARY}"', HERE / 'bead.c', archive)
 
 
-def port(room):
+def c_port(room):
+    """The C port, compiled as tests/comparison/build.rs does."""
+    output(*WARNED, '-O3', '-c', HERE / 'port.c', '-o', room / 'c_port.o')
+    return built(room, 'c-port', f'-DNAME="{C_PORT}"', HERE / 'bead.c', room / 'c_port.o')
+
+
+def rust_port(room):
     output('cargo', 'build', '-j1', '--offline', '--locked', '--release', '--quiet', '--lib', '--manifest-path', ROOT / 'tests/port/Cargo.toml', '--target-dir', room / 'cargo')
-    return built(room, 'port', f'-DNAME="{PORT}"', HERE / 'bead.c', room / 'cargo/release/libbead_port.a')
+    return built(room, 'rust-port', f'-DNAME="{RUST_PORT}"', HERE / 'bead.c', room / 'cargo/release/libbead_port.a')
 
 
 def standard(room, kind):
@@ -85,5 +92,5 @@ def debian(room, package, source, linked, name):
 def every(room, archive, say):
     """All contenders, in the table's order."""
     say('building the contenders')
-    pair = [library(room, archive), port(room)]
-    return pair + [standard(room, kind) for kind in ('hash', 'tree')] + [debian(room, *kind) for kind in DEBIAN]
+    indexes = [library(room, archive), c_port(room), rust_port(room)]
+    return indexes + [standard(room, kind) for kind in ('hash', 'tree')] + [debian(room, *kind) for kind in DEBIAN]

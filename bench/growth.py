@@ -1,6 +1,6 @@
-"""The picture docs/pictures/growth.svg: instructions an operation by keys in the file and by parties in turn, of the library and of the port."""
+"""The picture docs/pictures/growth.svg: instructions an operation by keys in the file and by parties in turn, of the library and of the C port."""
 from collections import namedtuple
-from contenders import LIBRARY, PORT, ROOT
+from contenders import C_PORT, LIBRARY, ROOT
 from svg import Picture, width_of
 
 PLACE = ROOT / 'docs/pictures/growth.svg'
@@ -53,8 +53,8 @@ def draw_panel(picture, panel):
 
 
 def draw_curve(picture, curve, grown):
-    """The port's line, broken; the library's, with dots; the words."""
-    picture.path([place(curve.panel, *point) for point in points(curve, grown[PORT])], f'{curve.line} dashed', arrow=False)
+    """The C port's line, broken; the library's, with dots; the words."""
+    picture.path([place(curve.panel, *point) for point in points(curve, grown[C_PORT])], f'{curve.line} dashed', arrow=False)
     corners = [place(curve.panel, *point) for point in points(curve, grown[LIBRARY])]
     picture.path(corners, curve.line, arrow=False)
     for x, y in corners:
@@ -63,8 +63,8 @@ def draw_curve(picture, curve, grown):
 
 
 def draw(grown):
-    """The picture, from what was counted of the library and of the port."""
-    picture = Picture('Instructions an operation', 'Two plots: by keys in the file and by parties in turn, for the library and for the plain port.')
+    """The picture, from what was counted of the library and of the C port."""
+    picture = Picture('Instructions an operation', 'Two plots: by keys in the file and by parties in turn, for the library and for the C port.')
     picture.text(24, 36, 'Instructions an operation', 17, 'ink bold')
     picture.lines(24, 57, SAYS, 12, 'soft', 17)
     for panel in (KEYS, PARTIES):
@@ -72,7 +72,7 @@ def draw(grown):
     for curve in CURVES:
         draw_curve(picture, curve, grown)
     x, y = 24, 88
-    for name, kind in ((LIBRARY, 'line'), (PORT, 'line dashed')):
+    for name, kind in ((LIBRARY, 'line'), (C_PORT, 'line dashed')):
         picture.path([(x, y), (x + 30, y)], kind, arrow=False)
         picture.text(x + 38, y + 4, name, 12, 'soft')
         x += 38 + width_of(name, 12) + 22

@@ -1,7 +1,7 @@
 """The table of docs/PERFORMANCE.md: made of measurements, put between its two markers there, and read again."""
 import re
 from pathlib import Path
-from contenders import LIBRARY, PORT, ROOT, output
+from contenders import C_PORT, LIBRARY, ROOT, output
 
 DOCUMENT = ROOT / 'docs/PERFORMANCE.md'
 MARKERS = '<!-- From here to the next marker: bench/run --write. -->\n', '<!-- The end of what bench/run writes. -->\n'
@@ -34,8 +34,8 @@ def block(unit, contenders, found, rows, as_words):
 
 
 def times_the_port(found, rows, middle):
-    """How many times the port's number the library's is."""
-    return line(['', 'library : port', *(f'{middle(found[LIBRARY][row]) / middle(found[PORT][row]):.2f}' for row in rows)])
+    """How many times the C port's number the library's is."""
+    return line(['', 'library : C port', *(f'{middle(found[LIBRARY][row]) / middle(found[C_PORT][row]):.2f}' for row in rows)])
 
 
 def counted(contenders, counts):

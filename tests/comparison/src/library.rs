@@ -1,4 +1,4 @@
-//! Libraries with the C face: the one that is linked, and the port's own. Holds this program's unsafe code.
+//! Libraries with the C face: the one that is linked, the C port of the benchmark, and the port's own. Holds this program's unsafe code.
 #![allow(unsafe_code)]
 
 use crate::callee::{code_reply, step_reply, Call, Callee, Reply};
@@ -54,59 +54,67 @@ type Withdraw = unsafe extern "C" fn(
     u32,
 ) -> u32;
 
-mod linked {
-    use super::{BeadReply, Party, Root};
+/// Declares the calls of a C face by these names.
+macro_rules! face {
+    ($name:ident: $format:ident, $begin:ident, $step:ident, $withdraw:ident) => {
+        mod $name {
+            use super::{BeadReply, Party, Root};
 
-    extern "C" {
-        pub fn bead_format(
-            root: *mut Root,
-            parties: *mut Party,
-            np: usize,
-            locks: *mut u32,
-            nl: usize,
-            pages: *mut u32,
-            ng: usize,
-            n: u32,
-            b: u32,
-            p: u32,
-            v: u32,
-            q: u32,
-        ) -> u32;
-        pub fn bead_begin(
-            root: *mut Root,
-            parties: *mut Party,
-            np: usize,
-            locks: *mut u32,
-            nl: usize,
-            pages: *mut u32,
-            ng: usize,
-            party: u32,
-            operation: u32,
-            key: u32,
-            setting: u32,
-        ) -> u32;
-        pub fn bead_step(
-            root: *mut Root,
-            parties: *mut Party,
-            np: usize,
-            locks: *mut u32,
-            nl: usize,
-            pages: *mut u32,
-            ng: usize,
-            party: u32,
-        ) -> BeadReply;
-        pub fn bead_withdraw(
-            root: *mut Root,
-            parties: *mut Party,
-            np: usize,
-            locks: *mut u32,
-            nl: usize,
-            pages: *mut u32,
-            ng: usize,
-            party: u32,
-        ) -> u32;
-    }
+            extern "C" {
+                pub fn $format(
+                    root: *mut Root,
+                    parties: *mut Party,
+                    np: usize,
+                    locks: *mut u32,
+                    nl: usize,
+                    pages: *mut u32,
+                    ng: usize,
+                    n: u32,
+                    b: u32,
+                    p: u32,
+                    v: u32,
+                    q: u32,
+                ) -> u32;
+                pub fn $begin(
+                    root: *mut Root,
+                    parties: *mut Party,
+                    np: usize,
+                    locks: *mut u32,
+                    nl: usize,
+                    pages: *mut u32,
+                    ng: usize,
+                    party: u32,
+                    operation: u32,
+                    key: u32,
+                    setting: u32,
+                ) -> u32;
+                pub fn $step(
+                    root: *mut Root,
+                    parties: *mut Party,
+                    np: usize,
+                    locks: *mut u32,
+                    nl: usize,
+                    pages: *mut u32,
+                    ng: usize,
+                    party: u32,
+                ) -> BeadReply;
+                pub fn $withdraw(
+                    root: *mut Root,
+                    parties: *mut Party,
+                    np: usize,
+                    locks: *mut u32,
+                    nl: usize,
+                    pages: *mut u32,
+                    ng: usize,
+                    party: u32,
+                ) -> u32;
+            }
+        }
+    };
 }
+
+face!(linked: bead_format, bead_begin, bead_step, bead_withdraw);
+face!(c_port: c_port_format, c_port_begin, c_port_step, c_port_withdraw);
 
 /// The four calls of a C face.
 pub struct Library {
@@ -124,6 +132,16 @@ impl Library {
             begin: linked::bead_begin,
             step: linked::bead_step,
             withdraw: linked::bead_withdraw,
+        }
+    }
+
+    /// The C port of the benchmark (bench/port.c).
+    pub fn c_port() -> Library {
+        Library {
+            format: c_port::c_port_format,
+            begin: c_port::c_port_begin,
+            step: c_port::c_port_step,
+            withdraw: c_port::c_port_withdraw,
         }
     }
 

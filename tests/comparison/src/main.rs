@@ -1,5 +1,6 @@
 //! Compares the compiled library that is linked with it: with stored transcripts, with the sequential model where operations run singly, with the book where
-//! parties run in any order, and with the plain port word by word. A line for each; exit status 1 at the first difference, or where something was never met.
+//! parties run in any order, and with the plain port word by word, as it does the C port. A line for each; exit status 1 at the first difference, or where something
+//! was never met.
 #![deny(unsafe_code)]
 
 mod at_rest;
@@ -17,7 +18,6 @@ mod transcripts;
 mod words;
 mod wrong;
 
-use callee::Callee;
 use library::Library;
 use options::Options;
 use part::{Outcome, Part};
@@ -56,16 +56,10 @@ fn replay(options: &Options) -> Outcome<()> {
 
 /// The parts asked for, each on a library of its own.
 fn compare(options: &Options) -> Outcome<()> {
-    let library = || -> Box<dyn Callee> {
-        match options.wrong() {
-            Some(wrong) => Box::new(wrong),
-            None => Box::new(Library::linked()),
-        }
-    };
     let parts: [Box<dyn Part>; 3] = [
-        Box::new(Singly::new(library())),
-        Box::new(Schedules::new(library())),
-        Box::new(Words::new(library())),
+        Box::new(Singly::new(options.library())),
+        Box::new(Schedules::new(options.library())),
+        Box::new(Words::new(options.library(), options.c_port())),
     ];
     for mut part in parts {
         if options.wants(part.name()) {

@@ -1,10 +1,12 @@
 //! The command line of the comparison.
 
+use crate::callee::Callee;
+use crate::library::Library;
 use crate::wrong::{Wrong, Wronged};
 use std::path::PathBuf;
 
 const USAGE: &str = "comparison [--transcripts DIR] [--part singly|schedules|words] [--seed N] [--calls N] [--session N] [--table yes]
-    [--spoil root|parties|locks|pages|reply|answer|setting|wait]";
+    [--spoil root|parties|locks|pages|reply|answer|setting|wait] [--spoil-c root|...]";
 
 pub struct Options {
     pub transcripts: Option<PathBuf>,
@@ -17,6 +19,7 @@ pub struct Options {
     /// Whether all that was met is printed, a row each.
     pub table: bool,
     spoil: Option<Wrong>,
+    spoil_c: Option<Wrong>,
 }
 
 impl Options {
@@ -29,6 +32,7 @@ impl Options {
             session: None,
             table: false,
             spoil: None,
+            spoil_c: None,
         };
         while let Some(name) = words.next() {
             let value = words.next().ok_or(USAGE)?;
@@ -53,6 +57,7 @@ impl Options {
             "--session" => self.session = Some(number()?),
             "--table" => self.table = value == "yes",
             "--spoil" => self.spoil = Some(Wrong::named(&value).ok_or(USAGE)?),
+            "--spoil-c" => self.spoil_c = Some(Wrong::named(&value).ok_or(USAGE)?),
             _ => return Err(USAGE.to_string()),
         }
         Ok(())
@@ -63,8 +68,20 @@ impl Options {
         self.part.as_deref().map_or(true, |wanted| wanted == part)
     }
 
-    /// The library with what is to be spoilt.
-    pub fn wrong(&self) -> Option<Wronged> {
-        self.spoil.map(|wrong| Wronged::new(wrong, self.seed))
+    /// The library, with what is to be spoilt.
+    pub fn library(&self) -> Box<dyn Callee> {
+        self.spoilt(Library::linked(), self.spoil)
+    }
+
+    /// The C port, with what is to be spoilt.
+    pub fn c_port(&self) -> Box<dyn Callee> {
+        self.spoilt(Library::c_port(), self.spoil_c)
+    }
+
+    fn spoilt(&self, library: Library, wrong: Option<Wrong>) -> Box<dyn Callee> {
+        match wrong {
+            Some(wrong) => Box::new(Wronged::new(library, wrong, self.seed)),
+            None => Box::new(library),
+        }
     }
 }

@@ -1,4 +1,4 @@
-//! The library with something wrong put into what it leaves or answers, so that each part of the comparison can be seen to fail.
+//! A library with something wrong put into what it leaves or answers, so that each part of the comparison can be seen to fail.
 
 use crate::callee::{Call, Callee, Reply};
 use crate::image::{Image, PART_NAMES};
@@ -47,9 +47,9 @@ pub struct Wronged {
 }
 
 impl Wronged {
-    pub fn new(wrong: Wrong, seed: u64) -> Wronged {
+    pub fn new(library: Library, wrong: Wrong, seed: u64) -> Wronged {
         Wronged {
-            library: Library::linked(),
+            library,
             wrong,
             waiting: false,
             random: Random::new(seed),

@@ -1,4 +1,4 @@
-//! Makes each call on both sides, on equal memory, and compares the reply and every word.
+//! Makes each call on the port and on every side held to it, on equal memory, and compares the reply and every word.
 
 use super::coverage::Coverage;
 use crate::callee::{Call, Callee, Port, Reply};
@@ -6,58 +6,81 @@ use crate::image::{Image, PART_NAMES};
 use crate::part::Outcome;
 use bead_port::memory::PARTY_WORDS;
 
-/// The two sides, their memory, and what was met.
+/// One that is held to the port: its name, what answers its calls, and its memory.
+struct Side {
+    name: &'static str,
+    callee: Box<dyn Callee>,
+    image: Image,
+}
+
+impl Side {
+    /// One call: what differs from the port's reply and the memory that it left, in words.
+    fn difference(&mut self, call: Call, reply: Reply, left: &Image) -> Option<String> {
+        let name = self.name;
+        let theirs = self.callee.call(&mut self.image, call);
+        if reply != theirs {
+            return Some(format!("{name}: reply {theirs:?}, port {reply:?}"));
+        }
+        let parts = self.image.parts().into_iter().zip(left.parts());
+        parts.zip(PART_NAMES).find_map(|((theirs, ours), part)| {
+            let (place, theirs, ours) = theirs.first_difference(ours)?;
+            Some(format!(
+                "{name}: {part} word {place}: {theirs}, port {ours}"
+            ))
+        })
+    }
+}
+
+/// The port with its memory, those held to it, and what was met.
 pub struct Comparison {
-    library: Box<dyn Callee>,
+    sides: Vec<Side>,
     port: Port,
     ours: Image,
-    theirs: Image,
     before: Image,
     pub coverage: Coverage,
     pub calls: u64,
 }
 
 impl Comparison {
-    pub fn new(library: Box<dyn Callee>) -> Comparison {
+    pub fn new(sides: Vec<(&'static str, Box<dyn Callee>)>) -> Comparison {
         let empty = Image::zero(0, 0, 0);
-        let (port, coverage) = (Port::default(), Coverage::new());
-        let (ours, theirs, before) = (empty.clone(), empty.clone(), empty);
+        let side = |(name, callee)| Side {
+            name,
+            callee,
+            image: empty.clone(),
+        };
         Comparison {
-            library,
-            port,
-            ours,
-            theirs,
-            before,
-            coverage,
+            sides: sides.into_iter().map(side).collect(),
+            port: Port::default(),
+            ours: empty.clone(),
+            before: empty.clone(),
+            coverage: Coverage::new(),
             calls: 0,
         }
     }
 
-    /// The memory, which both sides have alike.
+    /// The memory, which all have alike.
     pub fn memory(&self) -> &Image {
         &self.ours
     }
 
-    /// Lends both sides this memory.
+    /// Lends all of them this memory.
     pub fn lend(&mut self, image: &Image) {
         self.ours.copy_from(image);
-        self.theirs.copy_from(image);
+        for side in &mut self.sides {
+            side.image.copy_from(image);
+        }
     }
 
-    /// One call on both sides.
+    /// One call on each.
     pub fn call(&mut self, call: Call) -> Outcome<Reply> {
         self.calls += 1;
         self.before.copy_from(&self.ours);
         let reply = self.port.call(&mut self.ours, call);
         self.count(call, reply);
-        let theirs = self.library.call(&mut self.theirs, call);
-        if reply != theirs {
-            return Err(format!(
-                "{call:?}: reply: port {reply:?}, library {theirs:?}{}",
-                self.told()
-            ));
-        }
-        match self.first_difference() {
+        let left = &self.ours;
+        let mut sides = self.sides.iter_mut();
+        match sides.find_map(|side| side.difference(call, reply, left)) {
             Some(difference) => Err(format!("{call:?}: {difference}{}", self.told())),
             None => self.test_unchanged(call, reply),
         }
@@ -83,23 +106,6 @@ impl Comparison {
             }
             _ => 0,
         }
-    }
-
-    fn first_difference(&self) -> Option<String> {
-        let parts = self
-            .ours
-            .parts()
-            .into_iter()
-            .zip(self.theirs.parts())
-            .zip(PART_NAMES);
-        parts
-            .filter_map(|((ours, theirs), name)| {
-                let (place, ours, theirs) = ours.first_difference(theirs)?;
-                Some(format!(
-                    "{name} word {place}: port {ours}, library {theirs}"
-                ))
-            })
-            .next()
     }
 
     /// "Left as it was: all lent memory" where refused; "waiting (no word changes)".

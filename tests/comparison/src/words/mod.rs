@@ -1,4 +1,4 @@
-//! Every call on the library and on the plain port, on equal memory that may be sound, altered or crafted: the reply and every word are compared.
+//! Every call on the library, on the C port and on the plain port, on equal memory that may be sound, altered or crafted: the reply and every word are compared.
 
 mod alter;
 mod comparison;
@@ -22,9 +22,10 @@ pub struct Words {
 }
 
 impl Words {
-    pub fn new(library: Box<dyn Callee>) -> Words {
+    pub fn new(library: Box<dyn Callee>, c_port: Box<dyn Callee>) -> Words {
+        let sides = vec![("library", library), ("C port", c_port)];
         Words {
-            comparison: Comparison::new(library),
+            comparison: Comparison::new(sides),
         }
     }
 }
@@ -61,7 +62,7 @@ impl Part for Words {
         let rarest = rows.iter().min_by_key(|(_, count)| *count);
         let rarest = rarest.map_or(String::new(), |(what, count)| format!("{what} ({count})"));
         format!(
-            "as the port, {}; {} things met, the rarest {rarest}",
+            "library and C port as the port, {}; {} things met, the rarest {rarest}",
             self.comparison.coverage.told(),
             rows.len()
         )
