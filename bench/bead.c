@@ -11,6 +11,7 @@ static uint32_t locks[BEAD_LOCK_ROW(P)], pages[BEAD_PAGE_ROW(P, V, Q)];
 #define LENT &root, parties, BEAD_PARTY_ROW(Q), locks, BEAD_LOCK_ROW(P), pages, BEAD_PAGE_ROW(P, V, Q)
 
 const char *map_name(void) { return NAME; }
+const char *map_locks(void) { return "root and chains"; }
 
 void map_empty(void)
 {

@@ -9,11 +9,18 @@ ROOT = HERE.parent
 LIBRARY, C_PORT, RUST_PORT = 'the library', 'the C port', 'the Rust port'
 WARNED = ['cc', '-std=c11', '-Wall', '-Wextra', '-Werror', f'-I{ROOT}/include']
 COMPILE = [*WARNED, '-D_GNU_SOURCE', '-O2', f'-I{HERE}', HERE / 'work.c']
-# Those from Debian: the package that has the header, the contender's source, what is linked, and the name where it is not there.
-DEBIAN = [('libsqlite3-dev', 'sqlite.c', '-lsqlite3', 'SQLite'), ('liblmdb-dev', 'lmdb.c', '-llmdb', 'LMDB')]
+# Those from Debian: the package that has the header, the contender's source, its name where it is not there, what is linked, and what the compiler is told.
+DEBIAN = [
+    ('libsqlite3-dev', 'sqlite.c', 'SQLite', '-lsqlite3'),
+    ('liblmdb-dev', 'lmdb.c', 'LMDB', '-llmdb'),
+    ('libdb5.3-dev', 'berkeley.c', 'Berkeley DB, with its locks', '-ldb-5.3', '-DLOCKED=1'),
+    ('libdb5.3-dev', 'berkeley.c', 'Berkeley DB, without its locks', '-ldb-5.3', '-DLOCKED=0'),
+    ('libtdb-dev', 'tdb.c', 'tdb', '-ltdb'),
+    ('libgdbm-dev', 'gdbm.c', 'GDBM', '-lgdbm'),
+]
 
-# A contender: its name, and its program; None where it could not be had.
-Contender = namedtuple('Contender', 'name program')
+# A contender: its name, what it locks, and its program; None where it could not be had.
+Contender = namedtuple('Contender', 'name locks program')
 
 
 class Failed(Exception):
@@ -49,10 +56,10 @@ def need(command, package):
 
 
 def built(room, name, *words):
-    """A contender's program, and its own word for its name."""
+    """A contender's program, and its own words for its name and for what it locks."""
     program = room / name
     output(*COMPILE, *words, '-o', program)
-    return Contender(output(program, 'name').strip(), program)
+    return Contender(*output(program, 'name').splitlines(), program)
 
 
 def library(room, archive=None):
@@ -83,10 +90,10 @@ def standard(room, kind):
     return built(room, kind, archive)
 
 
-def debian(room, package, source, linked, name):
+def debian(room, package, source, name, linked, *told):
     if not install(package):
-        return Contender(f'{name} (its package {package} did not install)', None)
-    return built(room, Path(source).stem, HERE / source, linked)
+        return Contender(f'{name} (its package {package} did not install)', '', None)
+    return built(room, '-'.join([Path(source).stem, *told]), *told, HERE / source, linked)
 
 
 def every(room, archive, say):

@@ -19,6 +19,9 @@ const char *map_name(void)
     return name;
 }
 
+/* A find is entered in the table of readers, and locks nothing. */
+const char *map_locks(void) { return "the file, to write"; }
+
 static void expect(int code)
 {
     if (code != MDB_SUCCESS) {

@@ -18,8 +18,9 @@ struct operation {
 
 static inline int same(struct answer a, struct answer b) { return a.number == b.number && a.setting == b.setting; }
 
-/* The contender's name in the table. */
+/* The contender's name in the table, and what an operation locks there. */
 const char *map_name(void);
+const char *map_locks(void);
 
 /* Makes the map, or empties it. */
 void map_empty(void);

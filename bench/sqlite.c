@@ -17,6 +17,9 @@ const char *map_name(void)
     return name;
 }
 
+/* A mutex, where it is built for threads. There is no file to lock. */
+const char *map_locks(void) { return sqlite3_threadsafe() ? "the connection" : "nothing"; }
+
 static void expect(int good)
 {
     if (!good) {

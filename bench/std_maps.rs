@@ -84,6 +84,11 @@ pub extern "C" fn map_name() -> *const u8 {
 }
 
 #[no_mangle]
+pub extern "C" fn map_locks() -> *const u8 {
+    b"nothing\0".as_ptr()
+}
+
+#[no_mangle]
 pub extern "C" fn map_empty() {
     *map() = Map::default();
 }

@@ -6,6 +6,8 @@ from contenders import C_PORT, LIBRARY, ROOT, output
 DOCUMENT = ROOT / 'docs/PERFORMANCE.md'
 MARKERS = '<!-- From here to the next marker: bench/run --write. -->\n', '<!-- The end of what bench/run writes. -->\n'
 NONE = '–'
+# The column that says what a contender locks.
+LOCKS = 'locks'
 
 
 def number(value):
@@ -21,7 +23,7 @@ def line(cells):
 
 
 def head(rows):
-    return [line(['', '', *rows]), line(['---'] * (len(rows) + 2))]
+    return [line(['', '', LOCKS, *rows]), line(['---'] * (len(rows) + 3))]
 
 
 def block(unit, contenders, found, rows, as_words):
@@ -29,13 +31,14 @@ def block(unit, contenders, found, rows, as_words):
     lines = []
     for contender in contenders:
         numbers = found.get(contender.name, {})
-        lines.append(line(['' if lines else unit, contender.name, *(as_words(numbers[row]) if row in numbers else NONE for row in rows)]))
+        cells = (as_words(numbers[row]) if row in numbers else NONE for row in rows)
+        lines.append(line(['' if lines else unit, contender.name, contender.locks, *cells]))
     return lines
 
 
 def times_the_port(found, rows, middle):
     """How many times the C port's number the library's is."""
-    return line(['', 'library : C port', *(f'{middle(found[LIBRARY][row]) / middle(found[C_PORT][row]):.2f}' for row in rows)])
+    return line(['', 'library : C port', '', *(f'{middle(found[LIBRARY][row]) / middle(found[C_PORT][row]):.2f}' for row in rows)])
 
 
 def counted(contenders, counts):
@@ -80,8 +83,8 @@ def put(table):
 def written():
     """The library's instructions as the table has them, by row."""
     text = DOCUMENT.read_text()
-    names = re.search(r'^\|  \|  \| (.*) \|$', text, re.M)
-    numbers = re.search(rf'^\| instructions \| {LIBRARY} \| (.*) \|$', text, re.M)
+    names = re.search(rf'^\|  \|  \| {LOCKS} \| (.*) \|$', text, re.M)
+    numbers = re.search(rf'^\| instructions \| {LIBRARY} \| [^|]* \| (.*) \|$', text, re.M)
     if not names or not numbers:
         return {}
     return dict(zip(names[1].split(' | '), map(int, numbers[1].replace(',', '').split(' | '))))

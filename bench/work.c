@@ -1,6 +1,6 @@
 /* The benchmark's work, the same for every contender (bench/map.h). A row is a list of operations, each with the answer that a plain map gives; a contender that
  * answers otherwise ends the program. What comes before a row's own operations brings the map to where they begin.
- *   PROGRAM name           prints the contender's name
+ *   PROGRAM name           prints the contender's name, and what it locks
  *   PROGRAM time SECONDS   prints a line a row: its name, and nanoseconds of processor time an operation; each row is repeated for so long
  *   PROGRAM count          performs each row once; under callgrind it dumps each by itself, with its name and how many operations it has
  *   PROGRAM growth         the same for the points of the picture: kind, keys, parties, and how many */
@@ -186,7 +186,7 @@ int main(int many, char **words)
     const char *task = many > 1 ? words[1] : "";
     double seconds = many == 3 ? atof(words[2]) : 0;
     if (many == 2 && strcmp(task, "name") == 0)
-        puts(map_name());
+        printf("%s\n%s\n", map_name(), map_locks());
     else if (many == 2 && strcmp(task, "growth") == 0 && map_in_turn != NULL)
         growth();
     else if (many == 2 && strcmp(task, "count") == 0) {
