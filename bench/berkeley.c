@@ -1,6 +1,6 @@
-/* Berkeley DB as a contender (bench/map.h): its hash file, a linear hash file as the index is, in a cache that holds all
- * of it; no file on the disk, no log, no transaction. Where LOCKED is 1 its environment has the lock manager, and every
- * operation locks the pages that it reads and writes; where it is 0, nothing is locked. */
+/* Berkeley DB as a contender (bench/map.h): its hash file, a linear hash file as the index is, in a cache that holds
+ * all of it; no file on the disk, no log, no transaction. Where LOCKED is 1 its environment has the lock manager, and
+ * every operation locks the pages that it reads and writes; where it is 0, nothing is locked. */
 #include <db.h>
 #include <stdio.h>
 #include <stdlib.h>

@@ -62,14 +62,17 @@ def built(room, name, *words):
     return Contender(*output(program, 'name').splitlines(), program)
 
 
-def library(room, archive=None):
-    """The library: the archive given, else the one that tests/staticlib builds, which says on standard error what it does."""
-    if archive is None:
-        built_now = subprocess.run([ROOT / 'tests/staticlib'], stdout=subprocess.PIPE, text=True)
-        if built_now.returncode != 0:
-            raise Failed('tests/staticlib built no library')
-        archive = built_now.stdout.split()[-1]
-    return built(room, 'library', f'-DNAME="{LIBRARY}"', HERE / 'bead.c', archive)
+def archive():
+    """The library's archive as tests/staticlib builds it, which says on standard error what it does."""
+    built_now = subprocess.run([ROOT / 'tests/staticlib'], stdout=subprocess.PIPE, text=True)
+    if built_now.returncode != 0:
+        raise Failed('tests/staticlib built no library')
+    return built_now.stdout.split()[-1]
+
+
+def library(room, given=None):
+    """The library: the archive given, else its own."""
+    return built(room, 'library', f'-DNAME="{LIBRARY}"', HERE / 'bead.c', given or archive())
 
 
 def c_port(room):
@@ -96,8 +99,8 @@ def debian(room, package, source, name, linked, *told):
     return built(room, '-'.join([Path(source).stem, *told]), *told, HERE / source, linked)
 
 
-def every(room, archive, say):
+def every(room, given, say):
     """All contenders, in the table's order."""
     say('building the contenders')
-    indexes = [library(room, archive), c_port(room), rust_port(room)]
+    indexes = [library(room, given), c_port(room), rust_port(room)]
     return indexes + [standard(room, kind) for kind in ('hash', 'tree')] + [debian(room, *kind) for kind in DEBIAN]

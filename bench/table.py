@@ -69,14 +69,20 @@ def whole(contenders, times, counts, turns):
     return '\n'.join([*timed(contenders, times), *counted([each for each in contenders if each.program], counts), '', of_turns(turns), machine(), ''])
 
 
-def put(table):
-    """Puts the table in its place."""
-    first, last = MARKERS
-    before, _, rest = DOCUMENT.read_text().partition(first)
+def put_in(text, table, markers):
+    """The text with a table between two markers; None where it has not both."""
+    first, last = markers
+    before, _, rest = text.partition(first)
     _, marker, after = rest.partition(last)
-    if not marker:
+    return f'{before}{first}\n{table}\n{last}{after}' if marker else None
+
+
+def put(table):
+    """Puts the table in its place: whether there is one."""
+    text = put_in(DOCUMENT.read_text(), table, MARKERS)
+    if text is None:
         return False
-    DOCUMENT.write_text(f'{before}{first}\n{table}\n{last}{after}')
+    DOCUMENT.write_text(text)
     return True
 
 

@@ -14,8 +14,11 @@
  *
  * What the caller sees to, since no call can: each pointer leads to as many records or words as its length says,
  * aligned as its type asks, and is not null; the four parts do not overlap; and nobody else reads or writes them
- * during a call, so parties that run as threads call under one mutex. Most calls need under 2 KB of stack; the most
- * that one was measured to need is 471 KB, on the longest chain that can be lent (docs/PERFORMANCE.md).
+ * during a call, so parties that run as threads call under one mutex.
+ *
+ * On chains of at most four pages no call was measured to take more than 12,312 bytes of stack (step 17); step 3,
+ * which every operation performs, takes 8,936. On the longest chain that can be lent no call takes more than 479,688
+ * bytes (step 17). docs/PERFORMANCE.md has every call.
  *
  * Link with libbead.a (x86-64 Linux), which tests/staticlib builds. */
 #ifndef BEAD_INDEX_H
