@@ -5,7 +5,8 @@
  * little later, the find has taken its decisive step; it can no longer be withdrawn, and is stepped to its end.
  *
  * Build and run it from the root of the repository:
- *     cc -std=c11 -Iinclude examples/closed_preview.c "$(tests/staticlib)" -o closed_preview && ./closed_preview */
+ *     library=$(tests/staticlib) && cc -std=c11 -Iinclude examples/closed_preview.c "$library" -o closed_preview
+ *     ./closed_preview */
 #include <stdbool.h>
 #include <stdint.h>
 #include <stdio.h>

@@ -6,7 +6,7 @@
  * comes, and who waits.
  *
  * Build and run it from the root of the repository:
- *     cc -std=c11 -Iinclude examples/first.c "$(tests/staticlib)" -o first && ./first */
+ *     library=$(tests/staticlib) && cc -std=c11 -Iinclude examples/first.c "$library" -o first && ./first */
 #include <stdbool.h>
 #include <stdint.h>
 #include <stdio.h>

@@ -162,13 +162,14 @@ BEAD_ASSERT_BYTES(struct bead_reply, 20);
  * Each is lent the same four parts by seven arguments: the root record; the row of party's records and how many they
  * are; the row of lock words and how many; the row of page words and how many. */
 
-/* Makes an empty file of the sizes N b P V Q. What the memory held before does not matter.
+/* Makes an empty file of the sizes N b P V Q, given last and in this order. What the memory held before does not
+ * matter.
  * Answers BEAD_OK, or refuses, tested in this order:
  *   BEAD_SIZE_REFUSED    a size given is outside its limits
  *   BEAD_LENGTH_REFUSED  a length is not the one that the sizes given ask for */
 uint32_t bead_format(struct bead_root *root, struct bead_party *party_row, size_t parties, uint32_t *locks,
-                     size_t lock_words, uint32_t *pages, size_t page_words, uint32_t N, uint32_t b, uint32_t P,
-                     uint32_t V, uint32_t Q);
+                     size_t lock_words, uint32_t *pages, size_t page_words, uint32_t originals, uint32_t capacity,
+                     uint32_t primaries, uint32_t overflow, uint32_t party_count);
 
 /* Begins an operation (enum bead_operation) on a key for a party; parties are numbered from 0. Key and setting may be
  * any numbers; the setting is an insert's, and that of a find or a delete is ignored. It writes that party's record
