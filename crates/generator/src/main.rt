@@ -1,11 +1,14 @@
 // The program generator (document 02, change 3): "A generator prints the table, one decimal a line."
-// Main statement: put_table puts the lines of the table of the definitions, of which the constant in crates/mixing is proved to be the rows. main writes these bytes; what is written no contract can say.
+// Main statement: put_table puts the lines of the table of the definitions, which are those of the constant that
+// `mixing::table` gives. main writes these bytes; what is written no contract can say.
 
 ghost use mathlib.Core.Path.{_≡_};
 ghost use Prim.Native.Nat.{_*_, _≤_};
 ghost use lib.ListN.{length, take};
 ghost use lib.Seq.{sets};
 ghost use Rattle.model.specs.Mixing.{nextWord, outputs, tableWords, table};
+ghost use Rattle.mixing.specs.Places.{wordsOf};
+ghost use Rattle.mixing.specs.Constant.{constant};
 ghost use Rattle.generator.specs.Printed.{lineBytes, linesOf};
 use libc::STDOUT_FILENO;
 
@@ -41,10 +44,12 @@ fn put_outputs(count: usize, x: u32, out: &mut [u8]) -> usize
     at
 }
 
-// Puts the table, one decimal a line, at the front of `out`; the place behind it.
+// Puts the table, one decimal a line, at the front of `out`; the place behind it. The lines are those of the constant:
+// "the constant in the index is shown to equal what it prints".
 fn put_table(out: &mut [u8]) -> usize
     requires { ⌜ tableWords * lineBytes ≤ length (now out) ⌝ }
     ensures { λ r. ⌜ (r ≤ length (now (out .exit))) × (take r (now (out .exit)) ≡ linesOf table) ⌝ }
+    ensures { λ r. ⌜ take r (now (out .exit)) ≡ linesOf (wordsOf constant) ⌝ }
 {
     put_outputs(TABLE_WORDS, SEED, out)
 }

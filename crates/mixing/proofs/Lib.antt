@@ -1,2 +1,4 @@
--- Laws that the proofs of this crate share.
-pub mod Words
+-- Proofs of mixed keys.
+pub mod Arms
+pub mod Joined
+pub mod Made

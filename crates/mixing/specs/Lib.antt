@@ -1,0 +1,3 @@
+-- The constant table and its places.
+pub mod Places
+pub mod Constant
