@@ -3,8 +3,8 @@
  *
  * A call runs on a stack of its own, filled with a pattern; the lowest word that is altered says how far down it went,
  * and what an empty call of the same parameters takes is taken off. Every step is called on crafted memory in all the
- * ways below, and the calls that perform it count. In crafted memory the free list may share the pages of a chain, so
- * that a chain of all the pages there are can be built anew. */
+ * ways below, of which one at least must perform it. There the free list may share the pages of a chain, so that a
+ * chain of all the pages there are can be built anew. */
 #include <stdio.h>
 #include <stdlib.h>
 #include <string.h>
@@ -119,11 +119,12 @@ enum {
     BEHIND,    /* how far lev is below the chain's local level */
     SHARE,     /* the overflow pages are in the chain, in the other chain, or half in each */
     LAST,      /* how many records the last page of a chain has, less one */
+    ROUND,     /* whether the last page links to the first overflow page: damage */
     SPREAD,    /* how far a chain's keys are apart: with it, which of them stay at a split */
     FREE,      /* whether pages are free */
     OLD,       /* whether there is an old link: the chain's first overflow page */
     OWED,      /* what is owed */
-    CHANGED,   /* whether the answer so far is that of a change */
+    ANSWER,    /* the answer so far: that of a change, or no page */
     ROOT,      /* level and next: some chains, all of them, the first alone */
     HELD,      /* whether the party holds every lock */
     WAYS
@@ -139,11 +140,12 @@ static const struct {
     [BEHIND] = {2, AT(6)},
     [SHARE] = {3, AT(10) | AT(11) | AT(14) | AT(17) | AT(26) | AT(29)},
     [LAST] = {B, AT(10) | AT(17) | AT(26)},
+    [ROUND] = {2, AT(10) | AT(11) | AT(14) | AT(17) | AT(26) | AT(29)},
     [SPREAD] = {4, AT(17)},
     [FREE] = {2, AT(10) | AT(11) | AT(14) | AT(17) | AT(29)},
     [OLD] = {2, ALL & ~(AT(12) - 1)},
     [OWED] = {4, AT(12) | AT(14)},
-    [CHANGED] = {2, AT(12)},
+    [ANSWER] = {2, AT(12)},
     [ROOT] = {3, AT(16) | AT(20) | AT(21) | AT(24) | AT(27)},
     [HELD] = {2, ALL},
 };
@@ -164,11 +166,11 @@ static uint32_t *page_at(uint32_t number) { return lent.pages + BEAD_PAGE_WORDS 
 /* A chain with so many overflow pages, from a link on: its last key. The keys of two chains all differ. */
 static uint32_t put_chain(const uint32_t *way, uint32_t chain, uint32_t link, uint32_t overflow)
 {
-    uint32_t *page = page_at(chain), key = chain;
+    uint32_t *page = page_at(chain), key = chain, end = way[ROUND] && overflow ? link : 0;
     page[PAGE_LEVEL] = LEVEL + 1;
     for (;; overflow--, page = page_at(link++ - 1)) {
         page[PAGE_COUNT] = overflow ? B : 1 + way[LAST];
-        page[PAGE_LINK] = overflow ? link : 0;
+        page[PAGE_LINK] = overflow ? link : end;
         for (uint32_t i = 0; i < page[PAGE_COUNT]; i++, key += P << way[SPREAD])
             page[PAGE_RECORDS + 2 * i] = key;
         if (overflow == 0)
@@ -196,7 +198,7 @@ static void put_party(const uint32_t *way, uint32_t step)
     me->other = merges ? chains - 1 : chains;
     me->old = way[OLD] ? P + 1 : 0;
     if (step >= 12)
-        me->answer = way[CHANGED] ? BEAD_NO_PAGE : operation == BEAD_INSERT ? BEAD_INSERTED : BEAD_DELETED;
+        me->answer = way[ANSWER] ? BEAD_NO_PAGE : operation == BEAD_INSERT ? BEAD_INSERTED : BEAD_DELETED;
 }
 
 /* Memory with the party before a step, its overflow pages in chains. */
@@ -223,34 +225,36 @@ static void craft(const uint32_t *way, uint32_t step, uint32_t overflow)
 
 static size_t max(size_t a, size_t b) { return a > b ? a : b; }
 
-/* The most that a call takes in any way at a step, with so many overflow pages; 0 where none performs it. */
-static size_t most(uint32_t step, uint32_t overflow)
+/* The most that a call takes in any way at a step, with so many overflow pages. Refused and waiting calls count too;
+ * one call at least must perform the step. */
+static size_t most(const char *name, uint32_t step, uint32_t overflow)
 {
-    uint32_t way[WAYS] = {0};
+    uint32_t way[WAYS] = {0}, performed = 0;
     size_t found = 0;
     do {
         craft(way, step, overflow);
         if (call == BEGIN)
             lent.parties[PARTY].operation = BEAD_IDLE;
-        size_t bytes = bytes_of(&library);
-        if (reply.refusal == BEAD_OK && reply.outcome != BEAD_WAITING && bytes > found)
-            found = bytes;
+        found = max(found, bytes_of(&library));
+        performed += reply.refusal == BEAD_OK && reply.outcome != BEAD_WAITING;
     } while (next_way(way, step));
+    if (performed == 0) {
+        fprintf(stderr, "stack: no way to call %s at step %u performs it\n", name, (unsigned)step);
+        exit(1);
+    }
     return found;
 }
 
-/* Prints a call's line: the most from a step to another. */
+/* Prints a call's line: the most from a step to another. No withdraw comes before step 9: a find is decided there. */
 static void print(const char *name, uint32_t first, uint32_t last)
 {
     size_t alone = bytes_of(&empty), on_short = 0, on_longest = 0;
     for (uint32_t step = first; step <= last; step++) {
+        if (call == WITHDRAW && step == 9)
+            continue;
         for (uint32_t overflow = 0; overflow < SHORT; overflow++)
-            on_short = max(on_short, most(step, overflow));
-        on_longest = max(on_longest, most(step, V));
-    }
-    if (on_short == 0 || on_longest == 0) {
-        fprintf(stderr, "stack: %s was never performed\n", name);
-        exit(1);
+            on_short = max(on_short, most(name, step, overflow));
+        on_longest = max(on_longest, most(name, step, V));
     }
     printf("%s %zu %zu\n", name, on_short - alone, on_longest - alone);
 }
