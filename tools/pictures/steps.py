@@ -1,6 +1,6 @@
 """The thirty steps as an automaton: a lane a group of steps, a box a step with the words of docs/STEPS.md and its locks, an arrow wherever one step leads to another."""
 from locks import TALL, plate, plate_width
-from step_table import STEPS, WITHDRAWN, compare
+from step_table import read_steps
 from svg import Picture, width_of, wrapped
 from wrong import Wrong
 
@@ -13,7 +13,6 @@ COLUMNS, WIDE, INSET = (36, 262, 480, 690), 184, 8
 WORDS, PITCH, SIZE = WIDE - 41, 14, 11.5
 TOP, GAP, HEAD = 221, 24, 66
 DECISIVE = {6, 10, 11}
-NUMBERED = {step.number: step for step in STEPS}
 
 
 def plates_of(step):
@@ -37,24 +36,24 @@ def plate_lines(step):
     return lines if lines[0] else []
 
 
-def box_height(step, rows):
-    lines = max(len(wrapped(rows[step.number], SIZE, WORDS)), 3 if step.ends else 1)
+def box_height(step):
+    lines = max(len(wrapped(step.words, SIZE, WORDS)), 3 if step.ends else 1)
     return 16 + lines * PITCH + len(plate_lines(step)) * (TALL + 3)
 
 
 class Places:
-    """Where each box is: rows are as high as their highest box."""
-    def __init__(self, rows):
-        self.row = {}
+    """Where each step's box is: rows are as high as their highest box."""
+    def __init__(self, steps):
+        self.steps, self.row, self.lane = steps, {}, {step.number: step.lane for step in steps}
         for lane, (_, _, _, first) in LANES.items():
-            for k, step in enumerate(step for step in STEPS if step.lane == lane):
+            for k, step in enumerate(step for step in steps if step.lane == lane):
                 self.row[step.number] = first + k
-        self.tall = [max(box_height(step, rows) for step in STEPS if self.row[step.number] == row) for row in range(8)]
+        self.tall = [max(box_height(step) for step in steps if self.row[step.number] == row) for row in range(8)]
         self.top = [TOP + sum(self.tall[:row]) + GAP * row for row in range(8)]
 
     def box(self, number):
         """Left, top, right and bottom of a step's box."""
-        x, row = COLUMNS[LANES[NUMBERED[number].lane][2]], self.row[number]
+        x, row = COLUMNS[LANES[self.lane[number]][2]], self.row[number]
         return x, self.top[row], x + WIDE, self.top[row] + self.tall[row]
 
     def middle(self, number):
@@ -66,19 +65,19 @@ class Places:
 
 def draw_lane(picture, places, lane):
     title, who, column, first = LANES[lane]
-    numbers = [step.number for step in STEPS if step.lane == lane]
+    numbers = [step.number for step in places.steps if step.lane == lane]
     x, y, bottom = COLUMNS[column] - INSET, places.box(numbers[0])[1] - HEAD, places.box(numbers[-1])[3] + 10
     picture.rect(x, y, WIDE + 2 * INSET, bottom - y, 'band', 8)
     picture.text(x + 12, y + 22, title, 15, 'ink bold')
     picture.text(x + 12, y + 38, who, 11.5, 'soft')
 
 
-def draw_box(picture, places, step, rows):
+def draw_box(picture, places, step):
     x, y, right, bottom = places.box(step.number)
     picture.rect(x, y, right - x, bottom - y, 'box')
     picture.circle(x + 17, y + 17, 11, 'accent' if step.number in DECISIVE else 'number')
     picture.text(x + 17, y + 21, str(step.number), 12, 'on-number bold', 'middle')
-    picture.lines(x + 34, y + 19, wrapped(rows[step.number], SIZE, WORDS), SIZE, 'ink', PITCH)
+    picture.lines(x + 34, y + 19, wrapped(step.words, SIZE, WORDS), SIZE, 'ink', PITCH)
     lines = plate_lines(step)
     for k, line in enumerate(lines):
         at = x + 6
@@ -86,7 +85,7 @@ def draw_box(picture, places, step, rows):
             at += plate(picture, at, bottom - 5 - (len(lines) - k) * (TALL + 3) + 2, lock, form) + 4
     if step.ends:
         draw_end(picture, x + 17, y + 40)
-    if step.number in WITHDRAWN:
+    if step.withdrawn:
         draw_back(picture, right - 10, bottom - 10)
 
 
@@ -128,9 +127,9 @@ def routes(places):
 def draw_arrows(picture, places):
     ways = routes(places)
     drawn = {pair for pairs, _ in ways for pair in pairs}
-    for step in STEPS:
+    for step in places.steps:
         for to in step.to:
-            if to == step.number + 1 and NUMBERED[to].lane == step.lane:
+            if to == step.number + 1 and places.lane[to] == step.lane:
                 picture.path(straight(step.number, to, places))
             elif (step.number, to) not in drawn:
                 raise Wrong(f'the picture of the steps has no arrow from {step.number} to {to}')
@@ -167,13 +166,12 @@ def draw_legend(picture):
 
 
 def draw(root):
-    rows = compare(root)
-    places = Places(rows)
+    places = Places(read_steps(root))
     picture = Picture('The thirty steps and the locks at each', 'Find goes by steps 1 to 9, insert by 1 to 8 and 10 to 22, delete by 1 to 8, 10 to 14 and 23 to 30. An operation can be withdrawn before 1 to 8, 10 and 11.')
     draw_legend(picture)
     for lane in LANES:
         draw_lane(picture, places, lane)
-    for step in STEPS:
-        draw_box(picture, places, step, rows)
+    for step in places.steps:
+        draw_box(picture, places, step)
     draw_arrows(picture, places)
     return picture.document(places.bottom() + 34)

@@ -21,3 +21,4 @@ pub mod Reading
 pub mod FreeList
 pub mod Format
 pub mod Retreat
+pub mod StepTable

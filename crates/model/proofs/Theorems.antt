@@ -7,5 +7,6 @@ pub mod Gate
 pub mod GrantTable
 pub mod Calls
 pub mod AllSteps
+pub mod Answering
 pub mod Meanings
 pub mod Merges

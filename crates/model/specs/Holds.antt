@@ -6,6 +6,7 @@ use mathlib.Core.Bool.{Bool, true, false, cond, not, _&&_, _||_}
 use mathlib.Core.List.{List, [], _∷_}
 use mathlib.Core.Option.{Option, none, some}
 use Prim.Native.Nat.{ℕ}
+use lib.ListN.{getD}
 use lib.Dec.{eqb, leb}
 use Rattle.model.specs.declared.Root.{Root}
 use Rattle.model.specs.declared.Party.{Party}
@@ -25,10 +26,9 @@ use Rattle.model.specs.Runs.{Call, beginFor, stepFor, withdrawFor, after
 use Rattle.model.specs.Book.{Book}
 use Rattle.model.specs.Answers.{isMoved}
 use Rattle.model.specs.Progress.{underWay, bookAfterCall}
-use Rattle.model.specs.LockRequests.{rootRead, chainLock, otherLock, chainSelective, chainExclusive, rootSelective, rootExclusive}
-use Rattle.model.specs.Steps.MergeLocks.{mergeLocks}
+use Rattle.model.specs.Steps.Table.{rowAt}
 use Rattle.model.specs.Steps.Dispatch.{wants}
-use Rattle.model.specs.Claims.{claims}
+use Rattle.model.specs.Claims.{noLock, claimTable, claims}
 use Rattle.model.specs.Withdraw.{isDecided}
 
 -- Table I: a request (first) beside a lock held (second): true to grant, false to wait.
@@ -81,35 +81,19 @@ unfoldable pub withoutAll : List Hold → ℕ → List Claim → List Hold
 withoutAll hs q [] = hs
 withoutAll hs q (c ∷ cs) = withoutAll (withoutOne hs q c) q cs
 
--- The locks that step k of a party gives up where it moves, and where it is done.
+-- The locks that step k of a party gives up where it moves; where it is done, all that it holds.
 unfoldable pub givesUpMoving : ℕ → Party → List Claim
-givesUpMoving k p =
-    cond (eqb k 5) (rootRead ∷ [])
-    (cond (eqb k 8) (otherLock p ∷ [])
-    (cond (eqb k 12) (chainSelective p ∷ [])
-    (cond (eqb k 14) (chainExclusive p ∷ [])
-    (cond (eqb k 19) (chainSelective p ∷ [])
-    (cond (eqb k 22) (rootSelective ∷ [])
-    (cond (eqb k 27) (rootExclusive ∷ []) []))))))
-
-unfoldable pub givesUpDone : ℕ → Party → List Claim
-givesUpDone k p =
-    cond (eqb k 9) (chainLock p ∷ [])
-    (cond (eqb k 16) (rootSelective ∷ [])
-    (cond (eqb k 17) (rootSelective ∷ (chainSelective p ∷ []))
-    (cond (eqb k 24) (rootExclusive ∷ [])
-    (cond (eqb k 26) (mergeLocks rootExclusive p)
-    (cond (eqb k 30) (mergeLocks rootSelective p) (givesUpMoving k p))))))
+givesUpMoving k p = rowAt k .gives p
 
 unfoldable pub givesUp : ℕ → Party → StepAnswer → List Claim
 givesUp k p StepAnswer.Waiting = []
 givesUp k p StepAnswer.Moved = givesUpMoving k p
-givesUp k p (StepAnswer.Done a s) = givesUpDone k p
+givesUp k p (StepAnswer.Done a s) = getD claimTable k noLock p
 givesUp k p (StepAnswer.Refused n) = []
 
 -- The lock that a step is granted: what it requested, where it moves; and at 27 root selectively, turned from exclusive.
 unfoldable pub requested : ℕ → Option Claim → Option Claim
-requested k none = cond (eqb k 27) (some rootSelective) none
+requested k none = rowAt k .turns
 requested k (some c) = some c
 
 unfoldable pub withHeld : List Hold → ℕ → Option Claim → List Hold

@@ -2,16 +2,15 @@
 -- Main definitions: placesOf (all those lists, one after the other); PagesPlaced (each overflow page is in them once).
 use mathlib.Core.Path.{_≡_}
 use mathlib.Core.Logic.{_≢_}
-use mathlib.Core.Bool.{Bool, cond, _&&_, _||_}
+use mathlib.Core.Bool.{Bool, cond, _||_}
 use mathlib.Core.List.{List, [], _∷_, _++_}
 use Prim.Native.Nat.{ℕ, zero, suc, _+_, _≤_, _<_}
 use lib.Dec.{eqb}
 use Rattle.model.specs.declared.Party.{Party}
-use Rattle.model.specs.Sizes.{within}
 use Rattle.model.specs.Pages.{pageOf, linkOf, primaryPage}
 use Rattle.model.specs.Chains.{Checked, damaged, sound, chainOf, listFrom, pagesIn, pagesListed}
 use Rattle.model.specs.FreeList.{Taken, pagesTaken}
-use Rattle.model.specs.Steps.Write.{isChange}
+use Rattle.model.specs.Steps.Table.{rowAt}
 use Rattle.model.specs.Memory.{Memory, partyAt}
 use Rattle.model.specs.Effects.{scratchLink}
 
@@ -44,10 +43,10 @@ otherLinkOf m q = linkOf (pageOf (m .pages) (primaryPage (partyAt (m .parties) q
 -- Old pages are yet to be given back from 12 to 14, 19 to 22 and at 29; a changed chain, or a half, is built and not in the file yet at 11 and 18.
 -- A joined chain is one page, in scratch at 27 and 28, and has no overflow page.
 unfoldable pub owesOld : Party → Bool
-owesOld p = (eqb (p .step) 12 && isChange (p .answer)) || within 13 14 (p .step) || within 19 22 (p .step) || eqb (p .step) 29
+owesOld p = rowAt (p .step) .old p
 
 unfoldable pub hasBuilt : Party → Bool
-hasBuilt p = eqb (p .step) 11 || eqb (p .step) 18
+hasBuilt p = rowAt (p .step) .built
 
 -- What party q has in hand: old pages; built pages; the split's new half at 18, or the pages of the partner merged away at 29.
 unfoldable pub inHand : Memory → ℕ → List ℕ

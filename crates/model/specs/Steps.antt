@@ -12,4 +12,5 @@ pub mod SplitWrite
 pub mod MergeLocks
 pub mod MergeBuild
 pub mod MergeWrite
+pub mod Table
 pub mod Dispatch

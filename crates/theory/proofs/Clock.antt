@@ -15,7 +15,7 @@ use Rattle.model.specs.Memory.{Memory, partyAt, viewOf}
 use Rattle.model.specs.Book.{changedAt}
 use Rattle.theory.specs.Links.{Trace, noTrace, readNow, walkedFrom, Clock, ticked, allFresh}
 use Rattle.model.proofs.Laws.Lists.{Cmp, same, diff, cmp, cond-ind, both-and, lt-ltb, eqb-same, eqb-diff}
-use Rattle.theory.proofs.OpenLinks.{scratchOpen, oldOpen}
+use Rattle.model.proofs.Exits.OpenLinks.{scratchOpen, oldOpen}
 
 -- ---- The clock beside a memory
 

@@ -47,9 +47,10 @@ use Rattle.model.proofs.Theorems.Calls.{StepsKept, within-limits, operation-som
 use Rattle.theory.proofs.SizesStay.{limits-on, call-limits, start-limits, sized-root}
 use Rattle.theory.proofs.UnderWay.{inv-fits, entered-under, unentered-under, Met, no-party, nothing-begun, under-way, meets}
 use Rattle.theory.proofs.Withdraws.{withdrawn-not-refused, WithdrawTested, turned-away, let-through, withdraw-tested, WithdrawMet, stranger, unbegun, too-late, taken-back, withdraw-meets}
-use Rattle.theory.proofs.Answering.{unasked, asked, fairly, step-fair}
+use Rattle.model.proofs.Theorems.Answering.{unasked, asked, fairly, step-fair}
 use Rattle.theory.proofs.LockOrder.{WantedHigher, wanted-higher}
-use Rattle.theory.proofs.Ledger.{holdCount, claimCount, countFor, count-none, count-own, count-other, count-without-all, count-with, listed, LedgerOk, ledger-set, permitted-is}
+use Rattle.model.proofs.Exits.Trades.{claimCount, listed}
+use Rattle.theory.proofs.Ledger.{holdCount, countFor, count-none, count-own, count-other, count-without-all, count-with, LedgerOk, ledger-set, permitted-is}
 use Rattle.theory.proofs.LockTrades.{gained, Trades, step-trades}
 
 -- ---- The ledger after a step

@@ -1,6 +1,8 @@
--- The ledger of locks held, which specs/Holds.antt derives from the calls, beside the locks that the parties' records claim.
--- Main statements: holdCount, claimCount (how often a lock stands in a ledger, in a list of locks); count-without-all, count-with (a ledger after locks are given up, after one is granted);
--- LedgerOk (by the ledger each party holds what its record claims); permitted-is (Table I against the ledger is Table I against the lock word).
+-- The ledger of locks held, which specs/Holds.antt derives from the calls, beside the locks that the parties' records
+-- claim.
+-- Main statements: holdCount (how often a lock stands in a ledger); count-without-all, count-with (a ledger after
+-- locks are given up, after one is granted); LedgerOk (by the ledger each party holds what its record claims);
+-- permitted-is (Table I against the ledger is Table I against the lock word).
 use mathlib.Core.Path.{_≡_, refl, sym, ap, _∙_}
 use mathlib.Core.Logic.{_≢_}
 use mathlib.Core.Bool.{Bool, true, false, cond, not, _&&_, _||_}
@@ -23,12 +25,9 @@ use Rattle.model.specs.Claims.{claims}
 use Rattle.model.proofs.Invariant.Claims.{isClaimed, claimed, bit, LocksOk}
 use Rattle.model.proofs.Invariant.LockMoves.{mode-same, claims-root, table-true, permits-true}
 use Rattle.model.proofs.Effects.Kept.{row-same, row-other}
+use Rattle.model.proofs.Exits.Trades.{isClaim, claimCount, listed}
 
 -- ---- One lock, one hold
-
--- Whether lock d is lock c.
-unfoldable pub isClaim : Claim → Claim → Bool
-isClaim c d = eqb (d .word) (c .word) && sameMode (d .mode) (c .mode)
 
 same-mode : (a b : Mode) → sameMode a b ≡ true → a ≡ b
 unfolding sameMode
@@ -59,14 +58,10 @@ hold-self q c = rw (eqb-same q q refl, eqb-same (c .word) (c .word) refl, mode-s
 
 -- ---- How often
 
--- How often party q's hold of lock c stands in a ledger, and how often lock c in a list.
+-- How often party q's hold of lock c stands in a ledger.
 unfoldable pub holdCount : List Hold → ℕ → Claim → ℕ
 holdCount [] q c = 0
 holdCount (h ∷ hs) q c = bit (isHold q c h) + holdCount hs q c
-
-unfoldable pub claimCount : List Claim → Claim → ℕ
-claimCount [] c = 0
-claimCount (d ∷ ds) c = bit (isClaim c d) + claimCount ds c
 
 -- What a list of party q's locks says of party j.
 abbrev pub countFor : ℕ → List Claim → ℕ → Claim → ℕ
@@ -110,11 +105,6 @@ pub count-without-all : (hs : List Hold) (q : ℕ) (cs : List Claim) (j : ℕ) (
 unfolding withoutAll
 count-without-all hs q [] j d = omega (arith, count-none q j d)
 count-without-all hs q (c ∷ cs) j d = omega (arith, count-without-all (withoutOne hs q c) q cs j d, count-without hs q c j d, count-hold q c cs j d)
-
--- The lock of a request as a list: one, or none.
-abbrev pub listed : Option Claim → List Claim
-listed none = []
-listed (some c) = c ∷ []
 
 -- One hold more.
 pub count-with : (hs : List Hold) (q : ℕ) (w : Option Claim) (j : ℕ) (d : Claim) → holdCount (withHeld hs q w) j d ≡ holdCount hs j d + countFor q (listed w) j d

@@ -1,17 +1,15 @@
 -- From calls to whole lists of calls: answers, links, progress, grants, effects; operations run singly; what a step reads; a linearization; what a withdraw restores. Demands has the theorems.
 pub mod Reached
-pub mod Scratches
 pub mod OpenLinks
+pub mod Ledger
 pub mod Traces
 pub mod SizesStay
 pub mod Clock
 pub mod LinkRule
-pub mod Answering
 pub mod LockOrder
 pub mod UnderWay
 pub mod Withdraws
 pub mod NoDeadlock
-pub mod Ledger
 pub mod LockTrades
 pub mod Grants
 pub mod Alters

@@ -60,8 +60,10 @@ use Rattle.model.proofs.Invariant.Turn.{Turn}
 use Rattle.model.proofs.Steps.Withdraw.{undecided}
 use Rattle.theory.proofs.Withdraws.{withdraw-alters, WithdrawMet, stranger, unbegun, too-late, taken-back, withdraw-meets}
 use Rattle.theory.proofs.Clock.{ClockOk, fresh-now, fresh-walked, given-none, scratch-now, old-later, old-now, Spared, clock-moves, clock-ticks}
-use Rattle.theory.proofs.OpenLinks.{openSteps, scratchOpen, oldOpen, open-at, OldLink, closed, read-now, kept-old, Marks}
-use Rattle.theory.proofs.Traces.{Leaves, Traced, stays, goes, moves-by-link, step-traced}
+use Rattle.model.proofs.Exits.OpenLinks.{openSteps, scratchOpen, oldOpen, open-at}
+use Rattle.theory.proofs.OpenLinks.{OldLink, closed, read-now, kept-old, Marks}
+use Rattle.model.proofs.Exits.Scratches.{Leaves}
+use Rattle.theory.proofs.Traces.{Traced, stays, goes, moves-by-link, step-traced}
 
 -- ---- Links of step numbers
 

@@ -1,10 +1,12 @@
--- The lock words in order, the root before chain 0 before chain 1 and so on: a party that requests a lock holds only locks before it.
--- Main statements: Higher (a lock behind all that are held), hash-climbs (a chase leads on to a higher chain); wanted-higher (of every party under way).
+-- The lock words in order, the root before chain 0 before chain 1 and so on: a party that requests a lock holds only
+-- locks before it.
+-- Main statements: Higher (a lock behind all that are held), hash-climbs (a chase leads on to a higher chain);
+-- wanted-higher (of every party under way).
 use mathlib.Core.Path.{_≡_, refl, sym, ap, _∙_}
 use mathlib.Core.Logic.{_≢_, _⊎_, inl, inr}
 use mathlib.Core.List.{List, [], _∷_}
 use mathlib.Core.Option.{Option, none, some}
-use Prim.Native.Nat.{ℕ, zero, suc, _+_, _≤_, _<_}
+use Prim.Native.Nat.{ℕ, suc, _+_, _≤_, _<_}
 use native.Mathlib.Omega.{arith}
 use lib.ListN.{getD}
 use Rattle.model.specs.declared.Root.{Root}
@@ -17,7 +19,7 @@ use Rattle.model.specs.LockRequests.{rootRead, rootSelective, rootExclusive}
 use Rattle.model.specs.Steps.SplitLocks.{nextSelective}
 use Rattle.model.specs.Steps.MergeLocks.{targetExclusive, mergeStops}
 use Rattle.model.specs.Steps.Dispatch.{Want, wantsNone, wantsRoot, wantsChain, wantsChainExclusive, wantsNext, wantsTarget, wantsOther, wantTable, wants}
-use Rattle.model.proofs.Laws.Lists.{cond-ind, All, _▸_}
+use Rattle.model.proofs.Laws.Lists.{cond-ind, All, _▸_, Numbered, numbered-at}
 use Rattle.model.proofs.Laws.Addresses.{span-pos, hash-next}
 use Rattle.model.proofs.Laws.Retreat.{target-before}
 use Rattle.model.specs.Claims.{Claims, noLock, onRoot, onOther, mergingTarget, claimTable, claims}
@@ -106,22 +108,11 @@ ordered-25 = record {
       record { inside = omega (arith, b .other-fits); above = (omega arith, (omega (arith, before, c .target, c .partner), tt)) };
 }
 
--- The facts of a table, beside the locks held and those wanted.
-abbrev AllOrdered : List Facts → List Claims → List Want → Type 0
-AllOrdered [] hs ws = Unit {0}
-AllOrdered (f ∷ fs) [] ws = ⊥
-AllOrdered (f ∷ fs) (h ∷ hs) [] = ⊥
-AllOrdered (f ∷ fs) (h ∷ hs) (w ∷ ws) = Ordered f h w × AllOrdered fs hs ws
+-- The facts of step number k, beside the locks held and the lock wanted there.
+abbrev OrderedAt : ℕ → Facts → Type 0
+OrderedAt k f = Ordered f (getD claimTable k noLock) (getD wantTable k wantsNone)
 
-all-ordered-at : (fs : List Facts) (hs : List Claims) (ws : List Want) → AllOrdered fs hs ws
-    → (i : ℕ) → Ordered (getD fs i factsNone) (getD hs i noLock) (getD ws i wantsNone)
-all-ordered-at [] hs ws a i = record { order = λ s q p e l b x. absurd x }
-all-ordered-at (f ∷ fs) [] ws a i = absurd a
-all-ordered-at (f ∷ fs) (h ∷ hs) [] a i = absurd a
-all-ordered-at (f ∷ fs) (h ∷ hs) (w ∷ ws) a zero = a .0
-all-ordered-at (f ∷ fs) (h ∷ hs) (w ∷ ws) a (suc i) = all-ordered-at fs hs ws (a .1) i
-
-all-ordered : AllOrdered factTable claimTable wantTable
+all-ordered : Numbered OrderedAt 0 factTable
 unfolding wantTable
 all-ordered =
     ordered-none ▸ ordered-root rootRead refl ▸ ordered-none ▸ ordered-none ▸ ordered-04 ▸ ordered-none ▸ ordered-none ▸ ordered-07
@@ -133,4 +124,4 @@ all-ordered =
 pub wanted-higher : (s : Scene) (q : ℕ) (p : Party) (e : Entered) → RootFits (s .root) → Busy s q p e → factsAt (p .step) s q p e
     → WantedHigher (s .root) (claims (s .root) p) (wants (s .root) p)
 unfolding claims wants
-wanted-higher s q p e l b x = all-ordered-at factTable claimTable wantTable all-ordered (p .step) .order s q p e l b x
+wanted-higher s q p e l b x = numbered-at OrderedAt factsNone (λ k. record { order = λ s q p e l b x. absurd x }) factTable all-ordered (p .step) .order s q p e l b x

@@ -40,7 +40,7 @@ use Rattle.model.proofs.Invariant.Start.{start-inv}
 use Rattle.model.proofs.Theorems.Calls.{StepsKept, within-limits, operation-some, record-sound, lengths-fit, root-sound, party-sound, call-kept, run-inv}
 use Rattle.theory.proofs.SizesStay.{call-limits, sizes-stay}
 use Rattle.theory.proofs.UnderWay.{inv-fits, entered-under}
-use Rattle.theory.proofs.Answering.{unasked, asked, fairly, step-fair}
+use Rattle.model.proofs.Theorems.Answering.{unasked, asked, fairly, step-fair}
 use Rattle.theory.proofs.LockOrder.{Higher, WantedHigher, wanted-higher}
 
 -- ---- A search below a bound

@@ -1,23 +1,22 @@
--- No overflow page is ever lost: each is in exactly one of the places that the memory alone tells, and no other page is in any.
--- Main statements: free-listed, chain-listed, hand-counts (each place is the list of an owner, or of a party's four); pages-placed (under the invariant), reached-placed (after every
--- list of calls from formatted memory).
+-- No overflow page is ever lost: each is in exactly one of the places that the memory alone tells, and no other page
+-- is in any.
+-- Main statements: free-listed, chain-listed, hand-counts (each place is the list of an owner, or of a party's four);
+-- pages-placed (under the invariant), reached-placed (after every list of calls from formatted memory).
 use mathlib.Core.Path.{_≡_, refl, sym, ap, _∙_, subst}
 use mathlib.Core.Logic.{_≢_}
-use mathlib.Core.Bool.{Bool, true, false, cond, _&&_, _||_}
-use mathlib.Core.List.{List, [], _∷_, _++_}
+use mathlib.Core.Bool.{Bool, true, false, cond, _||_}
+use mathlib.Core.List.{List, [], _++_}
 use Prim.Native.Nat.{ℕ, zero, suc, _+_, _≤_, _<_}
-use native.Mathlib.Nat.{add-zero, add-suc, suc-add, zero-add}
 use native.Mathlib.Omega.{arith}
-use lib.ListN.{getD, take, drop}
+use lib.ListN.{take, drop}
 use lib.Seq.{take-all}
 use lib.Dec.{eqb}
 use Rattle.model.specs.declared.Party.{Party}
-use Rattle.model.specs.Sizes.{within}
 use Rattle.model.specs.declared.Entry.{Entry}
 use Rattle.model.specs.Pages.{linkOf, linkToFirst}
 use Rattle.model.specs.Chains.{chainOf, listFrom, pagesIn, pagesListed}
 use Rattle.model.specs.Filling.{primaryOf}
-use Rattle.model.specs.Steps.Write.{isChange}
+use Rattle.model.specs.Steps.Table.{rowAt}
 use Rattle.model.specs.Memory.{Memory, partyAt}
 use Rattle.model.specs.Book.{Book, Entered}
 use Rattle.model.specs.Runs.{Call}
@@ -25,7 +24,7 @@ use Rattle.theory.specs.Demands.{Sizes, Reached, bookReached}
 use Rattle.model.specs.Effects.{scratchLink}
 use Rattle.model.specs.Consistency.{chainsWith}
 use Rattle.model.specs.PagePlaces.{count, pagesDrawn, freeList, chainedFrom, handIf, otherLinkOf, owesOld, hasBuilt, inHand, inHands, placesOf, PagesPlaced}
-use Rattle.model.proofs.Laws.Lists.{Cmp, same, diff, cmp, Ord, lt, ge, ord, eqb-same, eqb-diff, count-nil, count-append, _▸_}
+use Rattle.model.proofs.Laws.Lists.{Cmp, same, diff, cmp, Ord, lt, ge, ord, eqb-same, eqb-diff, count-nil, count-append, _▸_, Numbered, numbered-at}
 use Rattle.model.proofs.Laws.Pages.{link-filledPage}
 use Rattle.model.proofs.Laws.Structure.{Linked}
 use Rattle.model.proofs.Laws.Filling.{chain-link, overflow-linked}
@@ -111,7 +110,7 @@ module _ (m : Memory) (b : Book) (i : Inv m b) where
 
     -- Which are in its hand at step number n.
     abbrev HandAt : ℕ → Type 0
-    HandAt n = Hand ((eqb n 12 && isChange (p .answer)) || within 13 14 n || within 19 22 n || eqb n 29) (eqb n 11 || eqb n 18) (eqb n 18 || eqb n 29)
+    HandAt n = Hand (rowAt n .old p) (rowAt n .built) (eqb n 18 || eqb n 29)
 
     -- A list that is not in its hand: the owner has no pages. One that is: the walk lists the owner's pages.
     not-listed : (o : Owner) (l : ℕ) → g .held o ≡ [] → handIf false m l ≡ g .held o
@@ -191,17 +190,11 @@ module _ (m : Memory) (b : Book) (i : Inv m b) where
           other-is = λ x. rw (ap (handIf true m) (h .partner-link) ∙ none-listed, none .nothing-old .no-partner, none .nothing-built .no-new) (omega (arith, count-nil x));
         }
 
-    -- The facts of a table, the first for step number n.
-    abbrev AllHands : ℕ → List Facts → Type 0
-    AllHands n [] = Unit {0}
-    AllHands n (f ∷ fs) = ((e : Entered) → f s q p e → HandAt n) × AllHands (suc n) fs
+    -- Whoever has the facts f at step number n has that in hand.
+    abbrev HandBy : ℕ → Facts → Type 0
+    HandBy n f = (e : Entered) → f s q p e → HandAt n
 
-    all-hands-at : (n : ℕ) (fs : List Facts) → AllHands n fs → (k : ℕ) (e : Entered) → getD fs k factsNone s q p e → HandAt (n + k)
-    all-hands-at n [] a k e h = absurd h
-    all-hands-at n (f ∷ fs) a zero e h = subst HandAt (sym (add-zero n)) (a .0 e h)
-    all-hands-at n (f ∷ fs) a (suc k) e h = subst HandAt (suc-add n k ∙ sym (add-suc n k)) (all-hands-at (suc n) fs (a .1) k e h)
-
-    all-hands : AllHands 0 factTable
+    all-hands : Numbered HandBy 0 factTable
     all-hands =
         (λ e h. absurd h) ▸ (λ e h. hand-empty (h .no-pages)) ▸ (λ e h. hand-empty (h .no-pages)) ▸ (λ e h. hand-empty (h .0 .no-pages)) ▸ (λ e h. hand-empty (h .0 .no-pages))
         ▸ (λ e h. hand-empty (h .0 .no-pages)) ▸ (λ e h. hand-empty (h .0 .no-pages)) ▸ (λ e h. hand-empty (h .0 .no-pages)) ▸ (λ e h. hand-empty (h .0 .no-pages))
@@ -215,7 +208,7 @@ module _ (m : Memory) (b : Book) (i : Inv m b) where
     -- A party at rest or under way.
     party-hand : PartyOk s q p → HandAt (p .step)
     party-hand (resting e _ h _) = subst HandAt (sym (ap (λ (a : Party). a .step) e)) (hand-empty h)
-    party-hand (working e _ h) = subst HandAt (zero-add (p .step)) (all-hands-at 0 factTable all-hands (p .step) e h)
+    party-hand (working e _ h) = numbered-at HandBy factsNone (λ n e h. absurd h) factTable all-hands (p .step) e h
 
     -- What the party has in hand is its four lists.
     hand-counts : q < m .root .parties → (x : ℕ) → count x (inHand m q) ≡ ofParty (g .own x) q

@@ -44,7 +44,7 @@ use Rattle.model.proofs.Steps.Withdraw.{leftBy, taken-back-is, withdraw-kept}
 use Rattle.model.proofs.Theorems.RefusalOrder.{withdraw-refused, withdraw-accepted, withdraw-order}
 use Rattle.model.proofs.Theorems.Gate.{withdraw-row-fits, withdraw-ready}
 use Rattle.model.proofs.Theorems.Calls.{within-limits, lengths-fit, operation-some, record-sound, root-sound, party-sound}
-use Rattle.theory.proofs.Scratches.{IfSound, sound-link, list-overflow}
+use Rattle.model.proofs.Exits.Scratches.{IfSound, sound-link, list-overflow}
 use Rattle.theory.proofs.UnderWay.{Met, no-party, nothing-begun, under-way, meets}
 
 -- ---- Refused or accepted

@@ -3,9 +3,8 @@
 use mathlib.Core.Path.{_≡_, refl, sym, ap, _∙_, subst, subst₃}
 use mathlib.Core.Bool.{Bool, true, false, cond, _&&_, _||_, or-true, false≢true}
 use mathlib.Core.List.{List, [], _∷_}
-use Prim.Native.Nat.{ℕ, zero, suc, _+_, _≤_, _<_}
+use Prim.Native.Nat.{ℕ, _+_, _≤_, _<_}
 use native.Mathlib.Omega.{arith}
-use native.Mathlib.Nat.{add-suc, add-zero, suc-add, zero-add}
 use lib.ListN.{getD, drop}
 use lib.Dec.{eqb}
 use Rattle.model.specs.declared.Root.{Root}
@@ -26,7 +25,7 @@ use Rattle.model.specs.Holds.{sameMode}
 use Rattle.model.specs.Sizes.{within}
 use Rattle.model.specs.Steps.Dispatch.{hasStep}
 use Rattle.model.proofs.Laws.Structure.{Linked, SameOn, linked-frame, overflow-frame, chain-frame}
-use Rattle.model.proofs.Laws.Lists.{_▸_}
+use Rattle.model.proofs.Laws.Lists.{_▸_, Numbered, numbered-at}
 use Rattle.model.proofs.Invariant.Ghost.{owner, inChain, oldOf, partnerOf, builtBy, newBy, Extent, size, localLevel}
 use Rattle.model.specs.Claims.{claims, claimTable, noLock}
 use Rattle.model.proofs.Invariant.Claims.{isClaimed}
@@ -364,18 +363,9 @@ module _ (s t : Scene) (j : ℕ) (p : Party) (k : Keeps s t j p) where
 abbrev pub Framed : ℕ → Facts → Type 0
 Framed n f = (s t : Scene) (j : ℕ) (p : Party) (e : Entered) → p .step ≡ n → Busy s j p e → Keeps s t j p → f s j p e → f t j p e
 
--- The facts of a table, the first for step number n.
-abbrev pub AllFramed : ℕ → List Facts → Type 0
-AllFramed n [] = Unit {0}
-AllFramed n (f ∷ fs) = Framed n f × AllFramed (suc n) fs
-
-all-framed-at : (n : ℕ) (fs : List Facts) → AllFramed n fs → (i : ℕ) → Framed (n + i) (getD fs i factsNone)
-all-framed-at n [] a i s t j p e h b k x = absurd x
-all-framed-at n (f ∷ fs) a zero s t j p e h b k x = a .0 s t j p e (h ∙ add-zero n) b k x
-all-framed-at n (f ∷ fs) a (suc i) s t j p e h b k x = all-framed-at (suc n) fs (a .1) i s t j p e (h ∙ add-suc n i ∙ sym (suc-add n i)) b k x
-
-framed-none : Framed 0 factsNone
-framed-none s t j p e h b k x = x
+-- No facts at all stay.
+framed-none : (n : ℕ) → Framed n factsNone
+framed-none n s t j p e h b k x = x
 
 -- The chain of a party that holds it alone, in the mode of its operation.
 pub holds-chain : (r : Root) (p : Party) (n : ℕ) → p .step ≡ n → getD claimTable n noLock p ≡ chainLock p ∷ [] → isClaimed (claims r p) (chainWord (p .chain)) (modeOf p) ≡ true
@@ -500,9 +490,9 @@ framed-merged s t j p e h b k x = (
 framed-written : Framed 12 Written
 framed-written s t j p e h b k x = written-kept s t j p k e x
 
-all-framed : AllFramed 0 factTable
+all-framed : Numbered Framed 0 factTable
 all-framed =
-    framed-none ▸ framed-early 1 ▸ framed-early 2 ▸ framed-level ▸ framed-located 4 refl ▸ framed-located 5 refl ▸ framed-locked ▸ framed-chasing ▸ framed-coupled ▸ framed-walking
+    framed-none 0 ▸ framed-early 1 ▸ framed-early 2 ▸ framed-level ▸ framed-located 4 refl ▸ framed-located 5 refl ▸ framed-locked ▸ framed-chasing ▸ framed-coupled ▸ framed-walking
     ▸ framed-home ▸ framed-rebuilt ▸ framed-written ▸ framed-returning 13 ▸ framed-returning 14 ▸ framed-settled 15 ▸ framed-settled 16 ▸ framed-dividing ▸ framed-divided
     ▸ framed-leaving 19 ▸ framed-leaving 20 ▸ framed-leaving 21 ▸ framed-leaving 22 ▸ framed-settled 23 ▸ framed-settled 24 ▸ framed-joining 25 refl ▸ framed-joining 26 refl
     ▸ framed-joined ▸ framed-moved-back ▸ framed-emptying ▸ framed-merged ▸ tt
@@ -510,4 +500,4 @@ all-framed =
 -- THE FRAME: a party that keeps what it relies on keeps all its facts.
 pub party-frame : (s t : Scene) (j : ℕ) (p : Party) → Keeps s t j p → PartyOk s j p → PartyOk t j p
 party-frame s t j p k (resting a b c d) = resting a (k .entry= ∙ b) (none-kept s t j p k c) (k .scratch= ∙ d)
-party-frame s t j p k (working e b f) = working e (busy-kept s t j p k e b) (all-framed-at 0 factTable all-framed (p .step) s t j p e (sym (zero-add (p .step))) b k f)
+party-frame s t j p k (working e b f) = working e (busy-kept s t j p k e b) (numbered-at Framed factsNone framed-none factTable all-framed (p .step) s t j p e refl b k f)

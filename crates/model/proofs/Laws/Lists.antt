@@ -1,7 +1,8 @@
 -- Tools over tests, numbers and lists that the other proof files share: ways to branch, how often a number is in a list, whether it is,
 -- and facts of every element.
 -- Main statements: cmp, ord, tell (branch by data that carry the facts); cond-ind; count-append, count-cut, count-reverse; among-counts (a number is in a list
--- where its count is not 0); All, all-in, all-from; Numbered, numbered-at, numbered-below (facts of a table's entries by their numbers); front-part (the front of a buffer, as it is lent).
+-- where its count is not 0); All, all-in, all-from; Numbered, numbered-at, numbered-below (facts of a table's entries by their numbers);
+-- allPass, passed-at, passed-below (the same by computing); front-part (the front of a buffer, as it is lent).
 use mathlib.Core.Path.{_≡_, refl, sym, ap, _∙_, subst}
 use mathlib.Core.Logic.{_≢_, _⊎_, inl, inr}
 use mathlib.Core.Bool.{Bool, true, false, cond, _&&_, _||_, or-assoc}
@@ -242,19 +243,18 @@ all-from P (y ∷ ys) f = (f y (among-first y ys), all-from P ys (λ x e. f x (a
 
 -- ---- Facts of a table's entries by their numbers, the first under number n
 
-abbrev pub Numbered : {A : Type 0} → (ℕ → A → Type 0) → ℕ → List A → Type 0
+abbrev pub Numbered {ℓ} : {A : Type ℓ} → (ℕ → A → Type 0) → ℕ → List A → Type 0
 Numbered P n [] = Unit {0}
 Numbered P n (x ∷ xs) = P n x × Numbered P (suc n) xs
 
-module _ {A : Type 0} (P : ℕ → A → Type 0) (d : A) (past : (n : ℕ) → P n d) where
-  numbered-from : (n : ℕ) (xs : List A) → Numbered P n xs → (i : ℕ) → P (n + i) (getD xs i d)
-  numbered-from n [] a i = past (n + i)
-  numbered-from n (x ∷ xs) a zero = subst (λ (k : ℕ). P k x) (sym (add-zero n)) (a .0)
-  numbered-from n (x ∷ xs) a (suc i) = subst (λ (k : ℕ). P k (getD xs i d)) (suc-add n i ∙ sym (add-suc n i)) (numbered-from (suc n) xs (a .1) i)
+numbered-from {ℓ} : {A : Type ℓ} (P : ℕ → A → Type 0) (d : A) → ((n : ℕ) → P n d) → (n : ℕ) (xs : List A) → Numbered P n xs → (i : ℕ) → P (n + i) (getD xs i d)
+numbered-from P d past n [] a i = past (n + i)
+numbered-from P d past n (x ∷ xs) a zero = subst (λ (k : ℕ). P k x) (sym (add-zero n)) (a .0)
+numbered-from P d past n (x ∷ xs) a (suc i) = subst (λ (k : ℕ). P k (getD xs i d)) (suc-add n i ∙ sym (add-suc n i)) (numbered-from P d past (suc n) xs (a .1) i)
 
-  -- From number 0 on; what holds of the default holds past the table's end.
-  pub numbered-at : (xs : List A) → Numbered P 0 xs → (k : ℕ) → P k (getD xs k d)
-  numbered-at xs a k = subst (λ (n : ℕ). P n (getD xs k d)) (zero-add k) (numbered-from 0 xs a k)
+-- From number 0 on; what holds of the default holds past the table's end.
+pub numbered-at {ℓ} : {A : Type ℓ} (P : ℕ → A → Type 0) (d : A) → ((n : ℕ) → P n d) → (xs : List A) → Numbered P 0 xs → (k : ℕ) → P k (getD xs k d)
+numbered-at P d past xs a k = subst (λ (n : ℕ). P n (getD xs k d)) (zero-add k) (numbered-from P d past 0 xs a k)
 
 -- The same of a number below the table's length.
 pub numbered-below : {A : Type 0} (P : ℕ → A → Type 0) (d : A) (xs : List A) → Numbered P 0 xs → (k : ℕ) → k < length xs → P k (getD xs k d)
@@ -264,6 +264,22 @@ numbered-below {A} P d xs a k l = subst (λ (n : ℕ). P n (getD xs k d)) (zero-
     from n [] b i l = absurd (omega arith)
     from n (y ∷ ys) b zero l = subst (λ (j : ℕ). P j y) (sym (add-zero n)) (b .0)
     from n (y ∷ ys) b (suc i) l = subst (λ (j : ℕ). P j (getD ys i d)) (suc-add n i ∙ sym (add-suc n i)) (from (suc n) ys (b .1) i (omega arith))
+
+-- The same by computing: a test that every entry passes, and that the default passes.
+abbrev pub allPass : {A : Type 0} → (ℕ → A → Bool) → ℕ → List A → Bool
+allPass t n [] = true
+allPass t n (x ∷ xs) = t n x && allPass t (suc n) xs
+
+passed-each : {A : Type 0} (t : ℕ → A → Bool) (n : ℕ) (xs : List A) → allPass t n xs ≡ true → Numbered (λ k x. t k x ≡ true) n xs
+passed-each t n [] h = tt
+passed-each t n (x ∷ xs) h = let f = and-both (t n x) (allPass t (suc n) xs) h in (f .0, passed-each t (suc n) xs (f .1))
+
+pub passed-at : {A : Type 0} (t : ℕ → A → Bool) (d : A) → ((n : ℕ) → t n d ≡ true) → (xs : List A) → allPass t 0 xs ≡ true → (k : ℕ) → t k (getD xs k d) ≡ true
+passed-at t d past xs h k = numbered-at (λ n x. t n x ≡ true) d past xs (passed-each t 0 xs h) k
+
+-- The same of a number below the table's length.
+pub passed-below : {A : Type 0} (t : ℕ → A → Bool) (d : A) (xs : List A) → allPass t 0 xs ≡ true → (k : ℕ) → k < length xs → t k (getD xs k d) ≡ true
+passed-below t d xs h k l = numbered-below (λ n x. t n x ≡ true) d xs (passed-each t 0 xs h) k l
 
 -- ---- The front of a buffer: its part from 0 to n, as code lends it
 

@@ -39,8 +39,8 @@ use Rattle.model.specs.Steps.Dispatch.{noStep, stepTable, stepOf}
 use Rattle.model.proofs.Laws.Lists.{cond-ind, All, _▸_, Numbered, numbered-at, all-left as all-first, all-right as all-second, all-from, all-in, among-take, among-drop}
 use Rattle.model.proofs.Laws.Pages.{length-pageOf, length-zeroPage, length-withLocalLevel}
 use Rattle.model.proofs.Laws.Filling.{IsOverflow, length-primaryOf}
-use Rattle.theory.proofs.Scratches.{IfSound, has-page, list-overflow, names-page, names-linked, sound-link}
-use Rattle.theory.proofs.Traces.{chain-followed, list-followed, names-sound, all-taken, all-left, merged-overflow}
+use Rattle.model.proofs.Exits.Scratches.{IfSound, has-page, list-overflow, names-page, names-linked, sound-link, names-sound, all-taken, all-left, merged-overflow}
+use Rattle.theory.proofs.Traces.{chain-followed, list-followed}
 use Rattle.theory.proofs.StepReads.Readings.{if-known, then-known, from-sound, ListRead, ChainRead, PairRead, MergedRead, list-alike, chain-alike, pair-alike, merged-alike}
 use Rattle.theory.proofs.StepReads.Writings.{Beside, Alike, Open, open-same, alike-start, alike-overflow, alike-given, head-alike}
 use Rattle.theory.proofs.StepReads.Outcomes.{Reads, guarded-reads, tested-reads, checked-reads, cond-reads, moved-same, moved-reads, scratch-same, primary-same, scratch-written, primary-written, request-reads, done-reads, release-reads, ended-reads, finished-reads, onward-reads, old-reads, scratch-long, over-reads, taking-reads, built-alike}

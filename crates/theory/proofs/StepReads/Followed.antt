@@ -19,15 +19,15 @@ use Rattle.model.specs.Calls.{Called, called, stepped, stepCall}
 use Rattle.theory.specs.Links.{Trace, chainPages, listPages, traceNine, traceFourteen, traceTwentyNine, traceOf, Clock, clockStart, traceOfStep}
 use Rattle.model.specs.Answers.{isMoved, performs}
 use Rattle.theory.specs.Reads.{isAccepted, pagesFollowed, followedBy, takenBy, readBy, isOverflowPage, isOpen, DiffersOutside, stepAfter, StepAlike}
-use Rattle.model.specs.Steps.Dispatch.{stepOf, wants}
+use Rattle.model.specs.Steps.Dispatch.{stepOf}
 use Rattle.model.proofs.Laws.Lists.{Told, holds, fails, tell, all-from, left-or, right-or, right-fails, among-append, lt-leb, le-ltb}
 use Rattle.model.proofs.Theorems.RefusalOrder.{step-accepted}
 use Rattle.model.proofs.Theorems.Gate.{ready}
-use Rattle.theory.proofs.Alters.{Tested, turned-away, let-through, tested, nothing-altered, waits-for-lock}
+use Rattle.theory.proofs.Alters.{Tested, turned-away, let-through, tested, nothing-altered}
 use Rattle.theory.proofs.StepReads.Writings.{Beside, Open}
 use Rattle.theory.proofs.StepReads.Outcomes.{Licence, Same}
 use Rattle.theory.proofs.StepReads.EachStep.{now-pages, walked-pages, both-pages, step-reads}
-use Rattle.theory.proofs.StepReads.Waiting.{isWaiting, isSome, waits-beside}
+use Rattle.theory.proofs.StepReads.Waiting.{isWaiting, waits-beside}
 
 -- ---- The pages followed go by no clock
 
@@ -172,13 +172,9 @@ module _ (m m′ : Memory) (q : ℕ) (d : DiffersOutside (readBy m q) m m′) wh
 
     -- A call that waits: nothing is altered, and beside it nothing either.
     module _ (waiting : stepCall m q .answer ≡ StepAnswer.Waiting) where
-      wanting : isSome (wants (m .root) (partyAt (m .parties) q)) ≡ true
-      unfolding isSome
-      wanting = ap isSome (waits-for-lock m q waiting .wanted)
-
       step-waits : isWaiting (stepOf number (withPages (m′ .pages) view) .answer) ≡ true
       unfolding isWaiting
-      step-waits = waits-beside view (m′ .pages) wanting .go (ap (λ (c : Called StepAnswer). isWaiting (c .answer)) (sym now) ∙ ap isWaiting waiting)
+      step-waits = waits-beside view (m′ .pages) .go (ap (λ (c : Called StepAnswer). isWaiting (c .answer)) (sym now) ∙ ap isWaiting waiting)
 
       waits-too : stepCall m′ q .answer ≡ StepAnswer.Waiting
       waits-too = ap (λ (c : Called StepAnswer). c .answer) (step-accepted m′ q (ap firstCause same-rows ∙ none) ∙ stepped-beside) ∙ is-waiting _ step-waits

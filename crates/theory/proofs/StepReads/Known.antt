@@ -27,7 +27,7 @@ use Rattle.model.proofs.Laws.Lists.{Told, holds, fails, tell, cond-ind, eqb-fal
 use Rattle.model.proofs.Laws.Pages.{Has, page-same, has-withPage, length-freePage, link-filledPage}
 use Rattle.model.proofs.Laws.Filling.{IsOverflow, length-primaryOf}
 use Rattle.model.proofs.Laws.FreeList.{given-other}
-use Rattle.theory.proofs.Scratches.{IfSound, if-then, names-page, names-linked, sound-link, spares-all, has-page, spares-filled}
+use Rattle.model.proofs.Exits.Scratches.{IfSound, if-then, names-page, names-linked, sound-link, spares-all, has-page, spares-filled}
 use Rattle.theory.proofs.StepReads.Readings.{if-known, then-known}
 
 -- Link l leads to the first of the pages, and each page's own link to the next; all are overflow pages.

@@ -30,7 +30,7 @@ use Rattle.model.proofs.Laws.Lists.{All, ltb-false}
 use Rattle.model.proofs.Laws.Pages.{length-pageOf, length-zeroPage}
 use Rattle.model.proofs.Laws.Filling.{IsOverflow, length-primaryOf}
 use Rattle.model.proofs.Effects.GiveUps.{given-up-rest}
-use Rattle.theory.proofs.Scratches.{has-page, taken-overflow}
+use Rattle.model.proofs.Exits.Scratches.{has-page, taken-overflow}
 use Rattle.theory.proofs.StepReads.Readings.{from-sound, TakenRead, taken-alike}
 use Rattle.theory.proofs.StepReads.Writings.{Beside, Alike, Open, open-same, alike-start, alike-written, alike-overflow}
 

@@ -16,7 +16,7 @@ use Rattle.model.specs.Steps.MergeBuild.{Pair, pairOf}
 use Rattle.model.specs.Steps.MergeWrite.{mergedAway}
 use Rattle.model.proofs.Laws.Lists.{cond-ind}
 use Rattle.model.proofs.Laws.Structure.{SameOn}
-use Rattle.theory.proofs.Scratches.{IfSound, if-then}
+use Rattle.model.proofs.Exits.Scratches.{IfSound, if-then}
 
 -- ---- Readings that met no damage
 

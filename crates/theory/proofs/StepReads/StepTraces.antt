@@ -1,8 +1,9 @@
--- Each of the thirty steps does what its trace says: when the links that it follows were read, what it reads into its record and scratch page, what it gives back.
+-- Each of the thirty steps does what its trace says: when the links that it follows were read, what it reads into its
+-- record and scratch page, what it gives back.
 -- Main definition: Truth (the trace of an outcome is true). Main statement: step-tells (of every step number).
 use mathlib.Core.Path.{_≡_, refl, sym, ap, _∙_}
 use mathlib.Core.Logic.{_≢_, _⊎_, inl, inr}
-use mathlib.Core.Bool.{Bool, true, false, cond, not, _&&_, false≢true, true≢false}
+use mathlib.Core.Bool.{Bool, true, false, cond, not, _&&_, false≢true, true≢false, _||_}
 use mathlib.Core.List.{List, [], _∷_, _++_}
 use Prim.Native.Nat.{ℕ, _+_, _-_}
 use native.Mathlib.Omega.{arith}
@@ -14,7 +15,7 @@ use Rattle.model.specs.declared.OperationAnswer.the-variants as OperationAnswer
 use Rattle.model.specs.declared.Restructuring.{Restructuring}
 use Rattle.model.specs.declared.StepAnswer.{StepAnswer}
 use Rattle.model.specs.declared.StepAnswer.the-variants as StepAnswer
-use Rattle.model.specs.Records.{idle, atStep, withOwed}
+use Rattle.model.specs.Records.{idle, atStep}
 use Rattle.model.specs.Answers.{answerOf, restructuringOf, isMoved, performs, foundOrAbsent}
 use Rattle.model.specs.LockWords.{Claim}
 use Rattle.model.specs.Addresses.{splitBarred, countOfChains}
@@ -25,35 +26,34 @@ use Rattle.model.specs.Pages.{pageOf, withPage, levelOf, linkOf, entriesOf, zer
 use Rattle.model.specs.Chains.{Checked, damaged, sound, Chain, chainOf, listFrom}
 use Rattle.model.specs.FreeList.{isAmong, tooFew, Taken, pagesTaken, givenBack, rootAfterTaking, roomToGiveBack, pagesGivenBack}
 use Rattle.model.specs.Outcome.{View, Outcome, outcome, withParty, moved, guarded, checked}
-use Rattle.model.specs.ScratchPages.{withScratch, scratchOf, primaryWritten}
-use Rattle.model.specs.Endings.{done, finished, onward, oldPagesFirst, endedWith}
-use Rattle.model.specs.LockRequests.{isGranted, withHold, request, isHeld, heldAll, withoutHold, givenUp, release, chainLock, chainSelective, chainExclusive, rootSelective, rootExclusive}
+use Rattle.model.specs.ScratchPages.{withScratch, scratchOf}
+use Rattle.model.specs.Endings.{done, finished, onward, endedWith}
+use Rattle.model.specs.LockRequests.{heldAll, withoutHold, givenUp, chainLock, chainExclusive}
 use Rattle.theory.specs.Links.{Trace, trace, noTrace, chainPages, readNow, walkedFrom, traceLooked, traceTen, traceNine, traceFourteen, traceTwentyNine, traceOf}
 use Rattle.model.specs.Ready.{Ready}
 use Rattle.theory.specs.Reads.{by-scratch, EachKnown, Freed}
 use Rattle.model.specs.PagePlaces.{pagesDrawn}
 use Rattle.model.specs.declared.Entry.{Entry}
-use Rattle.model.specs.Steps.Locate.{located, step01, step02, step03, step04, step05}
-use Rattle.model.specs.Steps.Chase.{Chase, chaseOf, arrived, chasing, step06, step07, step08}
+use Rattle.model.specs.Steps.Chase.{Chase, chaseOf, arrived, chasing, step06}
 use Rattle.model.specs.Steps.Rebuild.{Change, kept, changed, changesNothing, changing, rebuilt, rebuildWith, step10}
-use Rattle.model.specs.Steps.Write.{isChange, step11, step12}
-use Rattle.model.specs.Steps.OldPages.{oldGivenBack, step13, step14}
-use Rattle.model.specs.Steps.SplitLocks.{splitting, step15, step16, step19, step22}
+use Rattle.model.specs.Steps.OldPages.{oldGivenBack, step14}
 use Rattle.model.specs.Steps.SplitBuild.{Halves, halvesOf, halvesNeed, divided, divideWith, step17}
-use Rattle.model.specs.Steps.SplitWrite.{step18, step20, step21}
-use Rattle.model.specs.Steps.MergeLocks.{mergeStops, merging, step23, step24, step25, step30}
+use Rattle.model.specs.Steps.MergeLocks.{mergeStops}
 use Rattle.model.specs.Steps.MergeBuild.{Pair, pairOf, mergeGoes, combined, combineWith, step26}
-use Rattle.model.specs.Steps.MergeWrite.{rootMovedBack, mergedAway, partnerCleared, step27, step28, step29}
-use Rattle.model.specs.Steps.Dispatch.{noStep, stepTable, stepOf}
-use Rattle.model.proofs.Laws.Lists.{cond-ind, eqb-false, ltb-false, not-both, and-both, All, all-in, _▸_, Numbered, numbered-at}
+use Rattle.model.specs.Steps.MergeWrite.{mergedAway, partnerCleared, step29}
+use Rattle.model.specs.Steps.Dispatch.{noStep, stepTable, stepOf, nextTable, writesTable}
+use Rattle.model.specs.Steps.Table.{oldWord, freeWord}
+use Rattle.model.proofs.Laws.Lists.{not-true, cond-ind, eqb-false, ltb-false, not-both, and-both, All, all-in, _▸_, Numbered, numbered-at}
 use Rattle.model.proofs.Laws.Pages.{page-same, page-other, length-pageOf, length-zeroPage}
 use Rattle.model.proofs.Laws.Filling.{IsOverflow}
 use Rattle.model.proofs.Laws.Reading.{has-overflow}
 use Rattle.model.proofs.Laws.FreeList.{length-given}
 use Rattle.model.proofs.Effects.GiveUps.{given-up-rest}
-use Rattle.theory.proofs.Scratches.{IfSound, has-page, taken-overflow, list-overflow, names-page, names-linked, sound-link}
-use Rattle.theory.proofs.OpenLinks.{scratchOpen}
-use Rattle.theory.proofs.Traces.{list-followed, names-sound, merged-overflow}
+use Rattle.model.proofs.Exits.Scratches.{IfSound, has-page, taken-overflow, list-overflow, names-page, names-linked, sound-link, names-sound, merged-overflow}
+use Rattle.model.proofs.Exits.OpenLinks.{scratchOpen}
+use Rattle.theory.proofs.Traces.{list-followed}
+use Rattle.model.proofs.Exits.Statement.{Kept, keptBy, every-next, none-writes, Moves, Exit, refusing, waiting, taking, moving, looking, ending}
+use Rattle.model.proofs.Exits.{ExitsAt, step-exits}
 use Rattle.theory.proofs.StepReads.Readings.{if-known, then-known, from-sound}
 use Rattle.theory.proofs.StepReads.Known.{Stepping, list-stepping, chain-links, now-known, chain-known, walked-known, known-append, given-freed, none-more, ScratchLink, copied-link, made-link, built-link}
 use Rattle.theory.proofs.StepReads.EachStep.{otherLink}
@@ -132,34 +132,6 @@ module _ (t s w : ℕ) (v : View) where
           (λ _. cond-ind (Tells t s w n v) (eqb (u .party .owed) 2) _ _ (λ _. steady-tells StepAnswer.Moved (withParty (atStep 23 (u .party)) u) (on 23) k refl)
           (λ _. done-tells (answerOf (u .party .answer)) (restructuringOf (u .party .owed)) u c))
 
-    -- The trace is empty.
-    module _ (quiet : (a : StepAnswer) (next : ℕ) → traceOf t n v a next s w ≡ noTrace) where
-      moved-tells : (u : View) → u .root .free - v .root .free ≡ 0 → OldKept v (u .party) → scratchOpen (u .party .step) ≡ false → Tells t s w n v (moved u)
-      moved-tells u f k d = steady-tells noTrace quiet StepAnswer.Moved u (quiet-basis u f) k d
-
-      request-tells : (c : Claim) (p : Party) → OldKept v p → scratchOpen (p .step) ≡ false → Tells t s w n v (request v c p)
-      unfolding request withHold performs
-      request-tells c p k d =
-          cond-ind (Tells t s w n v) (isGranted v c) _ _ (λ _. moved-tells (withParty p (withHold c v)) (omega arith) k d) (λ _. record { go = λ h. absurd (false≢true h) })
-
-      release-tells : (cs : List Claim) (p : Party) → OldKept v p → scratchOpen (p .step) ≡ false → Tells t s w n v (release v cs p)
-      unfolding release
-      release-tells cs p k d = guarded-tells (heldAll v cs) _ (λ _. moved-tells (withParty p (givenUp cs v)) (rw (given-up-rest cs v) (omega arith)) k d)
-
-      ended-tells : (cs : List Claim) (r : Restructuring) → Tells t s w n v (endedWith v cs r)
-      unfolding endedWith
-      ended-tells cs r =
-          guarded-tells (heldAll v cs) _
-          (λ _. done-tells noTrace quiet (answerOf (v .party .answer)) r (givenUp cs v) (quiet-basis (withScratch zeroPage (givenUp cs v)) (rw (given-up-rest cs v) (omega arith))))
-
-      over-tells : (next : ℕ) → scratchOpen next ≡ false → Tells t s w n v (primaryWritten v next)
-      unfolding primaryWritten
-      over-tells next d = guarded-tells (pageSound (v .root) (scratchOf v)) _ (λ _. moved-tells _ (omega arith) (inl refl) d)
-
-      old-tells : (u : View) (o : Outcome) → u .root .free - v .root .free ≡ 0 → u .party .old ≡ v .party .old → Tells t s w n v o → Tells t s w n v (oldPagesFirst u o)
-      unfolding oldPagesFirst
-      old-tells u o f k h = cond-ind (Tells t s w n v) (eqb (u .party .old) 0) _ _ (λ _. h) (λ _. moved-tells (withParty (atStep 13 (u .party)) u) f (inl k) refl)
-
     -- An end with locks given up, whose trace is tr.
     ended-as : (tr : Trace) → ((a : OperationAnswer) (r : Restructuring) → traceOf t n v (StepAnswer.Done a r) 0 s w ≡ tr)
         → ((u : View) → u .root .free - v .root .free ≡ 0 → Basis t s w v tr u) → (cs : List Claim) (r : Restructuring) → Tells t s w n v (endedWith v cs r)
@@ -176,26 +148,43 @@ module _ (t s w : ℕ) (v : View) where
 abbrev pub TellsAt : ℕ → (View → Outcome) → Type 0
 TellsAt n f = (t s w : ℕ) (v : View) → Ready v → Tells t s w n v (f v)
 
-tells-01 : TellsAt 1 step01
-unfolding step01 traceOf
-tells-01 t s w v ready = request-tells t s w v 1 (λ a next. refl) _ _ (inl refl) refl
+-- The steps that follow links, read them or give pages back; the others have no trace.
+abbrev hasTrace : ℕ → Bool
+hasTrace n = eqb n 6 || (eqb n 9 || (eqb n 10 || (eqb n 14 || (eqb n 17 || (eqb n 26 || eqb n 29)))))
 
-tells-02 : TellsAt 2 step02
-unfolding step02 traceOf
-tells-02 t s w v ready = moved-tells t s w v 2 (λ a next. refl) _ (omega arith) (inl refl) refl
+cond-skip : {A : Type 0} (a b : Bool) (x y z : A) → (a || b) ≡ false → (b ≡ false → y ≡ z) → cond a x y ≡ z
+cond-skip true b x y z e f = absurd (true≢false e)
+cond-skip false b x y z e f = f e
 
-tells-03 : TellsAt 3 step03
-unfolding step03 located traceOf
-tells-03 t s w v ready =
-    guarded-tells t s w v 3 (ltb (located (v .root) (v .party) .chain) (v .root .primaries)) _ (λ _. moved-tells t s w v 3 (λ a next. refl) _ (omega arith) (inl refl) refl)
+no-trace : (n : ℕ) → hasTrace n ≡ false → (t s w : ℕ) (v : View) (a : StepAnswer) (next : ℕ) → traceOf t n v a next s w ≡ noTrace
+unfolding traceOf
+no-trace n q t s w v a next =
+    cond-skip (eqb n 6) _ _ _ _ q (λ q. cond-skip (eqb n 9) _ _ _ _ q (λ q. cond-skip (eqb n 10) _ _ _ _ q (λ q. cond-skip (eqb n 14) _ _ _ _ q
+    (λ q. cond-skip (eqb n 17) _ _ _ _ q (λ q. cond-skip (eqb n 26) _ _ _ _ q (λ q. rw q refl))))))
 
-tells-04 : TellsAt 4 step04
-unfolding step04 traceOf
-tells-04 t s w v ready = request-tells t s w v 4 (λ a next. refl) _ _ (inl refl) refl
+-- Such a step keeps the old link and the free list, and leads to no step with a link in scratch.
+module _ (n : ℕ) (q : hasTrace n ≡ false) (t s w : ℕ) (v : View) where
+  no-more-free : (u : View) → keptBy n u ≡ keptBy n v → u .root .free - v .root .free ≡ 0
+  unfolding writesTable isAmong
+  no-more-free u e = let f = rw (none-writes hasTrace freeWord refl n q) at (ap (λ (x : Kept). x .free) e) in omega arith
 
-tells-05 : TellsAt 5 step05
-unfolding step05 traceOf
-tells-05 t s w v ready = release-tells t s w v 5 (λ a next. refl) _ _ (inl refl) refl
+  quiet-move : (u : View) → Moves v n u → Truth t s w v (moved u) noTrace
+  unfolding writesTable nextTable isAmong
+  quiet-move u m =
+      truth t s w v StepAnswer.Moved u noTrace (quiet-basis t s w v u (no-more-free u (m .kept))) (inl (rw (none-writes hasTrace oldWord refl n q) at (ap (λ (x : Kept). x .old) (m .kept))))
+      (not-true _ (rw q at (every-next (λ j i. hasTrace j || not (scratchOpen i)) refl refl (v .party .operation) n (u .party .step) (m .next))))
+
+  quiet-exit : (o : Outcome) → Exit v n o → performs (o .answer) ≡ true → Truth t s w v o noTrace
+  unfolding performs
+  quiet-exit o (refusing r) p = absurd (false≢true p)
+  quiet-exit o (waiting c _ g r) p = absurd (false≢true p)
+  quiet-exit o (taking c u _ g d m) p = quiet-move u m
+  quiet-exit o (moving u _ d m) p = quiet-move u m
+  quiet-exit o (looking e _ l m) p = absurd (true≢false (rw e at q))
+  quiet-exit o (ending a r u _ e) p = truth t s w v _ _ noTrace (quiet-basis t s w v _ (no-more-free u (e .kept))) (inr refl) refl
+
+quiet : (n : ℕ) → hasTrace n ≡ false → (f : View → Outcome) → ExitsAt n f → TellsAt n f
+quiet n q f x t s w v ready = record { go = λ p. rw (no-trace n q t s w v (f v .answer) (f v .after .party .step)) (quiet-exit n q t s w v (f v) (x v) p) }
 
 -- The record after a chase keeps its old link.
 chase-keeps : (b : Bool) (x : Chase) (p : Party) → cond b (arrived x p) (chasing x p) .old ≡ p .old
@@ -226,14 +215,6 @@ tells-06 t s w v ready =
         freed = λ y h. absurd (false≢true h);
       };
     })
-
-tells-07 : TellsAt 7 step07
-unfolding step07 traceOf
-tells-07 t s w v ready = request-tells t s w v 7 (λ a next. refl) _ _ (inl refl) refl
-
-tells-08 : TellsAt 8 step08
-unfolding step08 traceOf
-tells-08 t s w v ready = release-tells t s w v 8 (λ a next. refl) _ _ (inl refl) refl
 
 tells-answered : (t s w : ℕ) (v : View) (a : OperationAnswer) → Tells t s w 9 v (answered v a)
 unfolding answered traceOf traceNine isMoved givenUp withoutHold
@@ -333,26 +314,6 @@ tells-10 t s w v ready =
     checked-tells t s w v 10 found _
     (λ c e. tells-rebuilt t s w v ready c (from-sound (λ (h : Chain). h .link ≡ linkOf (pageOf (v .pages) (primaryPage (v .party .chain)))) found (chain-links (v .root) (v .pages) (v .party .chain)) c e) _)
 
-tells-11 : TellsAt 11 step11
-unfolding step11 traceOf
-tells-11 t s w v ready = over-tells t s w v 11 (λ a next. refl) 12 refl
-
-tells-12 : TellsAt 12 step12
-unfolding step12 finished traceOf givenUp withoutHold
-tells-12 t s w v ready =
-    let cs = chainSelective (v .party) ∷ [] in
-    let u = givenUp cs v in
-    guarded-tells t s w v 12 (heldAll v cs) _
-    (λ _. cond-ind (Tells t s w 12 v) (isChange (v .party .answer)) _ _
-    (λ _. old-tells t s w v 12 (λ a next. refl) u _ (omega arith) refl
-    (onward-tells t s w v 12 noTrace (λ a next. refl) u (quiet-basis t s w v u (omega arith)) (quiet-basis t s w v (withScratch zeroPage u) (omega arith)) (inl refl)))
-    (λ _. done-tells t s w v 12 noTrace (λ a next. refl) _ _ u (quiet-basis t s w v (withScratch zeroPage u) (omega arith))))
-
-tells-13 : TellsAt 13 step13
-unfolding step13 traceOf
-tells-13 t s w v ready =
-    guarded-tells t s w v 13 (namesOverflow (v .root) (v .party .old)) _ (λ _. request-tells t s w v 13 (λ a next. refl) _ _ (inl refl) refl)
-
 -- As many more as are given back.
 so-many-more : (a n : ℕ) → (a + n) - a ≡ n
 so-many-more a n = omega arith
@@ -390,16 +351,6 @@ tells-14 t s w v ready =
     (λ n. checked-tells t s w v 14 (listFrom (v .root) (v .pages) (v .party .old)) (λ xs. oldGivenBack v xs)
     (λ xs e. tells-given t s w v ready (names-sound (v .root) (v .party .old) n) xs e))
 
-tells-15 : TellsAt 15 step15
-unfolding step15 traceOf
-tells-15 t s w v ready = request-tells t s w v 15 (λ a next. refl) _ _ (inl refl) refl
-
-tells-16 : TellsAt 16 step16
-unfolding step16 splitting traceOf
-tells-16 t s w v ready =
-    cond-ind (Tells t s w 16 v) (splitBarred (countOfChains (v .root)) (v .root .primaries)) _ _ (λ _. ended-tells t s w v 16 (λ a next. refl) _ _)
-    (λ _. request-tells t s w v 16 (λ a next. refl) _ _ (inl refl) refl)
-
 tells-divided : (t s w : ℕ) (v : View) → Ready v → (c : Chain) → c .link ≡ linkOf (pageOf (v .pages) (primaryPage (v .party .chain))) → (h : Halves) → Tells t s w 17 v (divideWith v c h)
 unfolding divideWith divided rootAfterTaking traceOf isMoved
 tells-divided t s w v ready c l h =
@@ -417,45 +368,6 @@ tells-17 t s w v ready =
     guarded-tells t s w v 17 (not (splitBarred (countOfChains (v .root)) (v .root .primaries))) _
     (λ _. checked-tells t s w v 17 found _
     (λ c e. tells-divided t s w v ready c (from-sound (λ (h : Chain). h .link ≡ linkOf (pageOf (v .pages) (primaryPage (v .party .chain)))) found (chain-links (v .root) (v .pages) (v .party .chain)) c e) (halvesOf v c)))
-
-tells-18 : TellsAt 18 step18
-unfolding step18 traceOf
-tells-18 t s w v ready = over-tells t s w v 18 (λ a next. refl) 19 refl
-
-tells-19 : TellsAt 19 step19
-unfolding step19 traceOf
-tells-19 t s w v ready = release-tells t s w v 19 (λ a next. refl) _ _ (inl refl) refl
-
-tells-20 : TellsAt 20 step20
-unfolding step20 traceOf
-tells-20 t s w v ready = moved-tells t s w v 20 (λ a next. refl) _ (omega arith) (inl refl) refl
-
-tells-21 : TellsAt 21 step21
-unfolding step21 traceOf
-tells-21 t s w v ready = moved-tells t s w v 21 (λ a next. refl) _ (omega arith) (inl refl) refl
-
-tells-22 : TellsAt 22 step22
-unfolding step22 finished traceOf givenUp withoutHold
-tells-22 t s w v ready =
-    let cs = rootSelective ∷ [] in
-    let u = withParty (withOwed 3 (v .party)) (givenUp cs v) in
-    guarded-tells t s w v 22 (heldAll v cs) _
-    (λ _. old-tells t s w v 22 (λ a next. refl) u _ (omega arith) refl
-    (done-tells t s w v 22 noTrace (λ a next. refl) _ _ u (quiet-basis t s w v (withScratch zeroPage u) (omega arith))))
-
-tells-23 : TellsAt 23 step23
-unfolding step23 traceOf
-tells-23 t s w v ready = request-tells t s w v 23 (λ a next. refl) _ _ (inl refl) refl
-
-tells-24 : TellsAt 24 step24
-unfolding step24 merging traceOf
-tells-24 t s w v ready =
-    cond-ind (Tells t s w 24 v) (mergeStops (v .root)) _ _ (λ _. ended-tells t s w v 24 (λ a next. refl) _ _)
-    (λ _. request-tells t s w v 24 (λ a next. refl) _ _ (inl refl) refl)
-
-tells-25 : TellsAt 25 step25
-unfolding step25 traceOf
-tells-25 t s w v ready = request-tells t s w v 25 (λ a next. refl) _ _ (inl refl) refl
 
 -- The link of the target.
 abbrev TargetLink : View → Pair → Type 0
@@ -491,17 +403,6 @@ tells-26 t s w v ready =
     let pair = pairOf (v .root) (v .pages) (v .party .chain) (v .party .other) in
     guarded-tells t s w v 26 (not (mergeStops (v .root))) _
     (λ _. checked-tells t s w v 26 pair (λ m. combineWith v m) (λ m e. tells-combined t s w v ready m (from-sound (TargetLink v) pair (target-link v) m e)))
-
-tells-27 : TellsAt 27 step27
-unfolding step27 rootMovedBack traceOf
-tells-27 t s w v ready =
-    guarded-tells t s w v 27 (not (mergeStops (v .root)) && isHeld v rootExclusive) _ (λ _. moved-tells t s w v 27 (λ a next. refl) _ (omega arith) (inl refl) refl)
-
-tells-28 : TellsAt 28 step28
-unfolding step28 traceOf
-tells-28 t s w v ready =
-    let x = scratchOf v in
-    guarded-tells t s w v 28 (pageSound (v .root) x && not (eqb (levelOf x) 0)) _ (λ _. moved-tells t s w v 28 (λ a next. refl) _ (omega arith) (inl refl) refl)
 
 -- The two lists of 29, each walked by its link.
 record Merged (v : View) (zs : List ℕ) : Type 0 where
@@ -572,23 +473,24 @@ tells-29 t s w v ready =
     checked-tells t s w v 29 merged (λ zs. partnerCleared v zs)
     (λ zs e. tells-cleared t s w v ready zs (from-sound (All (IsOverflow (v .root))) merged (merged-overflow (v .root) (v .pages) (v .party)) zs e) (from-sound (Merged v) merged (merged-lists v) zs e))
 
-tells-30 : TellsAt 30 step30
-unfolding step30 traceOf
-tells-30 t s w v ready = ended-tells t s w v 30 (λ a next. refl) _ _
-
 -- ---- Every step number
 
 refused-tells : (n : ℕ) → TellsAt n noStep
 unfolding performs
 refused-tells n t s w v ready = record { go = λ p. absurd (false≢true p) }
 
-all-tell : Numbered TellsAt 0 stepTable
+-- Those with a trace; the others have it from how they end.
+abbrev Told : ℕ → (View → Outcome) → Type 0
+Told n f = ExitsAt n f → TellsAt n f
+
+all-tell : Numbered Told 0 stepTable
 unfolding stepTable
 all-tell =
-    refused-tells 0 ▸ tells-01 ▸ tells-02 ▸ tells-03 ▸ tells-04 ▸ tells-05 ▸ tells-06 ▸ tells-07 ▸ tells-08 ▸ tells-09
-    ▸ tells-10 ▸ tells-11 ▸ tells-12 ▸ tells-13 ▸ tells-14 ▸ tells-15 ▸ tells-16 ▸ tells-17 ▸ tells-18 ▸ tells-19
-    ▸ tells-20 ▸ tells-21 ▸ tells-22 ▸ tells-23 ▸ tells-24 ▸ tells-25 ▸ tells-26 ▸ tells-27 ▸ tells-28 ▸ tells-29 ▸ tells-30 ▸ tt
+    quiet 0 refl _ ▸ quiet 1 refl _ ▸ quiet 2 refl _ ▸ quiet 3 refl _ ▸ quiet 4 refl _ ▸ quiet 5 refl _ ▸ (λ _. tells-06) ▸ quiet 7 refl _ ▸ quiet 8 refl _ ▸ (λ _. tells-09)
+    ▸ (λ _. tells-10) ▸ quiet 11 refl _ ▸ quiet 12 refl _ ▸ quiet 13 refl _ ▸ (λ _. tells-14) ▸ quiet 15 refl _ ▸ quiet 16 refl _ ▸ (λ _. tells-17) ▸ quiet 18 refl _ ▸ quiet 19 refl _
+    ▸ quiet 20 refl _ ▸ quiet 21 refl _ ▸ quiet 22 refl _ ▸ quiet 23 refl _ ▸ quiet 24 refl _ ▸ quiet 25 refl _ ▸ (λ _. tells-26) ▸ quiet 27 refl _ ▸ quiet 28 refl _ ▸ (λ _. tells-29)
+    ▸ quiet 30 refl _ ▸ tt
 
 pub step-tells : (n : ℕ) → TellsAt n (stepOf n)
 unfolding stepOf
-step-tells n = numbered-at TellsAt noStep refused-tells stepTable all-tell n
+step-tells n = numbered-at Told noStep (λ k _. refused-tells k) stepTable all-tell n (step-exits n)

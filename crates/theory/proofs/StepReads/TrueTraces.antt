@@ -19,7 +19,7 @@ use Rattle.theory.specs.Reads.{takenBy, stepAfter, ScratchTold, copied, 
 use Rattle.model.specs.Steps.Dispatch.{stepOf}
 use Rattle.model.proofs.Effects.Kept.{row-same}
 use Rattle.model.proofs.Theorems.Gate.{ready, row-fits}
-use Rattle.theory.proofs.OpenLinks.{scratchOpen}
+use Rattle.model.proofs.Exits.OpenLinks.{scratchOpen}
 use Rattle.theory.proofs.Traces.{Traced, stays, goes, step-traced}
 use Rattle.theory.proofs.Alters.{Tested, turned-away, let-through, tested}
 use Rattle.theory.proofs.StepReads.Known.{ScratchLink, copied-link, made-link}

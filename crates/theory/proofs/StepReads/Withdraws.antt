@@ -33,7 +33,7 @@ use Rattle.model.proofs.Theorems.RefusalOrder.{withdraw-accepted}
 use Rattle.model.proofs.Theorems.Gate.{withdraw-ready}
 use Rattle.model.proofs.Effects.GiveUps.{given-up-alike}
 use Rattle.model.proofs.Steps.Withdraw.{leftBy, taken-back-is}
-use Rattle.theory.proofs.Scratches.{IfSound, sound-link, has-page}
+use Rattle.model.proofs.Exits.Scratches.{IfSound, sound-link, has-page}
 use Rattle.theory.proofs.Withdraws.{WithdrawTested, turned-away, let-through, withdraw-tested, built-overflow, withdrawn-not-refused, back-long}
 use Rattle.theory.proofs.StepReads.Readings.{from-sound, ListRead, list-alike}
 use Rattle.theory.proofs.StepReads.Writings.{Beside, Alike, Open, open-same, alike-start, alike-written, alike-given, head-alike}

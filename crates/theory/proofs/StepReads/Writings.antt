@@ -18,7 +18,7 @@ use Rattle.model.proofs.Laws.Lists.{Cmp, same, diff, cmp, not-both, All}
 use Rattle.model.proofs.Laws.Structure.{SameOn}
 use Rattle.model.proofs.Laws.Pages.{length-withPage, page-same, page-other, length-filledPage, length-freePage}
 use Rattle.model.proofs.Laws.Filling.{IsOverflow}
-use Rattle.theory.proofs.Scratches.{has-page}
+use Rattle.model.proofs.Exits.Scratches.{has-page}
 
 -- The page memory ps′ beside the view v: the same on open pages. Primary pages and scratch pages are open.
 pub record Beside (v : View) (ps′ : List ℕ) (opens : ℕ → Bool) : Type 0 where

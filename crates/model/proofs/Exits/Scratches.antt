@@ -1,28 +1,36 @@
--- What a step leaves of the other parties' scratch pages: it writes its own scratch page, primary pages, and overflow pages that were taken or are given back.
--- Main statements: IfSound (what holds of a reading that met no damage); taken-overflow, list-overflow (pages taken or walked through are overflow pages);
--- Writable (a page that a step may write); Spares (a page memory in which the other parties' scratch pages are as they were) with spares-written, spares-filled, spares-given.
+-- What a step leaves of the other parties' scratch pages: it writes its own scratch page, primary pages, and overflow
+-- pages that were taken or are given back.
+-- Main statements: IfSound (what holds of a reading that met no damage); taken-overflow, list-overflow (pages taken or
+-- walked through are overflow pages); Writable (a page that a step may write); Spares (a page memory in which the other
+-- parties' scratch pages are as they were) with spares-written, spares-filled, spares-given; Leaves (the sizes and the
+-- other parties' scratch pages stay); built-spares, halves-spares (chains built).
 use mathlib.Core.Path.{_≡_, refl, _∙_}
 use mathlib.Core.Logic.{_≢_}
 use mathlib.Core.Bool.{Bool, true, false, not, _&&_}
-use mathlib.Core.List.{List, [], _∷_}
+use mathlib.Core.List.{List, [], _∷_, _++_}
 use Prim.Native.Nat.{ℕ, zero, suc, _+_, _<_}
 use native.Mathlib.Omega.{arith}
-use lib.ListN.{length}
+use lib.ListN.{length, take, drop}
 use lib.Dec.{eqb, ltb, leb}
 use Rattle.model.specs.declared.Root.{Root}
+use Rattle.model.specs.declared.Party.{Party}
 use Rattle.model.specs.Sizes.{pageWords}
 use Rattle.model.specs.declared.Entry.{Entry}
 use Rattle.model.specs.Pages.{pageOf, withPage, levelOf, countOf, linkOf, namesOverflow, linkSound, mostLevel, pageSound, primaryPage, scratchPage, linkedPage}
 use Rattle.model.specs.Chains.{Checked, damaged, sound, soundIf, andThen, overflowFrom, listFrom}
-use Rattle.model.specs.Filling.{overflowWritten}
-use Rattle.model.specs.FreeList.{isAmong, Taken, alsoTaken, takenFrom, pagesTaken, givenBack}
+use Rattle.model.specs.Filling.{pagesFor, primaryOf, overflowWritten}
+use Rattle.model.specs.FreeList.{isAmong, Taken, alsoTaken, takenFrom, pagesTaken, givenBack, roomToGiveBack}
 use Rattle.model.specs.Outcome.{View}
+use Rattle.model.specs.ScratchPages.{scratchOf}
+use Rattle.model.specs.Steps.SplitBuild.{Halves, halvesWritten}
+use Rattle.model.specs.Steps.MergeWrite.{mergedAway}
 use Rattle.model.specs.Ready.{Ready}
-use Rattle.model.proofs.Laws.Lists.{cond-ind, and-both, ltb-true, leb-true, All}
-use Rattle.model.proofs.Laws.Pages.{Has, length-withPage, page-other}
-use Rattle.model.proofs.Laws.Filling.{IsOverflow, length-overflowWritten, overflowWritten-other}
+use Rattle.model.proofs.Laws.Lists.{cond-ind, and-both, right-or, ltb-true, leb-true, All, all-append, all-from, all-in, among-take, among-drop}
+use Rattle.model.proofs.Laws.Pages.{Has, length-pageOf, length-withPage, page-other}
+use Rattle.model.proofs.Laws.Filling.{IsOverflow, length-primaryOf, length-overflowWritten, overflowWritten-other}
 use Rattle.model.proofs.Laws.Reading.{has-overflow, scratch-outside, outside-absent}
 use Rattle.model.proofs.Laws.FreeList.{length-given, given-other}
+use Rattle.model.proofs.Invariant.Frame.{SameLimits}
 
 -- ---- Readings that met no damage
 
@@ -141,3 +149,56 @@ module _ (v : View) (ready : Ready v) where
         long = length-given ps l xs has ∙ s .long;
         others = λ j n. given-other ps l xs has (scratchPage (v .root) j) (outside-absent (scratchPage (v .root) j) xs (scratch-outside (v .root) j xs a)) ∙ s .others j n;
       }
+
+-- ---- What a step leaves
+
+-- The sizes and the other parties' scratch pages stay.
+pub record Leaves (v u : View) : Type 0 where
+  pub number= : u .number ≡ v .number
+  pub sizes : SameLimits (v .root) (u .root)
+  pub spares : Spares v (u .pages)
+
+pub scratch-long : (v : View) → Ready v → length (scratchOf v) ≡ pageWords
+scratch-long v ready = length-pageOf (has-page v ready (v .pages) (scratchPage (v .root) (v .number)) refl (omega (arith, ready .number-fits)))
+
+-- ---- Pages built, and pages given back
+
+-- One chain built in pages taken from the free list, its primary page in scratch.
+pub built-spares : (v : View) → Ready v → (level : ℕ) (es : List Entry) (xs : List ℕ) → All (IsOverflow (v .root)) xs
+    → Spares v (withPage (overflowWritten (v .root .capacity) (v .pages) xs es) (scratchPage (v .root) (v .number)) (primaryOf (v .root .capacity) level es xs))
+built-spares v ready level es xs a =
+    spares-written v ready (overflowWritten (v .root .capacity) (v .pages) xs es) (spares-filled v ready (v .pages) (spares-all v) xs es a) (scratchPage (v .root) (v .number))
+    (primaryOf (v .root .capacity) level es xs) (scratch-writable v ready (scratchPage (v .root) (v .number)) refl) (length-primaryOf (v .root .capacity) level es xs (ready .keys-fit))
+
+pub all-taken : (r : Root) (k : ℕ) (xs : List ℕ) → All (IsOverflow r) xs → All (IsOverflow r) (take k xs)
+all-taken r k xs a = all-from (IsOverflow r) (take k xs) (λ x h. all-in (IsOverflow r) x xs a (among-take x k xs h))
+
+pub all-left : (r : Root) (k : ℕ) (xs : List ℕ) → All (IsOverflow r) xs → All (IsOverflow r) (drop k xs)
+all-left r k xs a = all-from (IsOverflow r) (drop k xs) (λ x h. all-in (IsOverflow r) x xs a (among-drop x k xs h))
+
+pub halves-spares : (v : View) → Ready v → (h : Halves) (xs : List ℕ) → All (IsOverflow (v .root)) xs → Spares v (halvesWritten v h xs)
+unfolding halvesWritten
+halves-spares v ready h xs a =
+    let b = v .root .capacity in
+    let k = pagesFor b (h .stay) in
+    let ps = overflowWritten b (v .pages) (take k xs) (h .stay) in
+    let first = spares-filled v ready (v .pages) (spares-all v) (take k xs) (h .stay) (all-taken (v .root) k xs a) in
+    spares-written v ready (overflowWritten b ps (drop k xs) (h .go)) (spares-filled v ready ps first (drop k xs) (h .go) (all-left (v .root) k xs a)) (primaryPage (v .party .other))
+    (primaryOf b (v .root .level + 1) (h .go) (drop k xs)) (primary-writable v ready (v .party .other) (ready .other-fits))
+    (length-primaryOf b (v .root .level + 1) (h .go) (drop k xs) (ready .keys-fit))
+
+pub names-sound : (r : Root) (l : ℕ) → namesOverflow r l ≡ true → linkSound r l ≡ true
+unfolding linkSound
+names-sound r l h = right-or (eqb l 0) h
+
+-- The pages to give back at 29.
+pub merged-overflow : (r : Root) (ps : List ℕ) (p : Party) → IfSound (All (IsOverflow r)) (mergedAway r ps p)
+unfolding mergedAway
+merged-overflow r ps p =
+    let w = pageOf ps (primaryPage (p .other)) in
+    cond-ind (IfSound (All (IsOverflow r))) (linkSound r (p .old) && pageSound r w) _ damaged
+    (λ h. let t = and-both (linkSound r (p .old)) (pageSound r w) h in
+    if-then (All (IsOverflow r)) (All (IsOverflow r)) (listFrom r ps (p .old)) _ (list-overflow r ps (p .old) (t .0))
+    (λ xs a. if-then (All (IsOverflow r)) (All (IsOverflow r)) (listFrom r ps (linkOf w)) _ (list-overflow r ps (linkOf w) (sound-link r w (t .1)))
+    (λ ys b. if-sound (All (IsOverflow r)) (roomToGiveBack r (length (xs ++ ys))) (xs ++ ys) (all-append (IsOverflow r) xs ys a b))))
+    (λ _. tt)
