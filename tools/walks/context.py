@@ -174,6 +174,26 @@ class Walk:
         """What local k points to takes a value."""
         self.line(f'assigns ! (of-opd ! {operand}) (from ! (hop ! {self.look(k)} (stop !))) (store-raw ! {self.at(cell)} refl {typed}) $')
 
+    def store_field(self, operand, k, cell, field, typed):
+        """A field of the struct that local k points to takes a value."""
+        self.line(f'assigns ! (of-opd ! {operand}) (from ! (hop ! {self.look(k)} (fld ! refl (stop !)))) (store-in ! {self.at(cell)} (sub ! {field} refl (whole !)) {typed}) $')
+
+    def match_on(self, k, row, x, facts, within=False):
+        """The walk branches by the variant of the enum in local k, the last statement of its arm where it is `within` one: a walk
+        for each arm, with the name of the fact that it is told. Their text ends by `end_match`."""
+        cell = self.at(f'L{k}')
+        self.line(f'rewrite ! {cell} (λ (u : Val). ‵ (fat fullShare {row.mir} {local(k)} 0 u)) ({row.letter}-live {x}) refl $')
+        tag = f'(load ! (from ! (vrt ! refl (fld ! refl (stop !)))) (look-tag ! {cell} (whole !)))'
+        self.line(f'{"" if within else "first ! $ "}by-variants ! {cell} (whole !) {tag} tt')
+        arms = [self.branch() for _ in facts]
+        for n, (arm, fact) in enumerate(zip(arms, facts)):
+            arm.bind(f'{", " if n else ""}((λ {fact}.')
+        return arms
+
+    def end_match(self, arms):
+        """The arms of the match that this walk ended in are done, and so is it."""
+        arms[-1].line(', tt' + ',)' * len(arms) + ')' * self.open)
+
     def land(self, k, typed):
         """A call's result lands in local k."""
         self.line(f'land ! {HERE} {self.room(k, typed)} $')
@@ -182,8 +202,8 @@ class Walk:
         for k in range(self.locals - 1, -1, -1):
             if k in self.set:
                 self.line(f'forget ! {self.at(f"L{k}")} refl $')
-        for k in range(self.locals):
-            self.front(f'L{k}', f'D{k}')
+        self.front(*(e for k in range(self.locals) for e in (f'L{k}', f'D{k}')))
+        for _ in range(self.locals):
             self.line('free1 ! $')
             self.become(2, [])
         self.line('free0 ! $')

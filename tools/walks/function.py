@@ -1,7 +1,7 @@
 """The proof of one function: its head, the walk, and the contract from the walk."""
 import os
 from context import Walk, HERE, numbered, local
-from shapes import Declared, Number, Plain, Lent, U32, tuple_of, product_of, place
+from shapes import Declared, Number, Plain, Lent, U32, UNIT, tuple_of, product_of, place
 from imports import imports_for, use_of
 
 # A party's record has ten words.
@@ -161,6 +161,17 @@ class Body(Walk):
         self.open_row(p, 'i', 'Records.idle', inside, 'ip')
         self.copy(self.behind(pointer, 'element'), into, p.row.typed(f'(partyAt {p.name} i)', 'ip'))
 
+    def leave_record(self, p, inside):
+        """The record of party i, unchanged, is left in the row, whose borrow is closed."""
+        row, value = p.row, f'(partyAt {p.name} i)'
+        self.front('element', 'element-owned', 'others')
+        self.line(f'elem-put ! {row.row} fullShare {p.name} i {value} ({row.value(value)} ∷ []) {p.b} {p.o} {inside} $')
+        self.become(3, ['row'])
+        self.line(f'rewrite ! 0 (λ (zs : {p.denotation}). ‵ (row {row.row} fullShare zs {p.b} {p.o})) (set-getD {p.name} i Records.idle) refl $')
+        self.front('row', 'row-opened', 'row-seen', 'row-kept')
+        self.line(f'closes-slice ! tt {row.row} {p.name} {p.name} refl {p.b} {p.o} $')
+        self.become(4, [f'seen{p.k}', f'borrow{p.k}', p.token])
+
     def put_record(self, p, at, scaled, pointer, operand, value, fact, inside):
         """What the operand has goes back into the row as the record of party i."""
         self.note('the record goes back into the row')
@@ -241,6 +252,24 @@ class Body(Walk):
         self.land(into, row.typed(result, is_result))
         self.line(f'rewrite ! {self.at(f"L{into}")} (λ (u : Val). ‵ (fat fullShare {row.mir} {local(into)} 0 u)) (ap only ({row.tells} {result} _ {is_result})) refl $')
         self.drop('owned')
+
+    def give_back(self, p):
+        """What a &mut owns is put together again, once its borrow is closed with the value that it had."""
+        if p.is_slice:
+            self.fjoin(f'seen{p.k}', f'borrow{p.k}', 'both')
+            self.line(f'pureI ! (at-slice {p.row.row} {p.x} ({p.slice} ∷ [])) (tt, (tt, tt)) (refl, {p.room}) $ fjoin ! $')
+            self.become(1, [p.owned])
+        else:
+            self.front(f'seen{p.k}', f'borrow{p.k}')
+            self.line(f'feqI ! (List Val) ({p.machine()} ∷ []) ({p.machine()} ∷ []) refl $ fjoin3 ! $')
+            self.become(2, [p.owned])
+
+    def give_up_root(self, p):
+        """A &mut root whose borrow is closed and that is not passed on: its last value is the one it has."""
+        code = f'{p.row.row} .coded .code {p.name}'
+        self.front(f'seen{p.k}')
+        self.line(f'use1 W (‵ (fres {p.γ} ({code}))) (W .names .obs-res {p.γ} ({code})) $')
+        self.become(1, [f'final{p.k}'])
 
     def give_up(self, p):
         """A &mut slice that is not passed on: its last value is the one it has."""
@@ -335,7 +364,11 @@ class Function:
             if not p.lent:
                 w.own(p.row, p.value, p.fact, 'plain')
             w.fjoin('plain' if not p.lent else f'has{p.k}' if p.is_mut else p.owned, 'owns', 'owns')
-        w.own(row, n, 'is', 'result')
+        if row is UNIT:
+            w.line('feqI ! (List Val) (vunit ∷ []) (vunit ∷ []) refl $')
+            w.become(0, ['result'])
+        else:
+            w.own(row, n, 'is', 'result')
         w.front('owns', 'result')
         w.line('done !')
         return [
@@ -386,7 +419,7 @@ class Function:
         parts += [f'({p.name} : {p.denotation})' for p in lent]
         parts += [f'({p.value} : {p.row.denotation})' for p in self.plain]
         facts = [f'({p.room} : Room {p.row.row} (length {p.name}))' for p in lent if p.is_slice]
-        facts += [f'({p.value}-fits : {p.value} < 2 ^ 32)' if isinstance(p.row, Number) else f'({p.fact} : {p.row.has(p.value)})' for p in self.plain]
+        facts += [f'({p.value}-fits : {p.value} < 2 ^ {p.row.width[1:]})' if isinstance(p.row, Number) else f'({p.fact} : {p.row.has(p.value)})' for p in self.plain]
         return parts, facts
 
     def section_arguments(self):
@@ -445,7 +478,8 @@ class Function:
             '',
         ]
         lines += [line for r in self.rows if r.is_enum for line in r.lemmas()] + [line for r in self.rows if not r.is_enum for line in r.lemmas()]
-        lines += [f'module _ {over} {rest} where', '  -- the contracts that the proof cites']
+        if self.callees:
+            lines += [f'module _ {over} {rest} where', '  -- the contracts that the proof cites']
         for c in self.callees:
             lines += [f'  abbrev {c.contract} : Contract 𝓤', f'  {c.contract} = tripleOf 𝓤 H A {c.alias}.signature ({c.alias}.spec 𝓤 H A mem′ run)', '']
         lines += [f'module _ {over} (W : Given 𝓤 H A) {rest}', '    ' + ' '.join(parts), '    ' + ' '.join(facts) + ' where']

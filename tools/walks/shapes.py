@@ -122,6 +122,9 @@ class Nothing:
     row, denotation, letter, is_enum, mir = 'unit', 'Unit {0}', 'unit', False, 'tyUnit'
     tells = 'nothing-tells'
 
+    def has(self, x):
+        return 'Unit {0}'
+
     def value(self, x):
         return 'vunit'
 

@@ -1,65 +1,77 @@
-"""The walks of `index::step` and `index::withdraw`, which are alike: a call over values, with the party's record taken out of the row and put back."""
+"""The walk of `index::step`: a call over values, and what it left stored by two functions that go by the mark of the step."""
 from function import Body, Function
-from rows import ROOT, PARTY, STEP_ANSWER, STEPPED, WITHDRAW_ANSWER, WITHDRAWN, memory
-from shapes import Callee, Plain, count, number
+from fielded import party_step
+from rows import MARK, ROOT, PARTY, STEP_ANSWER, STEPPED, memory
+from shapes import Callee, Plain, U32, UNIT, USIZE, count, number
 
-root, row, locks, pages = memory('opened', 'opened', 'passed on')
+root, row, locks, pages = memory('passed on', 'passed on', 'passed on')
 i = number('i')
+INSIDE, P = '(ltb→lt i (length ps) may)', '(partyAt ps i)'
+core = Callee('core', 'calls', 'step',
+              [Plain(ROOT, 'h', 'is', assumed=True), Plain(PARTY, 'p', 'ip', assumed=True), count('length ps', row.room), i, locks, pages], STEPPED,
+              lambda x, given, ends: f'StepSaid h {given[0]} (length ps) i ls gs {x} {" ".join(ends)}', variables=[('p', 'Party')])
+mark = Callee('mark', 'index', 'marked', [Plain(U32, 'k', 'ik', assumed=True), Plain(STEP_ANSWER, 'answer', 'ia', assumed=True)], MARK,
+              lambda x, given, ends: f'{x} ≡ markOf {given[0]} {given[1]}', variables=[('k', 'ℕ'), ('answer', 'StepAnswer')])
+put_root = Callee('put-root', 'index', 'put_root', [root, Plain(ROOT, 'r', 'ir', assumed=True), Plain(MARK, 'm', 'im', assumed=True)], UNIT,
+                  lambda x, given, ends: f'{ends[0]} ≡ rootBy {given[1]} h {given[0]}', variables=[('r', 'Root'), ('m', 'Mark')])
+put_party = Callee('put-party', 'index', 'put_party',
+                   [row, Plain(USIZE, 'i', '(refl, wide-fits i i-fits)'), Plain(PARTY, 'p', 'ip', assumed=True), Plain(MARK, 'm', 'im', assumed=True)], UNIT,
+                   lambda x, given, ends: f'{ends[0]} ≡ set ps i (partyBy {given[1]} {P} {given[0]})', variables=[('p', 'Party'), ('m', 'Mark')])
+beyond = Callee('beyond', 'calls', 'step_past',
+                [Plain(ROOT, 'h', 'is', assumed=True), count('length ps', row.room), count('length ls', locks.room), count('length gs', pages.room), i], STEP_ANSWER,
+                lambda x, given, ends: f'PastSaid h (length ps) (length ls) (length gs) i {x}')
+step = Function(
+    'index', 'step', [root, row, locks, pages, i], STEP_ANSWER, [core, mark, put_root, put_party, beyond], 27,
+    lambda r, last: f'called {r} (lent {" ".join(last)}) ≡ stepCall (lent h ps ls gs) i',
+    ['The root\'s borrow is opened, the record copied, and the borrow closed. Where the party has a record in the row, the row\'s borrow',
+     'is opened, the record copied, and the borrow closed; `calls::step` is called, and all that is lent is passed on for good: root',
+     'and row to `put_root` and `put_party`, with the mark of the step\'s number and answer. Past the row\'s end `calls::step_past` is',
+     'called, which is lent nothing, and all that the function is lent stays as it is.'],
+    ['use Rattle.model.specs.Records as Records', 'use Rattle.model.specs.Memory.{partyAt}', 'use Rattle.model.specs.Calls.{called, stepCall}',
+     'use Rattle.calls.specs.Lent.{lent}', 'use lib.Seq.{set-getD}', 'use SPECS.Marks.{markOf, rootBy, partyBy}',
+     'use CRATE.Ends.{place-fits, wide-fits, StepSaid, PastSaid, step-past}', 'use CRATE.Marks.{step-stored}'],
+    [ROOT, party_step, STEP_ANSWER, MARK, STEPPED])
 
 
-class Step:
-    """One of the two: its name, the rows of its answer and of what the call over values leaves, and what that call says, inside the row and past its end."""
+def body():
+    w = Body([])
+    w.enter(step)
+    w.take_apart(root)
+    w.note('the root’s borrow is opened')
+    w.open_root(root, 'is')
+    w.copy(w.behind(1, 'cell'), 6, ROOT.typed('h', 'is'))
+    w.close_root(root, 'h')
+    w.test_inside(row, 5, 7, 11, 12)
+    a, b = w.branch_on(12)
+    answer = STEPPED.field('answer', 'x', 'ix')
+    a.take_apart(row)
+    a.take_record(row, 7, 13, 14, 15, INSIDE)
+    a.copy(a.whole(15), 8, PARTY.typed(P, 'ip'))
+    a.leave_record(row, INSIDE)
+    a.length(row, 2, 13)
+    a.lend_on(locks, 3, 16, 17)
+    a.lend_on(pages, 4, 18, 19)
+    a.call(core, [P], ['is', 'ip'], [6, 8, 13, 5, 17, 19], 9, 'x', 'zs', 'said', 'ix')
+    a.call(mark, [f'({P} .step)', '(x .answer)'], [f'(P-step {P} ip)', answer], [(8, 2), (9, 2)], 10, 'm', 'ys', 'told', 'im', primes='′')
+    a.give_back(root)
+    a.lend_root_on(1, 21)
+    a.call(put_root, ['(x .root)', 'm'], [STEPPED.field('root', 'x', 'ix'), MARK.spelt('m', 'im')], [21, (9, 0), 10], 20, 'u', 'us', 'root-said', 'iu', primes='″')
+    a.give_back(row)
+    a.lend_on(row, 2, 22, 23)
+    a.call(put_party, ['(x .party)', 'm'], [STEPPED.field('party', 'x', 'ix'), MARK.spelt('m', 'im')], [23, 7, (9, 1), 10], 20, 'v', 'vs′', 'row-said', 'iv', primes='‴')
+    a.copy(a.field(9, 2), 0, STEP_ANSWER.typed('(x .answer)', answer))
+    a.leave(step, True, ['(us .0)', '(vs′ .0)', '(zs .1 .1 .1 .1 .0)', '(zs .1 .1 .1 .1 .1 .0)'], ['e₁', 'e₂', 'e₃'], '(x .answer)', answer,
+            f'(step-stored h ps ls gs i {INSIDE} x _ _ said m told _ _ root-said row-said)')
 
-    def __init__(self, name, answer, left, said, past_said):
-        self.name, self.answer, self.left = name, answer, left
-        self.core = Callee('core', 'calls', name,
-                           [Plain(ROOT, 'h', 'is', assumed=True), Plain(PARTY, 'p', 'ip', assumed=True), count('length ps', row.room), i, locks, pages], left,
-                           lambda x, given, ends: f'{said} h {given[0]} (length ps) i ls gs {x} {" ".join(ends)}', variables=[('p', 'Party')])
-        self.beyond = Callee('beyond', 'calls', f'{name}_past',
-                             [Plain(ROOT, 'h', 'is', assumed=True), count('length ps', row.room), count('length ls', locks.room), count('length gs', pages.room), i], answer,
-                             lambda x, given, ends: f'{past_said} h (length ps) (length ls) (length gs) i {x}')
-        self.function = Function(
-            'index', name, [root, row, locks, pages, i], answer, [self.core, self.beyond], 23,
-            lambda r, last: f'called {r} (lent {" ".join(last)}) ≡ {name}Call (lent h ps ls gs) i',
-            ['The root\'s borrow is opened and the record copied. Where the party has a record in the row, the row\'s borrow is opened, the',
-             f'record taken out and copied, `calls::{name}` called, the root stored, and what came back of the record stored in the row; the',
-             f'lock words and the page words are passed on for good. Past the row\'s end `calls::{name}_past` is called, which is lent nothing,',
-             'and all that the function is lent stays as it is.'],
-            ['use Rattle.model.specs.Records as Records', 'use Rattle.model.specs.Memory.{partyAt}', f'use Rattle.model.specs.Calls.{{called, {name}Call}}',
-             'use Rattle.calls.specs.Lent.{lent}', f'use CRATE.Ends.{{place-fits, wide-fits, {said}, {past_said}, {name}-inside, {name}-past}}'],
-            [ROOT, PARTY, answer, left], script='step')
-
-    def body(self):
-        w = Body([])
-        w.opening(self.function, root, 6)
-        w.test_inside(row, 5, 7, 9, 10)
-        a, b = w.branch_on(10)
-        inside, answer = '(ltb→lt i (length ps) may)', self.left.field('answer', 'x', 'ix')
-        a.take_record(row, 7, 11, 12, 13, inside)
-        a.length(row, 2, 14)
-        a.lend_on(locks, 3, 15, 16)
-        a.lend_on(pages, 4, 17, 18)
-        a.call(self.core, ['(partyAt ps i)'], ['is', 'ip'], [6, 13, 14, 5, 16, 18], 8, 'x', 'zs', 'said', 'ix')
-        a.note('the root is stored')
-        a.store_root(root, a.field(8, 0), '(x .root)', self.left.field('root', 'x', 'ix'))
-        a.put_record(row, 7, 11, 19, a.field(8, 1), '(x .party)', self.left.field('party', 'x', 'ix'), inside)
-        a.copy(a.field(8, 2), 0, self.answer.typed('(x .answer)', answer))
-        a.leave(self.function, True, ['(x .root)', '(set ps i (x .party))', '(zs .1 .1 .1 .1 .0)', '(zs .1 .1 .1 .1 .1 .0)'],
-                ['(length-set ps i (x .party))', 'e₂', 'e₃'], '(x .answer)', answer, f'({self.name}-inside h ps ls gs i x _ _ said)')
-
-        b.close_root(root, 'h')
-        for p, k, into in ((row, 2, 20), (locks, 3, 21), (pages, 4, 22)):
-            b.length(p, k, into)
-        b.call(self.beyond, [], ['is'], [6, 20, 21, 22, 5], 0, 'x', 'zs', 'said', 'ix')
-        for p in (locks, pages):
-            b.give_up(p)
-        b.leave(self.function, True, ['h', 'ps', 'ls', 'gs'], ['refl', 'refl', 'refl'], 'x', self.answer.spelt('x', 'ix'),
-                f'({self.name}-past h ps ls gs i x (nltb→le i (length ps) past) said)')
-        return '\n'.join(x.text('        ') for x in (w, a, b))
-
-    def write(self):
-        self.function.write(self.body())
+    b.give_up_root(root)
+    for p, k, into in ((row, 2, 24), (locks, 3, 25), (pages, 4, 26)):
+        b.length(p, k, into)
+    b.call(beyond, [], ['is'], [6, 24, 25, 26, 5], 0, 'x', 'zs', 'said', 'ix')
+    for p in (row, locks, pages):
+        b.give_up(p)
+    b.leave(step, True, ['h', 'ps', 'ls', 'gs'], ['refl', 'refl', 'refl'], 'x', STEP_ANSWER.spelt('x', 'ix'),
+            '(step-past h ps ls gs i x (nltb→le i (length ps) past) said)')
+    return '\n'.join(x.text('        ') for x in (w, a, b))
 
 
-Step('step', STEP_ANSWER, STEPPED, 'StepSaid', 'PastSaid').write()
-Step('withdraw', WITHDRAW_ANSWER, WITHDRAWN, 'WithdrawSaid', 'PastWithdrawSaid').write()
+step.write(body())

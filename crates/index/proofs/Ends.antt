@@ -1,5 +1,5 @@
 -- What the walks of this crate cite that is no step of the machine: what each callee says, and that the contract's equation follows on each way.
--- Main statements: format-made, format-refused; begin-inside, begin-past; step-inside, step-past; withdraw-inside, withdraw-past.
+-- Main statements: format-made, format-refused; begin-inside, begin-refused, begin-past; step-inside, step-past; withdraw-inside, withdraw-past.
 use mathlib.Core.Path.{_≡_, refl, sym, _∙_, ap, subst}
 use mathlib.Core.Bool.{Bool, not}
 use mathlib.Core.List.{List, [], _∷_}
@@ -13,6 +13,8 @@ use Rattle.model.specs.declared.Operation.{Operation}
 use Rattle.model.specs.declared.FileSizes.{FileSizes}
 use Rattle.model.specs.declared.FormatAnswer.{FormatAnswer}
 use Rattle.model.specs.declared.FormatAnswer.the-variants as FormatAnswer
+use Rattle.model.specs.declared.BeginAnswer.{BeginAnswer}
+use Rattle.model.specs.declared.BeginAnswer.the-variants as BeginAnswer
 use Rattle.model.specs.declared.StepAnswer.{StepAnswer}
 use Rattle.model.specs.declared.WithdrawAnswer.{WithdrawAnswer}
 use Rattle.model.specs.declared.Stepped.{Stepped}
@@ -23,7 +25,8 @@ use Rattle.calls.specs.declared.Formatted.{Formatted}
 use Rattle.calls.specs.declared.Begun.{Begun}
 use Rattle.calls.specs.declared.Withdrawn.{Withdrawn}
 use Rattle.calls.specs.Lent.{lent, rowAfter, leftByFormat, leftByBegin, leftByStep, leftByWithdraw}
-use Rattle.index.specs.Answered.{isFormatted}
+use Rattle.theory.proofs.Alters.{begin-alters}
+use Rattle.index.specs.Answered.{isFormatted, isBegun}
 
 -- The place of a record of ten words, 40 bytes, does not wrap.
 pub place-fits : (i n : ℕ) → i < n → n * 40 < 2 ^ 63 → i * 40 < 2 ^ 64
@@ -34,7 +37,7 @@ pub wide-fits : (i : ℕ) → i < 2 ^ 32 → i < 2 ^ 64
 wide-fits i l = omega (arith, l)
 
 -- A store past a list's end changes nothing.
-set-past : {X : Type 0} (xs : List X) (i : ℕ) (x : X) → length xs ≤ i → set xs i x ≡ xs
+pub set-past : {X : Type 0} (xs : List X) (i : ℕ) (x : X) → length xs ≤ i → set xs i x ≡ xs
 set-past [] i x l = refl
 set-past (y ∷ xs) zero x l = absurd (omega (arith, l))
 set-past {X} (y ∷ xs) (suc i) x l = ap (λ (t : List X). y ∷ t) (set-past xs i x (omega (arith, l)))
@@ -98,6 +101,19 @@ module _ (r : Root) (ps : List Party) (ls gs : List ℕ) where
     pub begin-inside : (x : Begun) → BeginSaid r (partyAt ps q) (length ps) (length ls) (length gs) q o k x
         → called (x .answer) (lent r (set ps q (x .party)) ls gs) ≡ beginCall (lent r ps ls gs) q o k
     begin-inside x said = said ps ls gs refl refl refl (λ _. refl)
+
+    -- A begin that is refused leaves the row.
+    pub begin-refused : (t : Bool) (x : Begun) → t ≡ isBegun (x .answer) → T (not t) → BeginSaid r (partyAt ps q) (length ps) (length ls) (length gs) q o k x
+        → called (x .answer) (lent r ps ls gs) ≡ beginCall (lent r ps ls gs) q o k
+    begin-refused t x told refused said = go (x .answer) (subst (λ (u : Bool). T (not u)) told refused) (ap (λ (c : Called BeginAnswer). c .answer) (begin-inside x said))
+      where
+        m : Memory
+        m = lent r ps ls gs
+
+        go : (a : BeginAnswer) → T (not (isBegun a)) → a ≡ beginCall m q o k .answer → called a m ≡ beginCall m q o k
+        go BeginAnswer.Begun t e = absurd t
+        go (BeginAnswer.Refused n) t e =
+            ap (λ (a : BeginAnswer). called a m) e ∙ ap (λ (y : Memory). called (beginCall m q o k .answer) y) (sym (begin-alters m q o k .refused n (sym e)))
 
     pub begin-past : (p : Party) (x : Begun) → length ps ≤ q → BeginSaid r p (length ps) (length ls) (length gs) q o k x
         → called (x .answer) (lent r ps ls gs) ≡ beginCall (lent r ps ls gs) q o k

@@ -1,16 +1,19 @@
 // The public calls in the forms that document 01 names: format, begin, step and withdraw, lent the root record, the
 // row of party records, the lock words and the page words.
-// They are thin: the work is that of `calls`, which takes the root and one party's record by value. Here a record is taken out of the row, and what comes back is written where it came from;
-// past the row's end begin is handed the zero record, a step is calls::step_past, a withdraw calls::withdraw_past, and
-// all are refused.
+// They are thin: the work is that of `calls`, which takes the root and one party's record by value. Here a record is
+// taken out of the row, and what comes back is stored where it came from: of a step only the words that it can have
+// changed, by its number and its answer; of a begin the record, where it was begun. Past the row's end begin is handed
+// the zero record, a step is calls::step_past, a withdraw calls::withdraw_past, and all are refused.
 // Main statements: each call answers, and leaves in every lent word, what the model's formatCall, beginCall, stepCall
 // and withdrawCall say, for all words and all lengths; there is nothing that a caller must see to.
 
 ghost use mathlib.Core.Path.{_≡_};
-ghost use lib.ListN.{length, replicate};
+ghost use lib.ListN.{length, replicate, set};
+ghost use Rattle.model.specs.Memory.{partyAt};
 ghost use Rattle.model.specs.Calls.{called, formatCall, beginCall, stepCall, withdrawCall};
 ghost use Rattle.calls.specs.Lent.{lent};
-ghost use Rattle.index.specs.Answered.{isFormatted};
+ghost use Rattle.index.specs.Answered.{isFormatted, isBegun};
+ghost use Rattle.index.specs.Marks.{markOf, rootBy, partyBy};
 use model::BeginAnswer;
 use model::FileSizes;
 use model::FormatAnswer;
@@ -62,6 +65,16 @@ pub fn format(
     }
 }
 
+// Whether begin did its work.
+fn is_begun(answer: BeginAnswer) -> bool
+    ensures { λ r. ⌜ r ≡ isBegun answer ⌝ }
+{
+    match answer {
+        BeginAnswer::Begun => true,
+        BeginAnswer::Refused(_) => false,
+    }
+}
+
 // Begin an operation for party q.
 pub fn begin(
     root: &Root,
@@ -87,8 +100,12 @@ pub fn begin(
             operation,
             key,
         );
-        parties[at] = begun.party;
-        return begun.answer;
+        if is_begun(begun.answer) {
+            parties[at] = begun.party;
+            return begun.answer;
+        } else {
+            return begun.answer;
+        }
     } else {
         let refused = calls::begin(
             former,
@@ -101,6 +118,84 @@ pub fn begin(
             key,
         );
         return refused.answer;
+    }
+}
+
+// What a step can have changed of the root and of its party's record.
+enum Mark {
+    // Nothing.
+    Kept,
+    // Step, lev, chain and other of the record.
+    Located,
+    // The record, which is zero then, and level, next, head and free of the root.
+    Ended,
+    // Step to answer of the record, and level, next, head and free of the root.
+    Changed,
+}
+
+// The mark of a step with this number that answered so. Steps 1 to 9 locate.
+fn marked(k: u32, answer: StepAnswer) -> Mark
+    ensures { λ r. ⌜ r ≡ markOf k answer ⌝ }
+{
+    match answer {
+        StepAnswer::Waiting => Mark::Kept,
+        StepAnswer::Moved => { if k < 10 { Mark::Located } else { Mark::Changed } }
+        StepAnswer::Done(_, _) => Mark::Ended,
+        StepAnswer::Refused(_) => Mark::Kept,
+    }
+}
+
+// The words that a step with this mark can have changed of the root are stored, as `r` has them.
+fn put_root(root: &mut Root, r: Root, mark: Mark)
+    ensures { λ _. ⌜ now (root .exit) ≡ rootBy mark (now (root .entry)) r ⌝ }
+{
+    match mark {
+        Mark::Kept | Mark::Located => {
+            return;
+        }
+        Mark::Ended | Mark::Changed => {
+            root.level = r.level;
+            root.next = r.next;
+            root.head = r.head;
+            root.free = r.free;
+            return;
+        }
+    }
+}
+
+// Those of the record at `at` are stored, as `p` has them.
+fn put_party(parties: &mut [Party], at: usize, p: Party, mark: Mark)
+    ensures { λ _. ⌜ now (parties .exit) ≡ set (now (parties .entry)) at (partyBy mark (partyAt (now (parties .entry)) at) p) ⌝ }
+{
+    if at < parties.len() {
+        match mark {
+            Mark::Kept => {
+                return;
+            }
+            Mark::Located => {
+                parties[at].step = p.step;
+                parties[at].lev = p.lev;
+                parties[at].chain = p.chain;
+                parties[at].other = p.other;
+                return;
+            }
+            Mark::Ended => {
+                parties[at] = records::idle();
+                return;
+            }
+            Mark::Changed => {
+                parties[at].step = p.step;
+                parties[at].lev = p.lev;
+                parties[at].chain = p.chain;
+                parties[at].other = p.other;
+                parties[at].old = p.old;
+                parties[at].owed = p.owed;
+                parties[at].answer = p.answer;
+                return;
+            }
+        }
+    } else {
+        return;
     }
 }
 
@@ -117,9 +212,11 @@ pub fn step(
     let former = *root;
     let at = q as usize;
     if at < parties.len() {
-        let stepped = calls::step(former, parties[at], parties.len(), q, locks, pages);
-        *root = stepped.root;
-        parties[at] = stepped.party;
+        let party = parties[at];
+        let stepped = calls::step(former, party, parties.len(), q, locks, pages);
+        let mark = marked(party.step, stepped.answer);
+        put_root(root, stepped.root, mark);
+        put_party(parties, at, stepped.party, mark);
         return stepped.answer;
     } else {
         return calls::step_past(former, parties.len(), locks.len(), pages.len(), q);

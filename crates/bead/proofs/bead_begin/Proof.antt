@@ -338,33 +338,20 @@ module _ {M : Type 1} (𝓤 : URA M) (H : Heap 𝓤) (A : Atoms 𝓤) (W : Given
         forget ! 41 refl $
         forget ! 43 refl $
         forget ! 45 refl $
-        move ! (45 ∷ 46 ∷ []) $
+        move ! (45 ∷ 46 ∷ 43 ∷ 44 ∷ 41 ∷ 42 ∷ 39 ∷ 40 ∷ 37 ∷ 38 ∷ 35 ∷ 36 ∷ 33 ∷ 34 ∷ 31 ∷ 32 ∷ 29 ∷ 30 ∷ 27 ∷ 28 ∷ 25 ∷ 26 ∷ 23 ∷ 24 ∷ 21 ∷ 22 ∷ 19 ∷ 20 ∷ []) $
         free1 ! $
-        move ! (43 ∷ 44 ∷ []) $
         free1 ! $
-        move ! (41 ∷ 42 ∷ []) $
         free1 ! $
-        move ! (39 ∷ 40 ∷ []) $
         free1 ! $
-        move ! (37 ∷ 38 ∷ []) $
         free1 ! $
-        move ! (35 ∷ 36 ∷ []) $
         free1 ! $
-        move ! (33 ∷ 34 ∷ []) $
         free1 ! $
-        move ! (31 ∷ 32 ∷ []) $
         free1 ! $
-        move ! (29 ∷ 30 ∷ []) $
         free1 ! $
-        move ! (27 ∷ 28 ∷ []) $
         free1 ! $
-        move ! (25 ∷ 26 ∷ []) $
         free1 ! $
-        move ! (23 ∷ 24 ∷ []) $
         free1 ! $
-        move ! (21 ∷ 22 ∷ []) $
         free1 ! $
-        move ! (19 ∷ 20 ∷ []) $
         free1 ! $
         free0 ! $
         keep ! (6 ∷ 5 ∷ 4 ∷ 2 ∷ 12 ∷ 7 ∷ 11 ∷ 10 ∷ []) $
@@ -388,33 +375,20 @@ module _ {M : Type 1} (𝓤 : URA M) (H : Heap 𝓤) (A : Atoms 𝓤) (W : Given
         forget ! 35 refl $
         forget ! 37 refl $
         forget ! 39 refl $
-        move ! (39 ∷ 40 ∷ []) $
+        move ! (39 ∷ 40 ∷ 37 ∷ 38 ∷ 35 ∷ 36 ∷ 33 ∷ 34 ∷ 31 ∷ 32 ∷ 29 ∷ 30 ∷ 27 ∷ 28 ∷ 25 ∷ 26 ∷ 23 ∷ 24 ∷ 21 ∷ 22 ∷ 19 ∷ 20 ∷ 17 ∷ 18 ∷ 15 ∷ 16 ∷ 13 ∷ 14 ∷ []) $
         free1 ! $
-        move ! (37 ∷ 38 ∷ []) $
         free1 ! $
-        move ! (35 ∷ 36 ∷ []) $
         free1 ! $
-        move ! (33 ∷ 34 ∷ []) $
         free1 ! $
-        move ! (31 ∷ 32 ∷ []) $
         free1 ! $
-        move ! (29 ∷ 30 ∷ []) $
         free1 ! $
-        move ! (27 ∷ 28 ∷ []) $
         free1 ! $
-        move ! (25 ∷ 26 ∷ []) $
         free1 ! $
-        move ! (23 ∷ 24 ∷ []) $
         free1 ! $
-        move ! (21 ∷ 22 ∷ []) $
         free1 ! $
-        move ! (19 ∷ 20 ∷ []) $
         free1 ! $
-        move ! (17 ∷ 18 ∷ []) $
         free1 ! $
-        move ! (15 ∷ 16 ∷ []) $
         free1 ! $
-        move ! (13 ∷ 14 ∷ []) $
         free1 ! $
         free0 ! $
         keep ! (12 ∷ 11 ∷ 10 ∷ 8 ∷ 7 ∷ 0 ∷ 6 ∷ 4 ∷ []) $

@@ -311,43 +311,25 @@ module _ {M : Type 1} (𝓤 : URA M) (H : Heap 𝓤) (A : Atoms 𝓤) (W : Given
         forget ! 48 refl $
         forget ! 50 refl $
         forget ! 52 refl $
-        move ! (52 ∷ 53 ∷ []) $
+        move ! (52 ∷ 53 ∷ 50 ∷ 51 ∷ 48 ∷ 49 ∷ 46 ∷ 47 ∷ 44 ∷ 45 ∷ 42 ∷ 43 ∷ 40 ∷ 41 ∷ 38 ∷ 39 ∷ 36 ∷ 37 ∷ 34 ∷ 35 ∷ 32 ∷ 33 ∷ 30 ∷ 31 ∷ 28 ∷ 29 ∷ 26 ∷ 27 ∷ 24 ∷ 25 ∷ 22 ∷ 23 ∷ 20 ∷ 21 ∷ 18 ∷ 19 ∷ 16 ∷ 17 ∷ []) $
         free1 ! $
-        move ! (50 ∷ 51 ∷ []) $
         free1 ! $
-        move ! (48 ∷ 49 ∷ []) $
         free1 ! $
-        move ! (46 ∷ 47 ∷ []) $
         free1 ! $
-        move ! (44 ∷ 45 ∷ []) $
         free1 ! $
-        move ! (42 ∷ 43 ∷ []) $
         free1 ! $
-        move ! (40 ∷ 41 ∷ []) $
         free1 ! $
-        move ! (38 ∷ 39 ∷ []) $
         free1 ! $
-        move ! (36 ∷ 37 ∷ []) $
         free1 ! $
-        move ! (34 ∷ 35 ∷ []) $
         free1 ! $
-        move ! (32 ∷ 33 ∷ []) $
         free1 ! $
-        move ! (30 ∷ 31 ∷ []) $
         free1 ! $
-        move ! (28 ∷ 29 ∷ []) $
         free1 ! $
-        move ! (26 ∷ 27 ∷ []) $
         free1 ! $
-        move ! (24 ∷ 25 ∷ []) $
         free1 ! $
-        move ! (22 ∷ 23 ∷ []) $
         free1 ! $
-        move ! (20 ∷ 21 ∷ []) $
         free1 ! $
-        move ! (18 ∷ 19 ∷ []) $
         free1 ! $
-        move ! (16 ∷ 17 ∷ []) $
         free1 ! $
         free0 ! $
         keep ! (6 ∷ 5 ∷ 4 ∷ 2 ∷ 11 ∷ 9 ∷ 8 ∷ 7 ∷ []) $

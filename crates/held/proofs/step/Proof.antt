@@ -307,45 +307,26 @@ module _ {M : Type 1} (𝓤 : URA M) (H : Heap 𝓤) (A : Atoms 𝓤) (W : Given
         forget ! 45 refl $
         forget ! 47 refl $
         forget ! 49 refl $
-        move ! (49 ∷ 50 ∷ []) $
+        move ! (49 ∷ 50 ∷ 47 ∷ 48 ∷ 45 ∷ 46 ∷ 43 ∷ 44 ∷ 41 ∷ 42 ∷ 1 ∷ 40 ∷ 0 ∷ 39 ∷ 37 ∷ 38 ∷ 35 ∷ 36 ∷ 33 ∷ 34 ∷ 31 ∷ 32 ∷ 29 ∷ 30 ∷ 27 ∷ 28 ∷ 25 ∷ 26 ∷ 23 ∷ 24 ∷ 21 ∷ 22 ∷ 19 ∷ 20 ∷ 17 ∷ 18 ∷ 15 ∷ 16 ∷ 13 ∷ 14 ∷ []) $
         free1 ! $
-        move ! (47 ∷ 48 ∷ []) $
         free1 ! $
-        move ! (45 ∷ 46 ∷ []) $
         free1 ! $
-        move ! (43 ∷ 44 ∷ []) $
         free1 ! $
-        move ! (41 ∷ 42 ∷ []) $
         free1 ! $
-        move ! (1 ∷ 40 ∷ []) $
         free1 ! $
-        move ! (0 ∷ 38 ∷ []) $
         free1 ! $
-        move ! (35 ∷ 36 ∷ []) $
         free1 ! $
-        move ! (33 ∷ 34 ∷ []) $
         free1 ! $
-        move ! (31 ∷ 32 ∷ []) $
         free1 ! $
-        move ! (29 ∷ 30 ∷ []) $
         free1 ! $
-        move ! (27 ∷ 28 ∷ []) $
         free1 ! $
-        move ! (25 ∷ 26 ∷ []) $
         free1 ! $
-        move ! (23 ∷ 24 ∷ []) $
         free1 ! $
-        move ! (21 ∷ 22 ∷ []) $
         free1 ! $
-        move ! (19 ∷ 20 ∷ []) $
         free1 ! $
-        move ! (17 ∷ 18 ∷ []) $
         free1 ! $
-        move ! (15 ∷ 16 ∷ []) $
         free1 ! $
-        move ! (13 ∷ 14 ∷ []) $
         free1 ! $
-        move ! (11 ∷ 12 ∷ []) $
         free1 ! $
         free0 ! $
         keep ! (2 ∷ 0 ∷ 4 ∷ 3 ∷ []) $

@@ -181,19 +181,13 @@ module _ {M : Type 1} (𝓤 : URA M) (H : Heap 𝓤) (A : Atoms 𝓤) (W : Given
         forget ! 11 refl $
         forget ! 13 refl $
         forget ! 15 refl $
-        move ! (15 ∷ 16 ∷ []) $
+        move ! (15 ∷ 16 ∷ 13 ∷ 14 ∷ 11 ∷ 12 ∷ 9 ∷ 10 ∷ 7 ∷ 8 ∷ 5 ∷ 6 ∷ 3 ∷ 4 ∷ []) $
         free1 ! $
-        move ! (13 ∷ 14 ∷ []) $
         free1 ! $
-        move ! (11 ∷ 12 ∷ []) $
         free1 ! $
-        move ! (9 ∷ 10 ∷ []) $
         free1 ! $
-        move ! (7 ∷ 8 ∷ []) $
         free1 ! $
-        move ! (5 ∷ 6 ∷ []) $
         free1 ! $
-        move ! (3 ∷ 4 ∷ []) $
         free1 ! $
         free0 ! $
         move ! (2 ∷ 0 ∷ 1 ∷ []) $

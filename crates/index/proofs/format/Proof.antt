@@ -368,41 +368,24 @@ module _ {M : Type 1} (𝓤 : URA M) (H : Heap 𝓤) (A : Atoms 𝓤) (W : Given
         forget ! 52 refl $
         forget ! 54 refl $
         forget ! 56 refl $
-        move ! (56 ∷ 57 ∷ []) $
+        move ! (56 ∷ 57 ∷ 54 ∷ 55 ∷ 52 ∷ 53 ∷ 50 ∷ 51 ∷ 48 ∷ 49 ∷ 46 ∷ 47 ∷ 44 ∷ 45 ∷ 42 ∷ 43 ∷ 40 ∷ 41 ∷ 38 ∷ 39 ∷ 36 ∷ 37 ∷ 34 ∷ 35 ∷ 32 ∷ 33 ∷ 30 ∷ 31 ∷ 28 ∷ 29 ∷ 26 ∷ 27 ∷ 24 ∷ 25 ∷ 22 ∷ 23 ∷ []) $
         free1 ! $
-        move ! (54 ∷ 55 ∷ []) $
         free1 ! $
-        move ! (52 ∷ 53 ∷ []) $
         free1 ! $
-        move ! (50 ∷ 51 ∷ []) $
         free1 ! $
-        move ! (48 ∷ 49 ∷ []) $
         free1 ! $
-        move ! (46 ∷ 47 ∷ []) $
         free1 ! $
-        move ! (44 ∷ 45 ∷ []) $
         free1 ! $
-        move ! (42 ∷ 43 ∷ []) $
         free1 ! $
-        move ! (40 ∷ 41 ∷ []) $
         free1 ! $
-        move ! (38 ∷ 39 ∷ []) $
         free1 ! $
-        move ! (36 ∷ 37 ∷ []) $
         free1 ! $
-        move ! (34 ∷ 35 ∷ []) $
         free1 ! $
-        move ! (32 ∷ 33 ∷ []) $
         free1 ! $
-        move ! (30 ∷ 31 ∷ []) $
         free1 ! $
-        move ! (28 ∷ 29 ∷ []) $
         free1 ! $
-        move ! (26 ∷ 27 ∷ []) $
         free1 ! $
-        move ! (24 ∷ 25 ∷ []) $
         free1 ! $
-        move ! (22 ∷ 23 ∷ []) $
         free1 ! $
         free0 ! $
         keep ! (10 ∷ 0 ∷ 13 ∷ 11 ∷ 8 ∷ 9 ∷ 2 ∷ 15 ∷ 14 ∷ []) $
@@ -430,41 +413,24 @@ module _ {M : Type 1} (𝓤 : URA M) (H : Heap 𝓤) (A : Atoms 𝓤) (W : Given
         forget ! 49 refl $
         forget ! 51 refl $
         forget ! 53 refl $
-        move ! (53 ∷ 54 ∷ []) $
+        move ! (53 ∷ 54 ∷ 51 ∷ 52 ∷ 49 ∷ 50 ∷ 47 ∷ 48 ∷ 45 ∷ 46 ∷ 43 ∷ 44 ∷ 41 ∷ 42 ∷ 39 ∷ 40 ∷ 37 ∷ 38 ∷ 35 ∷ 36 ∷ 33 ∷ 34 ∷ 31 ∷ 32 ∷ 29 ∷ 30 ∷ 27 ∷ 28 ∷ 25 ∷ 26 ∷ 23 ∷ 24 ∷ 21 ∷ 22 ∷ 19 ∷ 20 ∷ []) $
         free1 ! $
-        move ! (51 ∷ 52 ∷ []) $
         free1 ! $
-        move ! (49 ∷ 50 ∷ []) $
         free1 ! $
-        move ! (47 ∷ 48 ∷ []) $
         free1 ! $
-        move ! (45 ∷ 46 ∷ []) $
         free1 ! $
-        move ! (43 ∷ 44 ∷ []) $
         free1 ! $
-        move ! (41 ∷ 42 ∷ []) $
         free1 ! $
-        move ! (39 ∷ 40 ∷ []) $
         free1 ! $
-        move ! (37 ∷ 38 ∷ []) $
         free1 ! $
-        move ! (35 ∷ 36 ∷ []) $
         free1 ! $
-        move ! (33 ∷ 34 ∷ []) $
         free1 ! $
-        move ! (31 ∷ 32 ∷ []) $
         free1 ! $
-        move ! (29 ∷ 30 ∷ []) $
         free1 ! $
-        move ! (27 ∷ 28 ∷ []) $
         free1 ! $
-        move ! (25 ∷ 26 ∷ []) $
         free1 ! $
-        move ! (23 ∷ 24 ∷ []) $
         free1 ! $
-        move ! (21 ∷ 22 ∷ []) $
         free1 ! $
-        move ! (19 ∷ 20 ∷ []) $
         free1 ! $
         free0 ! $
         keep ! (6 ∷ 18 ∷ 9 ∷ 7 ∷ 4 ∷ 5 ∷ 0 ∷ 11 ∷ 10 ∷ []) $

@@ -1,4 +1,4 @@
--- `index::withdraw` meets its contract: a walk of its MIR, made by tools/walks/step.py.
+-- `index::withdraw` meets its contract: a walk of its MIR, made by tools/walks/withdraw.py.
 -- The root's borrow is opened and the record copied. Where the party has a record in the row, the row's borrow is opened, the
 -- record taken out and copied, `calls::withdraw` called, the root stored, and what came back of the record stored in the row; the
 -- lock words and the page words are passed on for good. Past the row's end `calls::withdraw_past` is called, which is lent nothing,
@@ -308,51 +308,29 @@ module _ {M : Type 1} (𝓤 : URA M) (H : Heap 𝓤) (A : Atoms 𝓤) (W : Given
         forget ! 58 refl $
         forget ! 60 refl $
         forget ! 62 refl $
-        move ! (62 ∷ 63 ∷ []) $
+        move ! (62 ∷ 63 ∷ 60 ∷ 61 ∷ 58 ∷ 59 ∷ 56 ∷ 57 ∷ 54 ∷ 55 ∷ 52 ∷ 53 ∷ 50 ∷ 51 ∷ 48 ∷ 49 ∷ 46 ∷ 47 ∷ 44 ∷ 45 ∷ 42 ∷ 43 ∷ 40 ∷ 41 ∷ 38 ∷ 39 ∷ 36 ∷ 37 ∷ 34 ∷ 35 ∷ 32 ∷ 33 ∷ 30 ∷ 31 ∷ 28 ∷ 29 ∷ 26 ∷ 27 ∷ 24 ∷ 25 ∷ 22 ∷ 23 ∷ 20 ∷ 21 ∷ 18 ∷ 19 ∷ []) $
         free1 ! $
-        move ! (60 ∷ 61 ∷ []) $
         free1 ! $
-        move ! (58 ∷ 59 ∷ []) $
         free1 ! $
-        move ! (56 ∷ 57 ∷ []) $
         free1 ! $
-        move ! (54 ∷ 55 ∷ []) $
         free1 ! $
-        move ! (52 ∷ 53 ∷ []) $
         free1 ! $
-        move ! (50 ∷ 51 ∷ []) $
         free1 ! $
-        move ! (48 ∷ 49 ∷ []) $
         free1 ! $
-        move ! (46 ∷ 47 ∷ []) $
         free1 ! $
-        move ! (44 ∷ 45 ∷ []) $
         free1 ! $
-        move ! (42 ∷ 43 ∷ []) $
         free1 ! $
-        move ! (40 ∷ 41 ∷ []) $
         free1 ! $
-        move ! (38 ∷ 39 ∷ []) $
         free1 ! $
-        move ! (36 ∷ 37 ∷ []) $
         free1 ! $
-        move ! (34 ∷ 35 ∷ []) $
         free1 ! $
-        move ! (32 ∷ 33 ∷ []) $
         free1 ! $
-        move ! (30 ∷ 31 ∷ []) $
         free1 ! $
-        move ! (28 ∷ 29 ∷ []) $
         free1 ! $
-        move ! (26 ∷ 27 ∷ []) $
         free1 ! $
-        move ! (24 ∷ 25 ∷ []) $
         free1 ! $
-        move ! (22 ∷ 23 ∷ []) $
         free1 ! $
-        move ! (20 ∷ 21 ∷ []) $
         free1 ! $
-        move ! (18 ∷ 19 ∷ []) $
         free1 ! $
         free0 ! $
         keep ! (5 ∷ 2 ∷ 8 ∷ 6 ∷ 3 ∷ 4 ∷ 0 ∷ 1 ∷ 10 ∷ 9 ∷ []) $
@@ -404,51 +382,29 @@ module _ {M : Type 1} (𝓤 : URA M) (H : Heap 𝓤) (A : Atoms 𝓤) (W : Given
         forget ! 56 refl $
         forget ! 58 refl $
         forget ! 60 refl $
-        move ! (60 ∷ 61 ∷ []) $
+        move ! (60 ∷ 61 ∷ 58 ∷ 59 ∷ 56 ∷ 57 ∷ 54 ∷ 55 ∷ 52 ∷ 53 ∷ 50 ∷ 51 ∷ 48 ∷ 49 ∷ 46 ∷ 47 ∷ 44 ∷ 45 ∷ 42 ∷ 43 ∷ 40 ∷ 41 ∷ 38 ∷ 39 ∷ 36 ∷ 37 ∷ 34 ∷ 35 ∷ 32 ∷ 33 ∷ 30 ∷ 31 ∷ 28 ∷ 29 ∷ 26 ∷ 27 ∷ 24 ∷ 25 ∷ 22 ∷ 23 ∷ 20 ∷ 21 ∷ 18 ∷ 19 ∷ 16 ∷ 17 ∷ []) $
         free1 ! $
-        move ! (58 ∷ 59 ∷ []) $
         free1 ! $
-        move ! (56 ∷ 57 ∷ []) $
         free1 ! $
-        move ! (54 ∷ 55 ∷ []) $
         free1 ! $
-        move ! (52 ∷ 53 ∷ []) $
         free1 ! $
-        move ! (50 ∷ 51 ∷ []) $
         free1 ! $
-        move ! (48 ∷ 49 ∷ []) $
         free1 ! $
-        move ! (46 ∷ 47 ∷ []) $
         free1 ! $
-        move ! (44 ∷ 45 ∷ []) $
         free1 ! $
-        move ! (42 ∷ 43 ∷ []) $
         free1 ! $
-        move ! (40 ∷ 41 ∷ []) $
         free1 ! $
-        move ! (38 ∷ 39 ∷ []) $
         free1 ! $
-        move ! (36 ∷ 37 ∷ []) $
         free1 ! $
-        move ! (34 ∷ 35 ∷ []) $
         free1 ! $
-        move ! (32 ∷ 33 ∷ []) $
         free1 ! $
-        move ! (30 ∷ 31 ∷ []) $
         free1 ! $
-        move ! (28 ∷ 29 ∷ []) $
         free1 ! $
-        move ! (26 ∷ 27 ∷ []) $
         free1 ! $
-        move ! (24 ∷ 25 ∷ []) $
         free1 ! $
-        move ! (22 ∷ 23 ∷ []) $
         free1 ! $
-        move ! (20 ∷ 21 ∷ []) $
         free1 ! $
-        move ! (18 ∷ 19 ∷ []) $
         free1 ! $
-        move ! (16 ∷ 17 ∷ []) $
         free1 ! $
         free0 ! $
         keep ! (8 ∷ 15 ∷ 14 ∷ 12 ∷ 6 ∷ 7 ∷ 9 ∷ 10 ∷ 2 ∷ 0 ∷ []) $
