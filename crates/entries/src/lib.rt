@@ -3,7 +3,7 @@
 
 ghost use mathlib.Core.Path.{_≡_};
 ghost use mathlib.Core.Bool.{true, false};
-ghost use Prim.Native.Nat.{ℕ, _+_, _-_, _*_, _≤_, _<_};
+ghost use Prim.Native.Nat.{ℕ, _+_, _-_, _*_, _^_, _≤_, _<_};
 ghost use lib.ListN.{length, set, take};
 ghost use Rattle.model.specs.Sizes.{recordWords};
 ghost use Rattle.model.specs.Entries.{hasKey, ascending, insertedInto, removedFrom};
@@ -27,18 +27,20 @@ pub fn ascends(words: &[u32]) -> bool
     !falls
 }
 
-// How many keys are below k: in an ascending list, the place where k stands or would stand.
+// How many keys are below k: in an ascending list, the place where k stands or would stand. Counted in the width of a
+// key, so that several words are compared at once.
 pub fn below(words: &[u32], k: u32) -> usize
+    requires { ⌜ length (now words) < 2 ^ 32 ⌝ }
     ensures { λ r. ⌜ r ≡ placeOf k (recordsIn (now (words .entry))) ⌝ }
 {
     let count = words.len() / RECORD_WORDS;
-    let mut n = 0;
+    let mut n = 0u32;
     let mut i = 0;
     while i < count {
-        n += (words[i * RECORD_WORDS] < k) as usize;
+        n += (words[i * RECORD_WORDS] < k) as u32;
         i += 1;
     }
-    n
+    n as usize
 }
 
 // Whether k is in an ascending list: `at` is the place where it stands or would stand.

@@ -1,48 +1,62 @@
 -- Overflow pages filled one after the other: one turn, over the model's filled.
--- Main statements: rest-run, whole-run (a page's share of the records); first-link, no-link; page-filled (a turn), all-filled (the end); overflow-fillable.
+-- Main statements: share-few, share-front, share-rest (a page's share of the records); first-link, no-link; page-filled
+-- (a turn), all-filled (the end); overflow-fillable.
 use mathlib.Core.Path.{_≡_, sym, ap, _∙_}
 use mathlib.Core.List.{List, [], _∷_}
 use Prim.Native.Nat.{ℕ, zero, suc, _+_, _-_, _*_, _≤_, _<_}
 use native.Mathlib.Numerals.{add-one}
 use native.Mathlib.Omega.{arith}
 use lib.ListN.{length, getD, take, drop, length-drop, drop-of-length-le}
-use lib.Seq.{drop-cons, drop-drop, take-all}
+use lib.Seq.{drop-cons, drop-drop, drop-at, take-add, take-all, take-take, length-take-le}
 use Rattle.model.specs.declared.Root.{Root}
 use Rattle.model.specs.declared.Entry.{Entry}
 use Rattle.model.specs.Sizes.{pageWords}
 use Rattle.model.specs.Pages.{withPage, filledPage, linkToFirst}
 use Rattle.model.specs.Filling.{filled}
-use Rattle.model.proofs.Laws.Lists.{All}
+use Rattle.model.proofs.Laws.Lists.{All, Ord, lt, ge, ord}
 use Rattle.model.proofs.Laws.Filling.{IsOverflow}
-use Rattle.filling.specs.Fills.{Run, Fillable}
+use Rattle.filling.specs.Fills.{shareOf, Fillable}
 
 -- ---- A page's share
 
--- Fewer than b records are left.
-pub rest-run : (b : ℕ) (es : List Entry) (at : ℕ) → at ≤ length es → length es - at < b → Run b es at (length es)
-rest-run b es at h k =
-    let left = drop at es in
-    let few : length left ≤ length es - at = rw length-drop (omega arith) in
-    let fewer : length left ≤ b = omega arith in
-    let whole : length es ≤ length es = omega arith in
-    record {
-      starts = h;
-      ends = omega arith;
-      few = omega arith;
-      front = take-all (length es - at) left few ∙ sym (take-all b left fewer);
-      rest = drop-of-length-le es whole ∙ sym (drop-of-length-le left fewer);
-    }
+pub share-few : (b left : ℕ) → (shareOf b left ≤ b) × (shareOf b left ≤ left)
+unfolding shareOf
+share-few b left = go (ord left b)
+  where
+    go : Ord left b → (shareOf b left ≤ b) × (shareOf b left ≤ left)
+    go (lt h t) = rw t (omega arith, omega arith)
+    go (ge h t) = rw t (omega arith, omega arith)
 
-pub whole-run : (b : ℕ) (es : List Entry) (at : ℕ) → at ≤ length es → b ≤ length es - at → Run b es at (at + b)
-whole-run b es at h k =
-    let q : at + b - at ≡ b = omega arith in
-    record {
-      starts = omega arith;
-      ends = omega arith;
-      few = omega arith;
-      front = ap (λ (n : ℕ). take n (drop at es)) q;
-      rest = sym (drop-drop b at es);
-    }
+-- Of the first m records, `left` stand from `at` on.
+module _ (b m at left : ℕ) (es : List Entry) (all : m ≡ at + left) (long : m ≤ length es) where
+  left-there : drop at (take m es) ≡ take left (drop at es)
+  left-there =
+      ap (λ (n : ℕ). drop at (take n es)) all ∙ ap (drop at) (take-add at left es) ∙ drop-at (take at es) (take left (drop at es)) at (length-take-le at es (omega arith))
+
+  length-left : length (take left (drop at es)) ≡ left
+  length-left = length-take-le left (drop at es) (rw length-drop (omega arith))
+
+  pub share-front : take (shareOf b left) (drop at es) ≡ take b (drop at (take m es))
+  unfolding shareOf
+  share-front = go (ord left b)
+    where
+      go : Ord left b → take (shareOf b left) (drop at es) ≡ take b (drop at (take m es))
+      go (lt h t) = rw (t, left-there) (sym (take-all b (take left (drop at es)) (omega (arith, length-left))))
+      go (ge h t) = rw (t, left-there) (sym (take-take b left (drop at es) h))
+
+  pub share-rest : (end : ℕ) → end ≡ at + shareOf b left → drop end (take m es) ≡ drop b (drop at (take m es))
+  unfolding shareOf
+  share-rest end e = ap (λ (n : ℕ). drop n (take m es)) e ∙ go (ord left b)
+    where
+      whole : length (take m es) ≡ m
+      whole = length-take-le m es long
+
+      go : Ord left b → drop (at + shareOf b left) (take m es) ≡ drop b (drop at (take m es))
+      go (lt h t) =
+          let none : length (take m es) ≤ at + left = omega (arith, whole) in
+          let neither : length (take m es) ≤ at + b = omega (arith, whole) in
+          rw t (drop-of-length-le (take m es) none ∙ sym (drop-drop b at (take m es) ∙ drop-of-length-le (take m es) neither))
+      go (ge h t) = rw t (sym (drop-drop b at (take m es)))
 
 -- ---- Links
 

@@ -1,17 +1,18 @@
 -- A page's words written one after the other: one turn, over the model's filledPage.
--- Main statements: word-written (a turn), page-whole and page-written (the end).
-use mathlib.Core.Path.{_≡_, sym, ap, _∙_}
-use mathlib.Core.List.{List, _∷_, _++_}
+-- Main statements: word-written (a turn), page-whole (the end); run-word, run-zero and page-written where the records
+-- stand in a buffer.
+use mathlib.Core.Path.{_≡_, sym, ap, ap₂, _∙_}
+use mathlib.Core.List.{List, _∷_, _++_, append-assoc}
 use Prim.Native.Nat.{ℕ, zero, suc, _+_, _-_, _*_, _/_, _≤_, _<_}
 use native.Mathlib.Numerals.{add-one}
 use native.Mathlib.Omega.{arith}
-use lib.ListN.{length, getD, set, take, drop, replicate}
-use lib.Seq.{drop-cons, take-suc, take-all, append-snoc, length-take-le, set-at}
+use lib.ListN.{length, getD, set, take, drop, replicate, length-append, length-drop, length-replicate, getD-replicate, replicate-append-replicate, List·getD-append}
+use lib.Seq.{drop-cons, take-suc, take-all, append-snoc, length-take-le, set-at, getD-take, getD-drop, getD-append-add}
 use Rattle.model.specs.declared.Entry.{Entry}
 use Rattle.model.specs.Sizes.{mostRecords, recordWords}
 use Rattle.model.specs.Pages.{recordsIn, wordsOf, filledPage}
 use Rattle.model.proofs.Laws.Pages.{length-wordsOf}
-use Rattle.model.proofs.Laws.RecordWords.{length-records, words-back}
+use Rattle.model.proofs.Laws.RecordWords.{length-records, records-take, records-drop, words-back}
 
 -- A page's record words, and word 15.
 abbrev pub room : ℕ
@@ -48,13 +49,54 @@ page-whole level es link i q k =
     ∙ ap (λ (l : List ℕ). l ++ drop all (replicate room 0)) (take-all all (wordsOf es) (omega (arith, length-wordsOf es)))
     ∙ ap (λ (l : List ℕ). wordsOf es ++ l) (zeros-left all room 0 (omega arith)))
 
-pub page-written : (level : ℕ) (ws : List ℕ) (link i : ℕ) → i ≡ length ws / recordWords * recordWords → length ws ≤ mostRecords * recordWords
-    → wordsAfter level (length ws / recordWords) ws link i ≡ filledPage level (recordsIn ws) link
-unfolding filledPage
-page-written level ws link i q k =
-    let n = length ws / recordWords in
-    let all = n * recordWords in
-    rw (length-records ws, words-back ws)
-    (ap (λ (l : List ℕ). level ∷ (n ∷ (link ∷ l)))
-    (ap (λ (j : ℕ). take j ws ++ drop j (replicate room 0)) q
-    ∙ ap (λ (l : List ℕ). take all ws ++ l) (zeros-left all room 0 (omega arith))))
+-- ---- A page of words that stand in a buffer
+
+-- The record words of a page with n records from record `at` of the words on, and zeros behind them.
+abbrev pub runWords : List ℕ → ℕ → ℕ → List ℕ
+runWords ws at n = take (n * recordWords) (drop (at * recordWords) ws) ++ replicate (mostRecords * recordWords - n * recordWords) 0
+
+module _ (ws : List ℕ) (at n : ℕ) (few : n ≤ mostRecords) (fits : (at + mostRecords) * recordWords ≤ length ws) where
+  length-front : length (take (n * recordWords) (drop (at * recordWords) ws)) ≡ n * recordWords
+  length-front = length-take-le (n * recordWords) (drop (at * recordWords) ws) (rw length-drop (omega arith))
+
+  pub length-run : length (runWords ws at n) ≡ mostRecords * recordWords
+  length-run = rw (length-append, length-front, length-replicate) (omega arith)
+
+  pub run-word : (i : ℕ) → i < n * recordWords → getD (runWords ws at n) i 0 ≡ getD ws (at * recordWords + i) 0
+  run-word i h =
+      let front = take (n * recordWords) (drop (at * recordWords) ws) in
+      List·getD-append front (replicate (mostRecords * recordWords - n * recordWords) 0) 0 i (omega (arith, length-front))
+      ∙ getD-take (n * recordWords) (drop (at * recordWords) ws) i 0 h
+      ∙ getD-drop (at * recordWords) ws i 0
+
+  pub run-zero : (i : ℕ) → n * recordWords ≤ i → i < mostRecords * recordWords → getD (runWords ws at n) i 0 ≡ 0
+  run-zero i h k =
+      let front = take (n * recordWords) (drop (at * recordWords) ws) in
+      let zeros = replicate {A = ℕ} (mostRecords * recordWords - n * recordWords) 0 in
+      let past : i ≡ length front + (i - n * recordWords) = omega (arith, length-front) in
+      ap (λ (j : ℕ). getD (front ++ zeros) j 0) past
+      ∙ getD-append-add front zeros (i - n * recordWords) 0
+      ∙ getD-replicate (mostRecords * recordWords - n * recordWords) (i - n * recordWords) 0 0 (omega arith)
+
+  front-back : wordsOf (take n (drop at (recordsIn ws))) ≡ take (n * recordWords) (drop (at * recordWords) ws)
+  front-back =
+      let front = take (n * recordWords) (drop (at * recordWords) ws) in
+      let read : recordsIn front ≡ take n (drop at (recordsIn ws)) = records-take n (drop (at * recordWords) ws) ∙ ap (take n) (records-drop at ws) in
+      ap wordsOf (sym read) ∙ words-back front ∙ take-all (length front / recordWords * recordWords) front (omega (arith, length-front))
+
+  length-share : length (take n (drop at (recordsIn ws))) ≡ n
+  length-share = length-take-le n (drop at (recordsIn ws)) (rw (length-drop, length-records) (omega arith))
+
+  pub page-written : (level link i : ℕ) → i ≡ mostRecords * recordWords → wordsAfter level n (runWords ws at n) link i ≡ filledPage level (take n (drop at (recordsIn ws))) link
+  unfolding filledPage
+  page-written level link i q =
+      let front = take (n * recordWords) (drop (at * recordWords) ws) in
+      let spare = mostRecords * recordWords - n * recordWords in
+      let zeros : spare + 1 ≡ room - n * recordWords = omega arith in
+      let whole : take i (runWords ws at n) ≡ runWords ws at n = take-all i (runWords ws at n) (omega (arith, length-run)) in
+      let last : drop {A = ℕ} i (replicate room 0) ≡ replicate 1 0 = ap (λ (j : ℕ). drop {A = ℕ} j (replicate room 0)) q in
+      let filled : take i (runWords ws at n) ++ drop i (replicate room 0) ≡ front ++ replicate (room - n * recordWords) 0
+      = ap₂ (λ (xs ys : List ℕ). xs ++ ys) whole last
+      ∙ append-assoc front (replicate spare 0) (replicate 1 0)
+      ∙ ap (λ (ys : List ℕ). front ++ ys) (replicate-append-replicate spare 1 0 ∙ ap (λ (j : ℕ). replicate j 0) zeros) in
+      rw (length-share, front-back) (ap (λ (l : List ℕ). level ∷ (n ∷ (link ∷ l))) filled)

@@ -55,6 +55,9 @@ loop-again c =
     let next = rw (key-at ws (l .i) more) at (place-next (a .k) (recordsIn ws) (l .i) more) in
     (l .inv .0, omega arith, omega arith, omega (arith, l .inv .3, next))
 
+cast-result : tie.Need-cast-result Inv-loop μ-loop
+cast-result c = search needs
+
 returns : tie.Need-returns Inv-loop μ-loop
 returns c =
     let l = c .before .loop in
@@ -76,4 +79,5 @@ below-spec =
     add-i
     loop-less
     loop-again
+    cast-result
     returns)

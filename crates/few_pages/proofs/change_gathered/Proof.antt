@@ -1,19 +1,18 @@
--- `few_pages::change_gathered` meets its contract: the cases of Changes, with the chain in the buffer as Gathers has it.
+-- `few_pages::change_gathered` meets its contract.
 use mathlib.Core.Path.{ap, _∙_}
-use Prim.Native.Nat.{_+_, _-_, _*_, _≤_}
+use Prim.Native.Nat.{_*_}
 use native.Mathlib.Omega.{arith}
-use lib.ListN.{length}
-use borrow.Author.Tests.{not-true, not-false}
+use lib.Dec.{eqb}
 use Rattle.model.specs.Sizes.{recordWords}
 use Rattle.model.specs.Entries.{ascending}
 use Rattle.model.specs.Chains.{chainOf}
 use Rattle.model.specs.Ready.{viewing}
-use Rattle.model.specs.Steps.Rebuild.{kept}
+use Rattle.model.specs.Steps.Rebuild.{kept, changeOf}
 use Rattle.model.proofs.Laws.RecordWords.{records-front}
 use Rattle.entries.specs.Places.{placeOf}
 use Rattle.chain_keys.proofs.WholeChain.{gathered-damaged}
-use Rattle.chain_change.proofs.Changes.{chain-refused, change-kept, key-present, key-absent}
-use Rattle.few_pages.proofs.Gathers.{front-length, can-gather, chain-whole, front-ascends, front-few, front-has, chain-has, place-before, inserted-there, deleted-there}
+use Rattle.chain_change.proofs.Changes.{chain-refused, change-kept}
+use Rattle.few_pages.proofs.Gathers.{front-length, can-gather, chain-whole, front-ascends, front-few, front-has, chain-has, agree, differ, nothing-changed}
 use borrow.Author.Needs.{needs}
 use Rattle.few_pages.proofs.change_gathered.Statement.{statement}
 use Rattle.few_pages.proofs.change_gathered.Tie as tie
@@ -72,7 +71,17 @@ part-below-end c =
     omega (arith, whole .fits)
 
 below-requires : tie.Need-below-requires
-below-requires c κs = search needs
+below-requires c κs =
+    let at-g = c .before .before .before in
+    let at-gather = at-g .before .before .before .before in
+    let start = at-gather .before .before .before .before .before in
+    let a = start .args in
+    let g = at-g .g .given .0 .0 in
+    let words = at-gather .gather .last .1 .1 .1 .1 .0 in
+    let long = at-gather .gather .kept .1 .1 .1 .1 .0 in
+    let whole = chain-whole (start .pre) words (at-gather .gather .ensures) (at-g .g .given .1) in
+    let few = front-few (a .root) (a .pages .now) (a .party .chain) (a .n) g words whole (start .pre .0 .few) in
+    omega (arith, few, start .pre .0 .can-change .keys-fit, front-length (g .count * recordWords) words (whole .fits))
 
 sub-has-at : tie.Need-sub-has-at
 sub-has-at c = search needs
@@ -116,9 +125,7 @@ same-length-4 c = search needs
 
 returns-2 : tie.Need-returns-2
 returns-2 c = λ ls.
-    let at-if2 = c .before in
-    let at-if1 = at-if2 .before in
-    let at-has-at = at-if1 .before .before in
+    let at-has-at = c .before .before .before in
     let at-g = at-has-at .before .before .before .before .before .before .before in
     let at-gather = at-g .before .before .before .before in
     let start = at-gather .before .before .before .before .before in
@@ -129,14 +136,13 @@ returns-2 c = λ ls.
     let whole = chain-whole (start .pre) words (at-gather .gather .ensures) (at-g .g .given .1) in
     let told = at-has-at .has-at .ensures in
     let v = viewing (a .root) (a .party) (a .q) ls (a .pages .now) in
-    let present = chain-has (a .root) (a .pages .now) (a .party .chain) (a .n) g words whole (a .party .key) told ∙ at-if2 .if2 .taken in
+    let has = chain-has (a .root) (a .pages .now) (a .party .chain) (a .n) g words whole (a .party .key) told in
     change-kept v (whole .chain) (whole .is-sound) (c .kept-answer .result)
-    (ap kept (c .kept-answer .ensures) ∙ key-present (a .party .operation) (a .party .key) (a .party .setting) (whole .chain .entries) (at-if1 .if1 .taken) present)
+    (ap kept (c .kept-answer .ensures) ∙ nothing-changed (a .party .operation) (a .party .key) (a .party .setting) (whole .chain .entries) has (agree (at-has-at .has-at .result) (eqb (a .party .operation) 2) (c .before .if1 .taken)))
 
-put-in-requires : tie.Need-put-in-requires
-put-in-requires c κs =
-    let at-if2 = c .before in
-    let at-has-at = at-if2 .before .before .before in
+change-front-requires : tie.Need-change-front-requires
+change-front-requires c κs =
+    let at-has-at = c .before .before .before in
     let at-below = at-has-at .before .before .before in
     let at-g = at-below .before .before .before .before in
     let at-gather = at-g .before .before .before .before in
@@ -147,51 +153,18 @@ put-in-requires c κs =
     let long = at-gather .gather .kept .1 .1 .1 .1 .0 in
     let whole = chain-whole (start .pre) words (at-gather .gather .ensures) (at-g .g .given .1) in
     let few = front-few (a .root) (a .pages .now) (a .party .chain) (a .n) g words whole (start .pre .0 .few) in
-    let keys-fit = start .pre .0 .can-change .keys-fit in
     let told = at-has-at .has-at .ensures in
-    let at = at-below .below .ensures ∙ ap (placeOf (a .party .key)) (records-front (g .count) words) in
-    let absent = front-has (a .root) (a .pages .now) (a .party .chain) (a .n) g words whole (a .party .key) told ∙ at-if2 .if2 .left in
-    (omega (arith, few, keys-fit, long, start .pre .1), front-ascends (a .root) (a .pages .now) (a .party .chain) (a .n) g words whole, at, absent)
-
-add-more : tie.Need-add-more
-add-more c =
-    let at-g = c .before .before .before .before .before .before .before .before .before .before .before .before .before .before in
-    let at-gather = at-g .before .before .before .before in
-    let start = at-gather .before .before .before .before .before in
-    let a = start .args in
-    let g = at-g .g .given .0 .0 in
-    let words = at-gather .gather .last .1 .1 .1 .1 .0 in
-    let long = at-gather .gather .kept .1 .1 .1 .1 .0 in
-    let whole = chain-whole (start .pre) words (at-gather .gather .ensures) (at-g .g .given .1) in
-    let few = front-few (a .root) (a .pages .now) (a .party .chain) (a .n) g words whole (start .pre .0 .few) in
-    let keys-fit = start .pre .0 .can-change .keys-fit in
-    record { fits = omega (arith, few, keys-fit) }
-
-sub-write-few : tie.Need-sub-write-few
-sub-write-few c = search needs
-
-part-write-few-start : tie.Need-part-write-few-start
-part-write-few-start c = search needs
-
-part-write-few-end : tie.Need-part-write-few-end
-part-write-few-end c =
-    let at-put-in = c .before .before .before in
-    let at-g = at-put-in .before .before .before .before .before .before .before .before .before .before .before .before in
-    let at-gather = at-g .before .before .before .before in
-    let start = at-gather .before .before .before .before .before in
-    let a = start .args in
-    let g = at-g .g .given .0 .0 in
-    let words = at-gather .gather .last .1 .1 .1 .1 .0 in
-    let long = at-gather .gather .kept .1 .1 .1 .1 .0 in
-    let whole = chain-whole (start .pre) words (at-gather .gather .ensures) (at-g .g .given .1) in
-    let few = front-few (a .root) (a .pages .now) (a .party .chain) (a .n) g words whole (start .pre .0 .few) in
-    let keys-fit = start .pre .0 .can-change .keys-fit in
-    omega (arith, few, keys-fit, long, start .pre .1, at-put-in .put-in .kept .0)
+    record {
+      has-room = omega (arith, few, start .pre .0 .can-change .keys-fit, long, start .pre .1);
+      ascends = front-ascends (a .root) (a .pages .now) (a .party .chain) (a .n) g words whole;
+      place = at-below .below .ensures ∙ ap (placeOf (a .party .key)) (records-front (g .count) words);
+      changes = front-has (a .root) (a .pages .now) (a .party .chain) (a .n) g words whole (a .party .key) told ∙ differ (at-has-at .has-at .result) (eqb (a .party .operation) 2) (c .before .if1 .left);
+    }
 
 write-few-requires : tie.Need-write-few-requires
 write-few-requires c κs =
-    let at-put-in = c .before .before .before .before .before in
-    let at-g = at-put-in .before .before .before .before .before .before .before .before .before .before .before .before in
+    let at-front = c .before .before .before .before in
+    let at-g = at-front .before .before .before .before .before .before .before .before .before .before .before in
     let at-gather = at-g .before .before .before .before in
     let start = at-gather .before .before .before .before .before in
     let a = start .args in
@@ -200,10 +173,9 @@ write-few-requires c κs =
     let long = at-gather .gather .kept .1 .1 .1 .1 .0 in
     let whole = chain-whole (start .pre) words (at-gather .gather .ensures) (at-g .g .given .1) in
     let few = front-few (a .root) (a .pages .now) (a .party .chain) (a .n) g words whole (start .pre .0 .few) in
-    let keys-fit = start .pre .0 .can-change .keys-fit in
-    let after = at-put-in .put-in .last .0 in
-    let room : g .count * recordWords + recordWords ≤ length after = omega (arith, few, keys-fit, long, start .pre .1, at-put-in .put-in .kept .0) in
-    record { can-change = start .pre .0 .can-change; few = omega (arith, few, front-length (g .count * recordWords + recordWords) after room) }
+    let can = start .pre .0 .can-change in
+    let more = at-front .change-front .ensures .1 in
+    record { can-change = can; few = omega (arith, few, more); has-room = omega (arith, few, more, can .keys-fit, long, start .pre .1, at-front .change-front .kept) }
 
 same-length-5 : tie.Need-same-length-5
 same-length-5 c = search needs
@@ -213,12 +185,9 @@ same-length-6 c = search needs
 
 returns-3 : tie.Need-returns-3
 returns-3 c = λ ls.
-    let at-write-few = c .before .before in
-    let at-put-in = at-write-few .before .before .before .before .before .before in
-    let at-if2 = at-put-in .before .before in
-    let at-if1 = at-if2 .before in
-    let at-has-at = at-if1 .before .before in
-    let at-g = at-has-at .before .before .before .before .before .before .before in
+    let at-write = c .before .before in
+    let at-front = at-write .before .before .before .before .before in
+    let at-g = at-front .before .before .before .before .before .before .before .before .before .before .before in
     let at-gather = at-g .before .before .before .before in
     let start = at-gather .before .before .before .before .before in
     let a = start .args in
@@ -226,138 +195,8 @@ returns-3 c = λ ls.
     let words = at-gather .gather .last .1 .1 .1 .1 .0 in
     let long = at-gather .gather .kept .1 .1 .1 .1 .0 in
     let whole = chain-whole (start .pre) words (at-gather .gather .ensures) (at-g .g .given .1) in
-    let told = at-has-at .has-at .ensures in
-    let absent = chain-has (a .root) (a .pages .now) (a .party .chain) (a .n) g words whole (a .party .key) told ∙ at-if2 .if2 .left in
-    let made = inserted-there (a .root) (a .pages .now) (a .party .chain) (a .n) g words whole (a .party .operation) (a .party .key) (a .party .setting) (at-put-in .put-in .last .0) (at-if1 .if1 .taken) absent (at-put-in .put-in .ensures) in
-    at-write-few .write-few .ensures ls (whole .chain) (whole .is-sound) (whole .level) (whole .pages) made
-
-kept-answer-requires-2 : tie.Need-kept-answer-requires-2
-kept-answer-requires-2 c κs = search needs
-
-same-length-7 : tie.Need-same-length-7
-same-length-7 c = search needs
-
-same-length-8 : tie.Need-same-length-8
-same-length-8 c = search needs
-
-returns-4 : tie.Need-returns-4
-returns-4 c = λ ls.
-    let at-if3 = c .before in
-    let at-if1 = at-if3 .before in
-    let at-has-at = at-if1 .before .before in
-    let at-g = at-has-at .before .before .before .before .before .before .before in
-    let at-gather = at-g .before .before .before .before in
-    let start = at-gather .before .before .before .before .before in
-    let a = start .args in
-    let g = at-g .g .given .0 .0 in
-    let words = at-gather .gather .last .1 .1 .1 .1 .0 in
-    let long = at-gather .gather .kept .1 .1 .1 .1 .0 in
-    let whole = chain-whole (start .pre) words (at-gather .gather .ensures) (at-g .g .given .1) in
-    let told = at-has-at .has-at .ensures in
-    let v = viewing (a .root) (a .party) (a .q) ls (a .pages .now) in
-    let absent = chain-has (a .root) (a .pages .now) (a .party .chain) (a .n) g words whole (a .party .key) told ∙ not-true _ (at-if3 .if3 .taken) in
-    change-kept v (whole .chain) (whole .is-sound) (c .kept-answer2 .result)
-    (ap kept (c .kept-answer2 .ensures) ∙ key-absent (a .party .operation) (a .party .key) (a .party .setting) (whole .chain .entries) (at-if1 .if1 .left) absent)
-
-leave-out-requires : tie.Need-leave-out-requires
-leave-out-requires c κs =
-    let at-if3 = c .before in
-    let at-has-at = at-if3 .before .before .before in
-    let at-below = at-has-at .before .before .before in
-    let at-g = at-below .before .before .before .before in
-    let at-gather = at-g .before .before .before .before in
-    let start = at-gather .before .before .before .before .before in
-    let a = start .args in
-    let g = at-g .g .given .0 .0 in
-    let words = at-gather .gather .last .1 .1 .1 .1 .0 in
-    let long = at-gather .gather .kept .1 .1 .1 .1 .0 in
-    let whole = chain-whole (start .pre) words (at-gather .gather .ensures) (at-g .g .given .1) in
-    let told = at-has-at .has-at .ensures in
-    let at = at-below .below .ensures ∙ ap (placeOf (a .party .key)) (records-front (g .count) words) in
-    let present = front-has (a .root) (a .pages .now) (a .party .chain) (a .n) g words whole (a .party .key) told ∙ not-false _ (at-if3 .if3 .left) in
-    (omega (arith, at, place-before (a .root) (a .pages .now) (a .party .chain) (a .n) g words whole (a .party .key) present), whole .fits)
-
-sub-fewer : tie.Need-sub-fewer
-sub-fewer c =
-    let at-if3 = c .before .before .before .before in
-    let at-has-at = at-if3 .before .before .before in
-    let at-g = at-has-at .before .before .before .before .before .before .before in
-    let at-gather = at-g .before .before .before .before in
-    let start = at-gather .before .before .before .before .before in
-    let a = start .args in
-    let g = at-g .g .given .0 .0 in
-    let words = at-gather .gather .last .1 .1 .1 .1 .0 in
-    let long = at-gather .gather .kept .1 .1 .1 .1 .0 in
-    let whole = chain-whole (start .pre) words (at-gather .gather .ensures) (at-g .g .given .1) in
-    let told = at-has-at .has-at .ensures in
-    let present = front-has (a .root) (a .pages .now) (a .party .chain) (a .n) g words whole (a .party .key) told ∙ not-false _ (at-if3 .if3 .left) in
-    omega (arith, place-before (a .root) (a .pages .now) (a .party .chain) (a .n) g words whole (a .party .key) present)
-
-sub-write-few-2 : tie.Need-sub-write-few-2
-sub-write-few-2 c = search needs
-
-part-write-few-start-2 : tie.Need-part-write-few-start-2
-part-write-few-start-2 c = search needs
-
-part-write-few-end-2 : tie.Need-part-write-few-end-2
-part-write-few-end-2 c =
-    let at-leave-out = c .before .before .before in
-    let at-g = at-leave-out .before .before .before .before .before .before .before .before .before .before .before .before in
-    let at-gather = at-g .before .before .before .before in
-    let start = at-gather .before .before .before .before .before in
-    let a = start .args in
-    let g = at-g .g .given .0 .0 in
-    let words = at-gather .gather .last .1 .1 .1 .1 .0 in
-    let long = at-gather .gather .kept .1 .1 .1 .1 .0 in
-    let whole = chain-whole (start .pre) words (at-gather .gather .ensures) (at-g .g .given .1) in
-    omega (arith, whole .fits, at-leave-out .leave-out .kept .0)
-
-write-few-requires-2 : tie.Need-write-few-requires-2
-write-few-requires-2 c κs =
-    let at-leave-out = c .before .before .before .before .before in
-    let at-g = at-leave-out .before .before .before .before .before .before .before .before .before .before .before .before in
-    let at-gather = at-g .before .before .before .before in
-    let start = at-gather .before .before .before .before .before in
-    let a = start .args in
-    let g = at-g .g .given .0 .0 in
-    let words = at-gather .gather .last .1 .1 .1 .1 .0 in
-    let long = at-gather .gather .kept .1 .1 .1 .1 .0 in
-    let whole = chain-whole (start .pre) words (at-gather .gather .ensures) (at-g .g .given .1) in
-    let few = front-few (a .root) (a .pages .now) (a .party .chain) (a .n) g words whole (start .pre .0 .few) in
-    let keys-fit = start .pre .0 .can-change .keys-fit in
-    let after = at-leave-out .leave-out .last .0 in
-    let room : g .count * recordWords - recordWords ≤ length after = omega (arith, whole .fits, at-leave-out .leave-out .kept .0) in
-    record { can-change = start .pre .0 .can-change; few = omega (arith, few, front-length (g .count * recordWords - recordWords) after room) }
-
-same-length-9 : tie.Need-same-length-9
-same-length-9 c = search needs
-
-same-length-10 : tie.Need-same-length-10
-same-length-10 c = search needs
-
-returns-5 : tie.Need-returns-5
-returns-5 c = λ ls.
-    let at-write-few2 = c .before .before in
-    let at-leave-out = at-write-few2 .before .before .before .before .before .before in
-    let at-if3 = at-leave-out .before .before in
-    let at-if1 = at-if3 .before in
-    let at-has-at = at-if1 .before .before in
-    let at-below = at-has-at .before .before .before in
-    let at-g = at-below .before .before .before .before in
-    let at-gather = at-g .before .before .before .before in
-    let start = at-gather .before .before .before .before .before in
-    let a = start .args in
-    let g = at-g .g .given .0 .0 in
-    let words = at-gather .gather .last .1 .1 .1 .1 .0 in
-    let long = at-gather .gather .kept .1 .1 .1 .1 .0 in
-    let whole = chain-whole (start .pre) words (at-gather .gather .ensures) (at-g .g .given .1) in
-    let told = at-has-at .has-at .ensures in
-    let at = at-below .below .ensures ∙ ap (placeOf (a .party .key)) (records-front (g .count) words) in
-    let found = not-false _ (at-if3 .if3 .left) in
-    let present = front-has (a .root) (a .pages .now) (a .party .chain) (a .n) g words whole (a .party .key) told ∙ found in
-    let left = at-leave-out .leave-out .ensures (a .party .key) (front-ascends (a .root) (a .pages .now) (a .party .chain) (a .n) g words whole) present at in
-    let made = deleted-there (a .root) (a .pages .now) (a .party .chain) (a .n) g words whole (a .party .operation) (a .party .key) (a .party .setting) (at-leave-out .leave-out .last .0) (at-if1 .if1 .left) (chain-has (a .root) (a .pages .now) (a .party .chain) (a .n) g words whole (a .party .key) told ∙ found) left in
-    at-write-few2 .write-few2 .ensures ls (whole .chain) (whole .is-sound) (whole .level) (whole .pages) made
+    let made = at-front .change-front .ensures .0 ∙ ap (changeOf (a .party .operation) (a .party .key) (a .party .setting)) (whole .entries) in
+    at-write .write-few .ensures ls (whole .chain) (whole .is-sound) (whole .level) (whole .pages) made
 
 pub change-gathered-spec : {M : Type 1} → statement M
 change-gathered-spec =
@@ -382,25 +221,8 @@ change-gathered-spec =
     same-length-3
     same-length-4
     returns-2
-    put-in-requires
-    add-more
-    sub-write-few
-    part-write-few-start
-    part-write-few-end
+    change-front-requires
     write-few-requires
     same-length-5
     same-length-6
-    returns-3
-    kept-answer-requires-2
-    same-length-7
-    same-length-8
-    returns-4
-    leave-out-requires
-    sub-fewer
-    sub-write-few-2
-    part-write-few-start-2
-    part-write-few-end-2
-    write-few-requires-2
-    same-length-9
-    same-length-10
-    returns-5)
+    returns-3)

@@ -1,6 +1,6 @@
 -- `few_pages::write_few` meets its contract: the cases of Changes.
 use mathlib.Core.Path.{_≡_, sym, ap, ap₂, _∙_}
-use Prim.Native.Nat.{ℕ, _/_}
+use Prim.Native.Nat.{ℕ, _*_, _≤_}
 use mathlib.Core.List.{List}
 use native.Mathlib.Omega.{arith}
 use lib.ListN.{length, take}
@@ -12,7 +12,6 @@ use Rattle.model.specs.FreeList.{Taken, pagesTaken}
 use Rattle.model.specs.Ready.{viewing}
 use Rattle.model.specs.Steps.Rebuild.{changed, changeOf, owedBy}
 use Rattle.model.proofs.Laws.Lists.{front-part}
-use Rattle.model.proofs.Laws.RecordWords.{length-records}
 use Rattle.free_list.specs.declared.Drawn.{Drawn}
 use Rattle.free_list.specs.Taking.{drawnAs}
 use Rattle.free_list.proofs.Taking.{taken-overflow}
@@ -20,7 +19,7 @@ use Rattle.chain_change.specs.Changing.{changedAnswer}
 use Rattle.chain_change.proofs.Changes.{no-page-answered, free-list-damaged, change-written}
 use Rattle.chain_change.proofs.ReadChains.{chain-link}
 use Rattle.filling.proofs.Fills.{overflow-fillable}
-use Rattle.few_pages.proofs.Bounds.{few-pages, records-need}
+use Rattle.few_pages.proofs.Bounds.{few-pages, front-many, front-need}
 use borrow.Author.Needs.{needs}
 use Rattle.few_pages.proofs.write_few.Statement.{statement}
 use Rattle.few_pages.proofs.write_few.Tie as tie
@@ -37,8 +36,10 @@ returns c = λ ls ch found el en made.
     let start = at-pages-for .before .before .before in
     let a = start .args in
     let v = viewing (a .root) (a .party) (a .q) ls (a .pages .now) in
-    let many : at-pages-for .pages-for .result ≡ pagesFor (a .root .capacity) (recordsIn (a .words .now)) = records-need (a .root .capacity) (a .words .now) (at-pages-for .pages-for .ensures) in
-    no-page-answered v ch found (changedAnswer (a .party .operation)) (recordsIn (a .words .now)) made (at-pages-for .pages-for .result) many (c .if1 .taken)
+    let es = take (a .m) (recordsIn (a .words .now)) in
+    let many : at-pages-for .pages-for .result ≡ pagesFor (a .root .capacity) es
+    = front-need (a .m) (a .words .now) (omega (arith, start .pre .has-room)) (a .root .capacity) (at-pages-for .pages-for .ensures) in
+    no-page-answered v ch found (changedAnswer (a .party .operation)) es made (at-pages-for .pages-for .result) many (c .if1 .taken)
 
 slice-aggregate-take-pages : tie.Need-slice-aggregate-take-pages
 slice-aggregate-take-pages c = search needs
@@ -48,7 +49,7 @@ take-pages-requires c κs =
     let at-pages-for = c .before .before .before .before in
     let start = at-pages-for .before .before .before in
     let can = start .pre in
-    let few = few-pages (start .args .root .capacity) (length (start .args .words .now) / recordWords) (can .can-change .some-key) (omega (arith, can .few)) in
+    let few = few-pages (start .args .root .capacity) (start .args .m) (can .can-change .some-key) (can .few) in
     (can .can-change .pages-fit, can .can-change .overflow-fits, omega (arith, few, at-pages-for .pages-for .ensures))
 
 enum-told : tie.Need-enum-told
@@ -72,7 +73,7 @@ part-write-chain-end c =
     let at-pages-for = at-take-pages .before .before .before .before .before in
     let start = at-pages-for .before .before .before in
     let can = start .pre in
-    let few = few-pages (start .args .root .capacity) (length (start .args .words .now) / recordWords) (can .can-change .some-key) (omega (arith, can .few)) in
+    let few = few-pages (start .args .root .capacity) (start .args .m) (can .can-change .some-key) (can .few) in
     omega (arith, few, at-pages-for .pages-for .ensures, at-take-pages .take-pages .kept .1 .1 .1 .0)
 
 write-chain-requires : tie.Need-write-chain-requires
@@ -91,7 +92,7 @@ write-chain-requires c κs =
     let part = front-part count xs in
     let can = start .pre .can-change in
     let over = taken-overflow (a .root) (a .pages .now) count t taken .overflow in
-    (can .keys-fit, rw part (overflow-fillable (a .root) (a .pages .now) (take count xs) (can .chains-fit) (can .overflow-fits) (can .pages-fit) over), rw (at-scratch-page .scratch-page .ensures) (can .scratch .page-fits))
+    (can .keys-fit, start .pre .has-room, rw part (overflow-fillable (a .root) (a .pages .now) (take count xs) (can .chains-fit) (can .overflow-fits) (can .pages-fit) over), rw (at-scratch-page .scratch-page .ensures) (can .scratch .page-fits))
 
 changed-answer-requires : tie.Need-changed-answer-requires
 changed-answer-requires c κs = search needs
@@ -121,9 +122,10 @@ returns-2 c = λ ls ch found el en made.
     let count = at-pages-for .pages-for .result in
     let xs = take count (at-take-pages .take-pages .last .1 .1 .1 .0) in
     let v = viewing (a .root) (a .party) (a .q) ls (a .pages .now) in
-    let many : count ≡ pagesFor (a .root .capacity) (recordsIn (a .words .now)) = records-need (a .root .capacity) (a .words .now) (at-pages-for .pages-for .ensures) in
+    let es = take (a .m) (recordsIn (a .words .now)) in
+    let many : count ≡ pagesFor (a .root .capacity) es = front-need (a .m) (a .words .now) (omega (arith, start .pre .has-room)) (a .root .capacity) (at-pages-for .pages-for .ensures) in
     let bad : pagesTaken (a .root) (a .pages .now) count ≡ damaged = sym (at-take-pages .take-pages .ensures) ∙ ap (λ (d : Drawn). drawnAs d xs) (c .enum-told .given .1) in
-    free-list-damaged v ch found (changedAnswer (a .party .operation)) (recordsIn (a .words .now)) made count many (at-if1 .if1 .left) bad
+    free-list-damaged v ch found (changedAnswer (a .party .operation)) es made count many (at-if1 .if1 .left) bad
 
 same-length-2 : tie.Need-same-length-2
 same-length-2 c = search needs
@@ -146,16 +148,17 @@ returns-3 c = λ ls ch found el en made.
     = sym (at-take-pages .take-pages .ensures) ∙ ap (λ (d : Drawn). drawnAs d (take count xs)) (at-head .head .given .1) in
     let part = front-part count xs in
     let b = a .root .capacity in
-    let es = recordsIn (a .words .now) in
+    let es = take (a .m) (recordsIn (a .words .now)) in
+    let fits : a .m * recordWords ≤ length (a .words .now) = omega (arith, start .pre .has-room) in
     let v = viewing (a .root) (a .party) (a .q) ls (a .pages .now) in
     let answer = at-changed-answer .changed-answer .result in
     let change : changed answer es ≡ changeOf (a .party .operation) (a .party .key) (a .party .setting) (ch .entries) = ap (λ (n : ℕ). changed n es) (at-changed-answer .changed-answer .ensures) ∙ made in
-    let many : count ≡ pagesFor b es = records-need b (a .words .now) (at-pages-for .pages-for .ensures) in
-    let pages = at-write-chain .write-chain .last .1 .1 .1 .1 .1 .0 in
+    let many : count ≡ pagesFor b es = front-need (a .m) (a .words .now) fits b (at-pages-for .pages-for .ensures) in
+    let pages = at-write-chain .write-chain .last .1 .1 .1 .1 .1 .1 .0 in
     let whole : List ℕ → ℕ → ℕ → List ℕ = λ ys n l. withPage (overflowWritten b (a .pages .now) ys es) n (primaryOf b l es ys) in
     let written : pages ≡ whole (take count xs) (scratchPage (a .root) (a .q)) (ch .level)
     = at-write-chain .write-chain .ensures ∙ ap₂ (λ (ys : List ℕ) (n : ℕ). whole ys n (a .level)) part (at-scratch-page .scratch-page .ensures) ∙ ap (whole (take count xs) (scratchPage (a .root) (a .q))) el in
-    let owed = c .owed-by .ensures es (length-records (a .words .now)) ∙ ap (λ (n : ℕ). owedBy (a .party .operation) n count es) en in
+    let owed = c .owed-by .ensures es (front-many (a .m) (a .words .now) fits) ∙ ap (λ (n : ℕ). owedBy (a .party .operation) n count es) en in
     change-written v ch found answer es change count many (at-if1 .if1 .left) t (c .owed-by .result) pages taken (chain-link (a .root) (a .pages .now) (a .party .chain) ch found) owed written
 
 pub write-few-spec : {M : Type 1} → statement M
