@@ -7,14 +7,14 @@ from rows import PARTY
 
 ABOUT = '''-- `index::fill` meets its contract: a walk of its MIR, made by tools/walks/fill.py.
 -- The row's borrow is opened before the loop and closed after it. Between the two the row is the function's own: i records
--- that are p, and the rest as they were (proofs/Filled.antt).
+-- that are p, and the rest as they were (crates/calls/proofs/Filled.antt).
 '''
 USES = '''use Rattle.model.specs.declared.Party.{Party}
 use Rattle.model.specs.Records.{idle}
 use Rattle.model.proofs.Party as P
 use Rattle.model.proofs.Party.Laws as P′
 use Rattle.index.proofs.Ends.{place-fits}
-use Rattle.index.proofs.Filled.{filled, fill-more, length-filled, filled-all}
+use Rattle.calls.proofs.Filled.{filled, fill-more, length-filled, filled-all}
 use Rattle.index.proofs.fill.Key.{name as #index·fill}
 use Rattle.index.proofs.fill as it
 use Rattle.index.proofs.fill.Statement as stated

@@ -24,11 +24,9 @@ class Body(Walk):
             self.line(f'pass1 ! {self.room(k + 1, typed_param(p))} $')
         self.line('pass0 ! $')
         self.split_all('TOKENS', [p.token for p in lent] + ['alive'])
-        upto = function.params[:function.params.index(lent[-1]) + 1]
-        owned = [p.owned if p.lent else f'plain{k}' for k, p in enumerate(upto)] + ['plain']
-        self.fsplit_all('OWNS', owned)
-        for spent in ['alive'] + [e for e in owned if e.startswith('plain')]:
-            self.spend(spent)
+        self.fsplit_all('OWNS', [p.owned for p in lent] + ['plain'])
+        self.spend('alive')
+        self.spend('plain')
         for p in lent:
             if p.is_mut and p.stays:
                 self.take_apart(p)
@@ -296,7 +294,7 @@ def typed_param(p):
 
 class Function:
     """A function that is walked. `says` gives what it ensures, from the text of its result and of the last values. `uses` are `use`
-    lines, or a module and names of which those that occur are used."""
+    lines."""
 
     def __init__(self, crate, name, params, result, callees, locals, says, about, uses, rows, script=None):
         self.script = script or name
@@ -451,8 +449,7 @@ class Function:
         me = f'Rattle.{self.crate}.proofs.{self.name}'
         own = [f'use {me}.Key.{{name as {self.symbol}}}', f'use {me} as it', f'use {me}.Statement as stated', f'use {me}.Code as code']
         about = [f'-- `{self.crate}::{self.name}` meets its contract: a walk of its MIR, made by tools/walks/{self.script}.py.'] + [f'-- {line}' for line in self.about]
-        uses = [line for u in self.uses for line in ([u] if isinstance(u, str) else use_of(u[0], u[1].split(), text))]
-        uses = [u.replace('CRATE', f'Rattle.{self.crate}.proofs').replace('SPECS', f'Rattle.{self.crate}.specs') for u in uses]
+        uses = [u.replace('CRATE', f'Rattle.{self.crate}.proofs').replace('SPECS', f'Rattle.{self.crate}.specs') for u in self.uses]
         head = about + imports_for(text, [r.name for r in self.rows]) + rows + uses + callees + own
         folder = os.path.join(CRATES, self.crate, 'proofs', self.name)
         os.makedirs(folder, exist_ok=True)

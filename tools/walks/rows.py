@@ -15,11 +15,6 @@ BEGUN = Declared('X', 'Begun', 'calls', fields=[('party', PARTY), ('answer', BEG
 STEPPED = Declared('X', 'Stepped', 'model', fields=[('root', ROOT), ('party', PARTY), ('answer', STEP_ANSWER)])
 WITHDRAWN = Declared('X', 'Withdrawn', 'calls', fields=[('root', ROOT), ('party', PARTY), ('answer', WITHDRAW_ANSWER)])
 REPLY = Declared('Y', 'BeadReply', 'bead')
-HELD = Declared('D', 'Held', 'held')
-HELD_FORMAT = Declared('E', 'HeldFormat', 'held')
-HELD_BEGIN = Declared('E', 'HeldBegin', 'held')
-HELD_STEP = Declared('E', 'HeldStep', 'held')
-HELD_WITHDRAW = Declared('E', 'HeldWithdraw', 'held')
 
 
 def memory(root, row, words):

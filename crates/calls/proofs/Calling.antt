@@ -1,6 +1,6 @@
 -- The calls over values against the model's calls: what each leaves where it is refused, and where it is not.
 -- Main statements: format-refused, format-formatted; begin-refused, begin-begun; step-refused, step-stepped;
--- withdraw-refused, withdraw-withdrawn; past-refused, withdraw-past-refused.
+-- withdraw-refused, withdraw-withdrawn; past-refused, withdraw-past-refused; put-back.
 use mathlib.Core.Path.{_≡_, refl, sym, ap, _∙_}
 use mathlib.Core.Logic.{_≢_}
 use mathlib.Core.Bool.{Bool, true, false}
@@ -34,7 +34,7 @@ use Rattle.refusals.proofs.Causes.{earlier-stands, place-stands-at-step, place-
 use Rattle.calls.specs.Lent.{lent}
 
 -- A record put back where it stood; past the row's end none is written.
-put-back : (row : List Party) (q : ℕ) (p : Party) → (q < length row → partyAt row q ≡ p) → set row q p ≡ row
+pub put-back : (row : List Party) (q : ℕ) (p : Party) → (q < length row → partyAt row q ≡ p) → set row q p ≡ row
 put-back [] q p here = refl
 put-back (x ∷ row) zero p here = ap (λ (y : Party). y ∷ row) (sym (here (omega arith)))
 put-back (x ∷ row) (suc q) p here = ap (λ (r : List Party). x ∷ r) (put-back row q p (λ h. here (omega (arith, h))))

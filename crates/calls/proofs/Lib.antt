@@ -1,2 +1,3 @@
--- Laws that the proofs of this crate share.
+-- Laws that the proofs of this crate share, and those of the crates above.
 pub mod Calling
+pub mod Filled

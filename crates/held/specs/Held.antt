@@ -23,7 +23,7 @@ recordsLent parties = min parties 16
 abbrev pub memoryOf : Held → List ℕ → List ℕ → Memory
 memoryOf x ls gs = lent (x .root) (x .row) ls gs
 
--- The memory with the first n records alone: what the calls of `index` are lent.
+-- The memory with the first n records alone: what a call goes by.
 abbrev pub firstOf : ℕ → Memory → Memory
 firstOf n m = lent (m .root) (take n (m .parties)) (m .locks) (m .pages)
 

@@ -1,11 +1,15 @@
 // The file as a program without a heap holds it, by value: the root record and a row of sixteen party records.
-// The calls of `index` are lent the root, the first Q records of the row, and the words that the caller lends; the records past Q stay.
+// The calls of `calls` are handed the root, the party's record, which is one of the first Q of the row, and the words
+// that the caller lends; what comes back is written where it stood, and the records past Q stay.
 // Main statements: each call answers, and leaves in all that is held and in every lent word, what the model's
 // formatCall, beginCall, stepCall and withdrawCall say of the memory lent (specs/Held.antt); there is nothing that a
 // caller must see to.
 
 ghost use mathlib.Core.Path.{_≡_};
+ghost use mathlib.Core.List.{_++_};
 ghost use Prim.Native.Nat.{_≤_};
+ghost use lib.ListN.{drop, replicate};
+ghost use Rattle.model.specs.Records.{idle};
 ghost use Rattle.model.specs.Calls.{called};
 ghost use Rattle.held.specs.Held.{recordsLent, memoryOf, heldFormat, heldBegin, heldStep, heldWithdraw};
 use model::BeginAnswer;
@@ -55,14 +59,38 @@ fn records_lent(parties: u32) -> usize
     16
 }
 
+// The row with its first n records zero.
+fn cleared(row: [Party; 16], n: usize) -> [Party; 16]
+    requires { ⌜ n ≤ 16 ⌝ }
+    ensures { λ r. ⌜ r ≡ replicate n idle ++ drop n row ⌝ }
+{
+    let mut row = row;
+    let zero = records::idle();
+    let mut i = 0;
+    while i < n {
+        row[i] = zero;
+        i += 1;
+    }
+    row
+}
+
 // Format with these sizes, N b P V Q.
 pub fn format(held: Held, locks: &mut [u32], pages: &mut [u32], sizes: FileSizes) -> HeldFormat
     ensures { λ r. ⌜ called (r .answer) (memoryOf (r .held) (now (locks .exit)) (now (pages .exit))) ≡ heldFormat (memoryOf held (now (locks .entry)) (now (pages .entry))) sizes ⌝ }
 {
-    let mut root = held.root;
+    let former = held.root;
     let mut row = held.row;
     let n = records_lent(sizes.parties);
-    let answer = index::format(&mut root, &mut row[..n], locks, pages, sizes);
+    let made = calls::format(former, sizes, n, locks, pages);
+    let root = made.root;
+    let answer = made.answer;
+    match answer {
+        FormatAnswer::Formatted => {
+            let zero = cleared(row, n);
+            row = zero;
+        }
+        FormatAnswer::Refused(_) => {}
+    }
     HeldFormat {
         held: Held { root, row },
         answer,
@@ -83,7 +111,19 @@ pub fn begin(
     let root = held.root;
     let mut row = held.row;
     let n = records_lent(root.parties);
-    let answer = index::begin(&root, &mut row[..n], locks, pages, q, operation, key);
+    let at = q as usize;
+    let answer: BeginAnswer;
+    if at < n {
+        let former = row[at];
+        let begun = calls::begin(root, former, n, locks.len(), pages.len(), q, operation, key);
+        let party = begun.party;
+        answer = begun.answer;
+        row[at] = party;
+    } else {
+        let zero = records::idle();
+        let refused = calls::begin(root, zero, n, locks.len(), pages.len(), q, operation, key);
+        answer = refused.answer;
+    }
     HeldBegin {
         held: Held { root, row },
         answer,
@@ -94,10 +134,22 @@ pub fn begin(
 pub fn step(held: Held, locks: &mut [u32], pages: &mut [u32], q: u32) -> HeldStep
     ensures { λ r. ⌜ called (r .answer) (memoryOf (r .held) (now (locks .exit)) (now (pages .exit))) ≡ heldStep (memoryOf held (now (locks .entry)) (now (pages .entry))) q ⌝ }
 {
-    let mut root = held.root;
+    let former = held.root;
+    let mut root = former;
     let mut row = held.row;
-    let n = records_lent(root.parties);
-    let answer = index::step(&mut root, &mut row[..n], locks, pages, q);
+    let n = records_lent(former.parties);
+    let at = q as usize;
+    let answer: StepAnswer;
+    if at < n {
+        let stands = row[at];
+        let stepped = calls::step(former, stands, n, q, locks, pages);
+        root = stepped.root;
+        let party = stepped.party;
+        answer = stepped.answer;
+        row[at] = party;
+    } else {
+        answer = calls::step_past(former, n, locks.len(), pages.len(), q);
+    }
     HeldStep {
         held: Held { root, row },
         answer,
@@ -108,10 +160,22 @@ pub fn step(held: Held, locks: &mut [u32], pages: &mut [u32], q: u32) -> HeldSte
 pub fn withdraw(held: Held, locks: &mut [u32], pages: &mut [u32], q: u32) -> HeldWithdraw
     ensures { λ r. ⌜ called (r .answer) (memoryOf (r .held) (now (locks .exit)) (now (pages .exit))) ≡ heldWithdraw (memoryOf held (now (locks .entry)) (now (pages .entry))) q ⌝ }
 {
-    let mut root = held.root;
+    let former = held.root;
+    let mut root = former;
     let mut row = held.row;
-    let n = records_lent(root.parties);
-    let answer = index::withdraw(&mut root, &mut row[..n], locks, pages, q);
+    let n = records_lent(former.parties);
+    let at = q as usize;
+    let answer: WithdrawAnswer;
+    if at < n {
+        let stands = row[at];
+        let withdrawn = calls::withdraw(former, stands, n, q, locks, pages);
+        root = withdrawn.root;
+        let party = withdrawn.party;
+        answer = withdrawn.answer;
+        row[at] = party;
+    } else {
+        answer = calls::withdraw_past(former, n, locks.len(), pages.len(), q);
+    }
     HeldWithdraw {
         held: Held { root, row },
         answer,

@@ -2,8 +2,8 @@
 -- Main statements: format-made, format-refused; begin-inside, begin-refused, begin-past; step-inside, step-past; withdraw-inside, withdraw-past.
 use mathlib.Core.Path.{_≡_, refl, sym, _∙_, ap, subst}
 use mathlib.Core.Bool.{Bool, not}
-use mathlib.Core.List.{List, [], _∷_}
-use Prim.Native.Nat.{ℕ, zero, suc, _<_, _≤_, _*_, _^_}
+use mathlib.Core.List.{List}
+use Prim.Native.Nat.{ℕ, _<_, _≤_, _*_, _^_}
 use native.Mathlib.Omega.{arith}
 use lib.Dec.{T}
 use lib.ListN.{length, set, replicate}
@@ -25,6 +25,7 @@ use Rattle.calls.specs.declared.Formatted.{Formatted}
 use Rattle.calls.specs.declared.Begun.{Begun}
 use Rattle.calls.specs.declared.Withdrawn.{Withdrawn}
 use Rattle.calls.specs.Lent.{lent, rowAfter, leftByFormat, leftByBegin, leftByStep, leftByWithdraw}
+use Rattle.calls.proofs.Calling.{put-back}
 use Rattle.theory.proofs.Alters.{begin-alters}
 use Rattle.index.specs.Answered.{isFormatted, isBegun}
 
@@ -36,11 +37,9 @@ place-fits i n l r = omega (arith, l, r)
 pub wide-fits : (i : ℕ) → i < 2 ^ 32 → i < 2 ^ 64
 wide-fits i l = omega (arith, l)
 
--- A store past a list's end changes nothing.
-pub set-past : {X : Type 0} (xs : List X) (i : ℕ) (x : X) → length xs ≤ i → set xs i x ≡ xs
-set-past [] i x l = refl
-set-past (y ∷ xs) zero x l = absurd (omega (arith, l))
-set-past {X} (y ∷ xs) (suc i) x l = ap (λ (t : List X). y ∷ t) (set-past xs i x (omega (arith, l)))
+-- A store past the row's end changes nothing.
+pub set-past : (row : List Party) (i : ℕ) (p : Party) → length row ≤ i → set row i p ≡ row
+set-past row i p past = put-back row i p (λ h. absurd (omega (arith, h, past)))
 
 -- ---- What the calls over values say
 

@@ -3,4 +3,3 @@ pub mod TheIndex
 pub mod Ends
 pub mod Marks
 pub mod Stored
-pub mod Filled
