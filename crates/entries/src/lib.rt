@@ -55,7 +55,7 @@ pub fn has_at(words: &[u32], at: usize, k: u32) -> bool
 }
 
 // Record i of the words.
-fn record_at(words: &[u32], i: usize) -> Entry
+pub fn record_at(words: &[u32], i: usize) -> Entry
     requires { ⌜ (i + 1) * recordWords ≤ length (now words) ⌝ }
     ensures { λ r. ⌜ r ≡ recordAt (recordsIn (now (words .entry))) i ⌝ }
 {
@@ -67,7 +67,7 @@ fn record_at(words: &[u32], i: usize) -> Entry
 }
 
 // Record i of the words becomes e.
-fn set_record(words: &mut [u32], i: usize, e: Entry)
+pub fn set_record(words: &mut [u32], i: usize, e: Entry)
     requires { ⌜ (i + 1) * recordWords ≤ length (now words) ⌝ }
     ensures { λ _. ⌜ recordsIn (now (words .exit)) ≡ set (recordsIn (now (words .entry))) i e ⌝ }
 {

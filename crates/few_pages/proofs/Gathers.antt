@@ -27,9 +27,9 @@ use Rattle.chain_keys.specs.declared.Gathered.the-variants as Gathered
 use Rattle.chain_keys.specs.Gathering.{CanGather, gathered, inFront, entriesIn}
 use Rattle.chain_keys.proofs.WholeChain.{sound-ascends, Whole, gathered-whole, front-is}
 use Rattle.chain_change.specs.Changing.{keptAnswer}
+use Rattle.chain_change.proofs.ReadChains.{few-records}
 use Rattle.chain_change.proofs.Changes.{key-present, key-absent}
 use Rattle.few_pages.specs.Few.{CanChangeFew, CanChangeFront}
-use Rattle.few_pages.proofs.Bounds.{few-records}
 
 -- The front of a buffer, as it is lent, is as long as it says.
 pub front-length : (n : ℕ) (words : List ℕ) → n ≤ length words → length (take (n - 0) words) ≡ n

@@ -25,9 +25,6 @@ use model::Party;
 use model::RECORD_WORDS;
 use model::Root;
 
-// The most overflow pages that are gathered: with the primary page's, 48 records, 96 words.
-pub const FEW: u32 = 7;
-
 // The m changed records at the front of the buffer in new pages, for a chain that had n overflow pages and this local
 // level. "if fewer pages are free than the new chain needs, the answer is no page".
 fn write_few(

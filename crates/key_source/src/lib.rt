@@ -97,7 +97,7 @@ pub fn passed(p: Place) -> Place
 }
 
 // Whether a key stays.
-fn stays(h: Halving, k: u32) -> bool
+pub fn stays(h: Halving, k: u32) -> bool
     requires { ⌜ CanHalve h ⌝ }
     ensures { λ r. ⌜ r ≡ eqb (hash (h .originals) (h .level) k) (h .chain .0) ⌝ }
 {

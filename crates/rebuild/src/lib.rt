@@ -34,7 +34,7 @@ fn change(root: Root, party: Party, q: u32, pages: &mut [u32]) -> Changed
     match chain_keys::walk(root, ChainAddress(party.chain), &pages[..]) {
         Walked::Damaged => Changed::Damaged,
         Walked::Pages(n) => {
-            if n <= few_pages::FEW {
+            if n <= chain_keys::FEW {
                 return few_pages::change_few(root, party, q, n, pages);
             }
             many_pages::change_many(root, party, q, pages)

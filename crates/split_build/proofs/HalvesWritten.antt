@@ -16,8 +16,9 @@ use Rattle.chain_writer.specs.declared.Planned.{Planned}
 use Rattle.chain_writer.specs.declared.Rest.the-variants.{Chain}
 use Rattle.chain_writer.specs.Writing.{restWritten, allWritten, CanWrite}
 use Rattle.chain_writer.proofs.Chains.{two-written}
+use Rattle.split_few.specs.Splitting.{both, bothWritten}
 use Rattle.split_build.specs.declared.Division.{Division}
-use Rattle.split_build.specs.Dividing.{both, stayingFrom, goingFrom, firstNeed, bothNeed, CanWriteHalves, bothWritten}
+use Rattle.split_build.specs.Dividing.{stayingFrom, goingFrom, firstNeed, bothNeed, CanWriteHalves}
 
 module _ (r : Root) (ps : List ℕ) (d : Division) (scratch other : PageAddress) (can : CanWriteHalves r ps d (scratch .0) (other .0)) where
   -- Both chains, with this local level.

@@ -7,6 +7,7 @@ use native.Mathlib.Nat.{div-lt-iff-lt-mul, mul-le-mul-right}
 use native.Mathlib.Omega.{arith}
 use lib.ListN.{length}
 use Rattle.model.specs.declared.Root.{Root}
+use Rattle.model.specs.declared.Party.{Party}
 use Rattle.model.specs.declared.ChainAddress.{ChainAddress}
 use Rattle.model.specs.Pages.{scratchPage}
 use Rattle.model.specs.Chains.{sound, chainOf}
@@ -16,7 +17,6 @@ use Rattle.model.specs.Filling.{overflowNeeded, pagesFor}
 use Rattle.model.specs.FreeList.{Taken, pagesTaken}
 use Rattle.model.specs.Steps.SplitBuild.{Halves, halvesNeed}
 use Rattle.model.proofs.Laws.Lists.{all-map}
-use Rattle.records.specs.Words.{partyIn, AtHand}
 use Rattle.chain_scan.specs.declared.Looked.{Looked}
 use Rattle.chain_scan.specs.declared.Scan.the-variants as Scan
 use Rattle.chain_scan.specs.Scans.{scanned}
@@ -28,8 +28,9 @@ use Rattle.chains.specs.Links.{linkedPages}
 use Rattle.chains.proofs.Links.{leads-all, front-apart}
 use Rattle.free_list.proofs.Linked.{taken-drawn}
 use Rattle.chain_writer.proofs.Drawing.{drawn-fills}
+use Rattle.split_few.specs.Splitting.{both, halved, CanSplit}
 use Rattle.split_build.specs.declared.Division.{Division}
-use Rattle.split_build.specs.Dividing.{recordsOf, both, halved, stayingFrom, goingFrom, Divides, CanDivide, firstNeed, bothNeed, CanWriteHalves}
+use Rattle.split_build.specs.Dividing.{recordsOf, stayingFrom, goingFrom, Divides, CanDivide, firstNeed, bothNeed, CanWriteHalves}
 use Rattle.key_source.proofs.Looking.{Looks, chain-looked}
 
 -- ---- How many
@@ -89,27 +90,25 @@ module _ (r : Root) (ps : List ℕ) (c : ChainAddress) (l : Looked) (can : CanDi
 
 -- ---- The party's chain
 
-module _ (r : Root) (p : List ℕ) (q : ℕ) (ls ps : List ℕ) (hand : AtHand r p q ls ps) (l : Looked) where
+module _ (r : Root) (p : Party) (q : ℕ) (ps : List ℕ) (can : CanSplit r p q ps) (l : Looked) where
   abbrev here : ℕ
-  here = partyIn p .chain
+  here = p .chain
 
   module _ (looked : Scan.Sound l ≡ scanned 0 (chainOf r ps here)) where
     pub looks : Looks r ps here l
     looks =
-        let ready = hand .ready in
-        chain-looked r ps here l (ready .keys-fit) (ready .overflow-fits) (record { chain-fits = ready .chain-fits; pages-fit = omega (arith, ready .pages-fit) }) looked
+        let fits = can .can-change in
+        chain-looked r ps here l (fits .keys-fit) (fits .overflow-fits) (record { chain-fits = fits .chain-fits; pages-fit = fits .pages-fit }) looked
 
     pub can-divide : CanDivide r ps here l
     unfolding recordsOf
-    can-divide =
-        let ready = hand .ready in
-        record {
-          some-original = ready .some-original;
-          originals-fit = omega (arith, ready .originals-fit, ready .chains-fit);
-          level-fits = ready .level-fits;
-          can-start = looks .can-start;
-          count = looks .count ∙ sym (ap length (looks .records));
-        }
+    can-divide = record {
+      some-original = can .some-original;
+      originals-fit = can .originals-fit;
+      level-fits = can .level-fits;
+      can-start = looks .can-start;
+      count = looks .count ∙ sym (ap length (looks .records));
+    }
 
     -- The model's halves.
     abbrev pub halves : Halves
@@ -128,7 +127,7 @@ module _ (r : Root) (p : List ℕ) (q : ℕ) (ls ps : List ℕ) (hand : AtHand r
 
       pub both-few : bothNeed r d ≤ l .count
       both-few =
-          let some = hand .ready .some-key in
+          let some = can .can-change .some-key in
           let all = halved-length (halvingOf r (record { 0 = here })) (looks .chain .entries) in
           omega (arith, needed-at-most (r .capacity) (d .staying) some, needed-at-most (r .capacity) (d .going) some, stay-is, go-is, all, looks .count)
 
@@ -143,22 +142,22 @@ module _ (r : Root) (p : List ℕ) (q : ℕ) (ls ps : List ℕ) (hand : AtHand r
       pub halves-are : both (chosenOf ps (stayingFrom d)) (chosenOf ps (goingFrom d)) ≡ halves
       halves-are = ap₂ both (divides .stay) (divides .go) ∙ same
 
-      pub can-write-halves : (t : Taken) → pagesTaken r ps (bothNeed r d) ≡ sound t → CanWriteHalves r ps d (scratchPage r q) (partyIn p .other)
+      pub can-write-halves : (t : Taken) → pagesTaken r ps (bothNeed r d) ≡ sound t → CanWriteHalves r ps d (scratchPage r q) (p .other)
       can-write-halves t taken =
-          let ready = hand .ready in
+          let fits = can .can-change in
           let drawn = taken-drawn r ps (bothNeed r d) t taken in
           let last = overflowNeeded (r .capacity) (d .going) in
           let front = leads-all ps (front-apart ps (firstNeed r d) last (r .head) (drawn .can) .leads) in
           record {
-            some-key = ready .some-key;
-            keys-fit = ready .keys-fit;
-            level-fits = ready .level-fits;
+            some-key = fits .some-key;
+            keys-fit = fits .keys-fit;
+            level-fits = can .level-fits;
             sits = divides .sits;
             can-halve = divides .can-halve;
             many-stay = ap length (divides .stay) ∙ sym (divides .many-stay);
             many-go = ap length (divides .go) ∙ sym (divides .many-go);
-            scratch-fits = omega (arith, ready .pages-fit, ready .number-fits);
-            other-fits = omega (arith, ready .pages-fit, ready .other-fits);
-            can-fill = drawn-fills r ps (bothNeed r d) (r .head) (omega (arith, ready .pages-fit)) (drawn .can);
-            apart = all-map (linkedPages ps (firstNeed r d) (r .head)) (λ x o e. omega (arith, o .above, ready .other-fits)) front;
+            scratch-fits = fits .scratch .page-fits;
+            other-fits = omega (arith, fits .pages-fit, can .other-fits);
+            can-fill = drawn-fills r ps (bothNeed r d) (r .head) (fits .pages-fit) (drawn .can);
+            apart = all-map (linkedPages ps (firstNeed r d) (r .head)) (λ x o e. omega (arith, o .above, can .other-fits)) front;
           }

@@ -1,26 +1,20 @@
--- The chain of step 17 divided where it stands: its two halves, what writing them needs of the memory, and what it leaves.
--- Main definitions: recordsOf, halved (a chain's records and their halves); stayingFrom, goingFrom, Divides (a division, as the code has it); CanWriteHalves, bothWritten (both halves written);
--- CanDivide, CanSplit (what the functions need).
+-- The chain of step 17 divided where it stands: its records, its two halves, and what writing them needs of the
+-- memory.
+-- Main definitions: recordsOf (a chain's records); stayingFrom, goingFrom, Divides (a division, as the code has it);
+-- CanDivide, CanWriteHalves (what the functions need).
 use mathlib.Core.Path.{_≡_}
-use mathlib.Core.Bool.{false}
 use mathlib.Core.List.{List, _++_}
 use Prim.Native.Nat.{ℕ, _+_, _*_, _≤_}
-use lib.ListN.{length, take, drop}
+use lib.ListN.{length}
 use Rattle.model.specs.declared.Root.{Root}
 use Rattle.model.specs.Sizes.{pageWords, mostRecords}
-use Rattle.model.specs.Addresses.{splitBarred, countOfChains}
 use Rattle.model.specs.declared.Entry.{Entry}
-use Rattle.model.specs.Entries.{staying, going}
-use Rattle.model.specs.Pages.{pageOf, withPage, linkOf, entriesOf}
-use Rattle.model.specs.Chains.{chainOf}
-use Rattle.model.specs.Filling.{overflowNeeded, primaryOf, overflowWritten}
+use Rattle.model.specs.Pages.{pageOf, linkOf, entriesOf}
+use Rattle.model.specs.Filling.{overflowNeeded}
 use Rattle.model.specs.Steps.SplitBuild.{Halves}
 use Rattle.model.proofs.Laws.Distinct.{Outside}
-use Rattle.records.specs.Words.{rootWords, rootIn, partyIn, AtHand}
 use Rattle.chain_keys.specs.Gathering.{entriesFrom}
 use Rattle.chain_scan.specs.declared.Looked.{Looked}
-use Rattle.chain_scan.specs.declared.Scan.the-variants as Scan
-use Rattle.chain_scan.specs.Scans.{scanned}
 use Rattle.key_source.specs.declared.Choice.the-variants.{Staying, Going}
 use Rattle.key_source.specs.declared.Source.{Source}
 use Rattle.key_source.specs.Sources.{Sits, CanStart, CanHalve, chosenOf}
@@ -28,19 +22,11 @@ use Rattle.chains.specs.Links.{linkedPages}
 use Rattle.chain_writer.specs.Writing.{CanFill}
 use Rattle.split_build.specs.declared.Division.{Division}
 
--- ---- A chain's records and their halves
+-- ---- A chain's records
 
 -- The records of page c and of the n pages that its link leads to.
 unfoldable pub recordsOf : List ℕ → ℕ → ℕ → List Entry
 recordsOf ps c n = entriesOf (pageOf ps c) ++ entriesFrom ps n (linkOf (pageOf ps c))
-
--- Records that stay and records that go.
-abbrev pub both : List Entry → List Entry → Halves
-both stay go = record { stay = stay; go = go }
-
--- The halves of the records of chain c.
-abbrev pub halved : Root → ℕ → List Entry → Halves
-halved r c es = both (staying (r .originals) (r .level + 1) c es) (going (r .originals) (r .level + 1) c es)
 
 -- ---- A division
 
@@ -59,7 +45,8 @@ pub record Divides (ps : List ℕ) (h : Halves) (d : Division) : Type 0 where
   pub many-stay : d .staying ≡ length (h .stay)
   pub many-go : d .going ≡ length (h .go)
 
--- The chain of page c has as many pages and records as l says, and they can be read; the hash function of the next level is one that the file uses.
+-- The chain of page c has as many pages and records as l says, and they can be read; the hash function of the next
+-- level is one that the file uses.
 pub record CanDivide (r : Root) (ps : List ℕ) (c : ℕ) (l : Looked) : Type 0 where
   pub some-original : 1 ≤ r .originals
   pub originals-fit : r .originals ≤ 256
@@ -76,7 +63,8 @@ firstNeed r d = overflowNeeded (r .capacity) (d .staying)
 abbrev pub bothNeed : Root → Division → ℕ
 bothNeed r d = firstNeed r d + overflowNeeded (r .capacity) (d .going)
 
--- Both halves can be read, the pages at the head of the free list can be filled, and the memory has the places of both primary pages.
+-- Both halves can be read, the pages at the head of the free list can be filled, and the memory has the places of both
+-- primary pages.
 pub record CanWriteHalves (r : Root) (ps : List ℕ) (d : Division) (scratch other : ℕ) : Type 0 where
   pub some-key : 1 ≤ r .capacity
   pub keys-fit : r .capacity ≤ mostRecords
@@ -89,18 +77,3 @@ pub record CanWriteHalves (r : Root) (ps : List ℕ) (d : Division) (scratch oth
   pub other-fits : other * pageWords + pageWords ≤ length ps
   pub can-fill : CanFill ps (bothNeed r d) (r .head)
   pub apart : Outside other (linkedPages ps (firstNeed r d) (r .head))
-
--- The page memory with the overflow pages of both halves, the new chain's primary page and, in scratch, the old chain's.
-unfoldable pub bothWritten : ℕ → ℕ → ℕ → ℕ → Halves → ℕ → List ℕ → List ℕ → List ℕ
-bothWritten b level other scratch h first taken ps =
-    let qs = overflowWritten b (overflowWritten b ps (take first taken) (h .stay)) (drop first taken) (h .go) in
-    withPage (withPage qs other (primaryOf b level (h .go) (drop first taken))) scratch (primaryOf b level (h .stay) (take first taken))
-
--- ---- Step 17 once its chain was looked through
-
--- A chain is left to split into, and l is what is said of the party's chain.
-pub record CanSplit (w p : List ℕ) (q : ℕ) (l : Looked) (ls ps : List ℕ) : Type 0 where
-  pub words : length w ≡ rootWords
-  pub at-hand : AtHand (rootIn w) p q ls ps
-  pub not-barred : splitBarred (countOfChains (rootIn w)) (rootIn w .primaries) ≡ false
-  pub looked : Scan.Sound l ≡ scanned 0 (chainOf (rootIn w) ps (partyIn p .chain))

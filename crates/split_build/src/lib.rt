@@ -1,18 +1,24 @@
-// Step 17, inside an insert (document 01, "The thirty steps"): the records of a chain are divided over it and the new chain, read where they stand.
-// Main statements: division_of counts both halves; write_halves is bothWritten of them; step_17 is the model's step17, for every word that the memory may hold.
+// Step 17, inside an insert (document 01, "The thirty steps"): the records of a chain are divided over it and the new
+// chain. A chain of few pages goes by way of small buffers (`split_few`), a longer one is read where it stands.
+// Main statements: division_of counts both halves; write_halves is bothWritten of them; divide_many, divide and step_17
+// are the model's step17, for every word that the memory may hold.
 
 ghost use mathlib.Core.Path.{_≡_};
-ghost use Prim.Native.Nat.{_+_};
+ghost use mathlib.Core.List.{List};
+ghost use Prim.Native.Nat.{ℕ, _+_};
 ghost use lib.ListN.{length};
+ghost use Rattle.model.specs.Ready.{viewing};
 ghost use Rattle.model.specs.Steps.SplitBuild as SplitBuild;
 ghost use Rattle.records.specs.Words.{rootWords, rootIn, seen, left, AtHand};
 ghost use Rattle.key_source.specs.Sources.{chosenOf};
 ghost use Rattle.chains.specs.Links.{linkedPages};
-ghost use Rattle.split_build.specs.Dividing.{recordsOf, halved, stayingFrom, goingFrom, Divides, CanDivide, firstNeed, bothNeed, both, CanWriteHalves, bothWritten, CanSplit};
+ghost use Rattle.split_few.specs.Splitting.{both, halved, bothWritten, afterDividing, CanSplit};
+ghost use Rattle.split_build.specs.Dividing.{recordsOf, stayingFrom, goingFrom, Divides, CanDivide, firstNeed, bothNeed, CanWriteHalves};
 use chain_scan::Looked;
 use chain_scan::Scan;
 use chain_writer::Planned;
 use chain_writer::Rest;
+use chains::Walked;
 use free_list::Drawn;
 use key_source::Choice;
 use key_source::Halving;
@@ -21,14 +27,15 @@ use key_source::Source;
 use model::ChainAddress;
 use model::DAMAGE;
 use model::PageAddress;
+use model::Party;
 use model::Restructuring;
 use model::Root;
 use model::StepAnswer;
-use records::CHAIN;
 use records::FREE;
 use records::HEAD;
 use records::OLD;
-use records::OTHER;
+use split_few::Divided;
+use split_few::Halved;
 
 // A chain to be divided: how, from where, and how many of its records stay and go.
 struct Division {
@@ -97,38 +104,46 @@ fn write_halves(
     chain_writer::write_chain(root.capacity, stay, root.head, Rest::Chain(go), pages);
 }
 
-// "Too few free pages: take none, give up both locks, done, split skipped."
-fn divide(
-    root: &mut [u32],
-    party: &mut [u32],
-    q: u32,
-    l: Looked,
-    locks: &mut [u32],
-    pages: &mut [u32],
-) -> StepAnswer
-    requires { ⌜ CanSplit (now root) (now party) q l (now locks) (now pages) ⌝ }
-    ensures { λ a. ⌜ left a (rootIn (now (root .exit))) (now (party .exit)) q (now (locks .exit)) (now (pages .exit)) ≡ SplitBuild.step17 (seen (rootIn (now (root .entry))) (now (party .entry)) q (now (locks .entry)) (now (pages .entry))) ⌝ }
+// The division of a chain of any length.
+fn divide_many(root: Root, party: Party, q: u32, pages: &mut [u32]) -> Divided
+    requires { ⌜ CanSplit root party q (now pages) ⌝ }
+    ensures { λ r. ⌜ ((ls : List ℕ) → afterDividing (viewing root party q ls (now (pages .entry))) (now (pages .exit)) r ≡ SplitBuild.step17 (viewing root party q ls (now (pages .entry)))) ⌝ }
 {
-    let r = records::root_of(&root[..]);
-    let chain = party[CHAIN];
-    let d = division_of(r, ChainAddress(chain), l, &pages[..]);
-    let first = filling::pages_for(r.capacity, d.staying as usize);
-    let k = (first + filling::pages_for(r.capacity, d.going as usize)) as u32;
-    if r.free < k {
-        let made = Restructuring::SplitSkipped;
-        return last_locks::ended_with_split(r, party, q, locks, pages, made);
+    let chain = ChainAddress(party.chain);
+    let Scan::Sound(l) = chain_scan::look_through(root, chain, 0, &pages[..]) else {
+        return Divided::Damaged;
+    };
+    let d = division_of(root, chain, l, &pages[..]);
+    let first = filling::pages_for(root.capacity, d.staying as usize);
+    let k = (first + filling::pages_for(root.capacity, d.going as usize)) as u32;
+    if root.free < k {
+        return Divided::TooFew;
     }
-    match free_list::draw(r, k, &pages[..]) {
-        Drawn::Damaged => StepAnswer::Refused(DAMAGE),
+    match free_list::draw(root, k, &pages[..]) {
+        Drawn::Damaged => Divided::Damaged,
         Drawn::Head(head) => {
-            let link = free_list::link_at(&pages[..], PageAddress(chain));
-            let scratch = endings::scratch_page(r, q);
-            write_halves(r, d, scratch, PageAddress(party[OTHER]), pages);
-            root[HEAD] = head;
-            root[FREE] = r.free - k;
-            party[OLD] = link;
-            records::at_step(party, 18);
-            StepAnswer::Moved
+            let scratch = endings::scratch_page(root, q);
+            write_halves(root, d, scratch, PageAddress(party.other), pages);
+            Divided::Written(Halved {
+                head: head,
+                free: root.free - k,
+            })
+        }
+    }
+}
+
+// The party's chain divided, by one way or the other.
+fn divide(root: Root, party: Party, q: u32, pages: &mut [u32]) -> Divided
+    requires { ⌜ CanSplit root party q (now pages) ⌝ }
+    ensures { λ r. ⌜ ((ls : List ℕ) → afterDividing (viewing root party q ls (now (pages .entry))) (now (pages .exit)) r ≡ SplitBuild.step17 (viewing root party q ls (now (pages .entry)))) ⌝ }
+{
+    match chain_keys::walk(root, ChainAddress(party.chain), &pages[..]) {
+        Walked::Damaged => Divided::Damaged,
+        Walked::Pages(n) => {
+            if n <= chain_keys::FEW {
+                return split_few::divide_few(root, party, q, n, pages);
+            }
+            divide_many(root, party, q, pages)
         }
     }
 }
@@ -148,8 +163,20 @@ pub fn step_17(
     if addresses::split_barred(r) {
         return StepAnswer::Refused(DAMAGE);
     }
-    match chain_scan::look_through(r, ChainAddress(party[CHAIN]), 0, &pages[..]) {
-        Scan::Damaged => StepAnswer::Refused(DAMAGE),
-        Scan::Sound(l) => divide(root, party, q, l, locks, pages),
+    let p = records::party_of(&party[..]);
+    let link = free_list::link_at(&pages[..], PageAddress(p.chain));
+    match divide(r, p, q, pages) {
+        Divided::Damaged => StepAnswer::Refused(DAMAGE),
+        Divided::TooFew => {
+            let made = Restructuring::SplitSkipped;
+            last_locks::ended_with_split(r, party, q, locks, pages, made)
+        }
+        Divided::Written(m) => {
+            root[HEAD] = m.head;
+            root[FREE] = m.free;
+            party[OLD] = link;
+            records::at_step(party, 18);
+            StepAnswer::Moved
+        }
     }
 }

@@ -1,9 +1,15 @@
--- `split_build::step_17` meets its contract: Cases has its tests.
-use mathlib.Core.Path.{sym, _∙_}
+-- `split_build::step_17` meets its contract: Outcomes has its three cases.
+use mathlib.Core.Path.{sym, ap, _∙_}
 use native.Mathlib.Omega.{arith}
-use Rattle.records.specs.Words.{rootIn, partyIn}
-use Rattle.chain_scan.proofs.ScannedChain.{unsound-chain}
-use Rattle.split_build.proofs.Cases.{barred-refused, chain-refused}
+use lib.ListN.{length-set}
+use Rattle.model.specs.declared.Party.{Party}
+use Rattle.model.specs.Records.{atStep}
+use Rattle.model.specs.Pages.{pageOf, linkOf}
+use Rattle.records.specs.Words.{rootIn, partyIn, seen}
+use Rattle.records.proofs.Words.{old-written, free-list-written}
+use Rattle.addresses.proofs.Limits.{ready-root-fits}
+use Rattle.split_few.proofs.Cases.{barred-refused, ready-can-split}
+use Rattle.split_build.proofs.Outcomes.{damage-met, split-skipped, chain-split, still-at-hand}
 use borrow.Author.Needs.{needs}
 use Rattle.split_build.proofs.step_17.Statement.{statement}
 use Rattle.split_build.proofs.step_17.Tie as tie
@@ -14,8 +20,7 @@ root-of-requires c κs = search needs
 split-barred-requires : tie.Need-split-barred-requires
 split-barred-requires c κs =
     let start = c .before .before .before .before .before .before in
-    let ready = start .pre .1 .ready in
-    rw (c .root-of .ensures) (record { some-original = ready .some-original; originals-fit = omega (arith, ready .originals-fit, ready .chains-fit); level-fits = ready .level-fits; next-fits = ready .next-fits })
+    rw (c .root-of .ensures) (ready-root-fits _ (start .pre .1 .ready))
 
 same-length : tie.Need-same-length
 same-length c = search needs
@@ -26,46 +31,73 @@ returns c =
     let at-root-of = at-split-barred .before in
     let start = at-root-of .before .before .before .before .before .before in
     let a = start .args in
-    let er = at-root-of .root-of .ensures in
-    let r = rootIn (a .root .now) in
-    let p = partyIn (a .party .now) in
-    let barred = sym (rw er at (at-split-barred .split-barred .ensures)) ∙ c .if1 .taken in
-    barred-refused r p (a .q) (a .locks .now) (a .pages .now) barred
+    let barred = sym (rw (at-root-of .root-of .ensures) at (at-split-barred .split-barred .ensures)) ∙ c .if1 .taken in
+    barred-refused (seen (rootIn (a .root .now)) (a .party .now) (a .q) (a .locks .now) (a .pages .now)) barred
 
-slice-read-t13 : tie.Need-slice-read-t13
-slice-read-t13 c = search needs
+party-of-requires : tie.Need-party-of-requires
+party-of-requires c κs = search needs
 
-look-through-requires : tie.Need-look-through-requires
-look-through-requires c κs =
-    let at-root-of = c .before .before .before .before in
-    let start = at-root-of .before .before .before .before .before .before in
-    let ready = start .pre .1 .ready in
-    rw (at-root-of .root-of .ensures) (record { chain-fits = ready .chain-fits; pages-fit = omega (arith, ready .pages-fit) }, ready .keys-fit, ready .overflow-fits)
-
-enum-told : tie.Need-enum-told
-enum-told c = search needs
-
-enum-known-l : tie.Need-enum-known-l
-enum-known-l c = search needs
-
-divide-requires : tie.Need-divide-requires
-divide-requires c κs =
-    let at-l = c .before .before .before .before .before in
-    let at-look-through = at-l .before .before in
-    let at-if1 = at-look-through .before .before .before in
+link-at-requires : tie.Need-link-at-requires
+link-at-requires c κs =
+    let at-party-of = c .before in
+    let at-if1 = at-party-of .before .before in
     let at-split-barred = at-if1 .before in
     let at-root-of = at-split-barred .before in
     let start = at-root-of .before .before .before .before .before .before in
     let a = start .args in
-    let er = at-root-of .root-of .ensures in
-    let r = rootIn (a .root .now) in
-    let p = partyIn (a .party .now) in
-    record {
-      words = start .pre .0;
-      at-hand = start .pre .1;
-      not-barred = sym (rw er at (at-split-barred .split-barred .ensures)) ∙ at-if1 .if1 .left;
-      looked = sym (at-l .l .given .1) ∙ rw er at (at-look-through .look-through .ensures);
-    }
+    let ready = start .pre .1 .ready in
+    omega (arith, ready .chain-fits, ready .pages-fit, ap (λ (x : Party). x .chain) (at-party-of .party-of .ensures))
+
+divide-requires : tie.Need-divide-requires
+divide-requires c κs =
+    let at-party-of = c .before .before .before in
+    let at-if1 = at-party-of .before .before in
+    let at-split-barred = at-if1 .before in
+    let at-root-of = at-split-barred .before in
+    let start = at-root-of .before .before .before .before .before .before in
+    let a = start .args in
+    let open-to = sym (rw (at-root-of .root-of .ensures) at (at-split-barred .split-barred .ensures)) ∙ at-if1 .if1 .left in
+    let can = ready-can-split (seen (rootIn (a .root .now)) (a .party .now) (a .q) (a .locks .now) (a .pages .now)) (start .pre .1 .ready) open-to in
+    rw (at-root-of .root-of .ensures, at-party-of .party-of .ensures) can
+
+enum-told : tie.Need-enum-told
+enum-told c = search needs
+
+enum-told-2 : tie.Need-enum-told-2
+enum-told-2 c = search needs
+
+ended-with-split-requires : tie.Need-ended-with-split-requires
+ended-with-split-requires c κs =
+    let at-divide = c .before .before .before .before .before .before .before in
+    let at-party-of = at-divide .before .before .before .before in
+    let at-if1 = at-party-of .before .before in
+    let at-split-barred = at-if1 .before in
+    let at-root-of = at-split-barred .before in
+    let start = at-root-of .before .before .before .before .before .before in
+    let a = start .args in
+    rw (at-root-of .root-of .ensures) (still-at-hand (at-divide .divide .kept .1 .1 .1 .0) (start .pre .1))
+
+enum-known-m : tie.Need-enum-known-m
+enum-known-m c = search needs
+
+slice-write-root : tie.Need-slice-write-root
+slice-write-root c = search needs
+
+slice-write-root-2 : tie.Need-slice-write-root-2
+slice-write-root-2 c =
+    let start = c .before .before .before .before .before .before .before .before .before .before .before .before .before .before .before .before .before .before .before in
+    simp length-set (omega (arith, start .pre .0))
+
+slice-write-party : tie.Need-slice-write-party
+slice-write-party c =
+    let start = c .before .before .before .before .before .before .before .before .before .before .before .before .before .before .before .before .before .before .before in
+    omega (arith, start .pre .1 .words)
+
+at-step-requires : tie.Need-at-step-requires
+at-step-requires c κs =
+    let at-link-at = c .before .before .before .before .before .before .before .before in
+    let start = at-link-at .before .before .before .before .before .before .before .before .before .before .before .before in
+    length-set (start .args .party .now) 6 (at-link-at .link-at .result) ∙ start .pre .1 .words
 
 same-length-2 : tie.Need-same-length-2
 same-length-2 c = search needs
@@ -73,23 +105,24 @@ same-length-2 c = search needs
 same-length-3 : tie.Need-same-length-3
 same-length-3 c = search needs
 
+same-length-4 : tie.Need-same-length-4
+same-length-4 c = search needs
+
 returns-2 : tie.Need-returns-2
 returns-2 c =
-    let at-look-through = c .before .before in
-    let at-if1 = at-look-through .before .before .before in
+    let at-divide = c .before .before .before .before in
+    let at-party-of = at-divide .before .before .before .before in
+    let at-if1 = at-party-of .before .before in
     let at-split-barred = at-if1 .before in
     let at-root-of = at-split-barred .before in
     let start = at-root-of .before .before .before .before .before .before in
     let a = start .args in
-    let er = at-root-of .root-of .ensures in
     let r = rootIn (a .root .now) in
     let p = partyIn (a .party .now) in
-    let left = sym (rw er at (at-split-barred .split-barred .ensures)) ∙ at-if1 .if1 .left in
-    let bad = sym (c .enum-told .given .1) ∙ rw er at (at-look-through .look-through .ensures) in
-    chain-refused r p (a .q) (a .locks .now) (a .pages .now) left (unsound-chain _ 0 bad)
-
-same-length-4 : tie.Need-same-length-4
-same-length-4 c = search needs
+    let e = at-divide .divide .ensures (a .locks .now) in
+    let er = at-root-of .root-of .ensures in
+    let ep = at-party-of .party-of .ensures in
+    damage-met r p (a .q) (a .locks .now) (a .pages .now) _ _ er ep e (c .enum-told .given .1)
 
 same-length-5 : tie.Need-same-length-5
 same-length-5 c = search needs
@@ -100,8 +133,63 @@ same-length-6 c = search needs
 same-length-7 : tie.Need-same-length-7
 same-length-7 c = search needs
 
+same-length-8 : tie.Need-same-length-8
+same-length-8 c = search needs
+
 returns-3 : tie.Need-returns-3
-returns-3 c = search needs
+returns-3 c =
+    let at-ended-with-split = c .before .before .before .before .before .before in
+    let at-enum-told2 = at-ended-with-split .before .before .before .before in
+    let at-divide = at-enum-told2 .before .before .before .before in
+    let at-party-of = at-divide .before .before .before .before in
+    let at-if1 = at-party-of .before .before in
+    let at-split-barred = at-if1 .before in
+    let at-root-of = at-split-barred .before in
+    let start = at-root-of .before .before .before .before .before .before in
+    let a = start .args in
+    let r = rootIn (a .root .now) in
+    let p = partyIn (a .party .now) in
+    let e = at-divide .divide .ensures (a .locks .now) in
+    let er = at-root-of .root-of .ensures in
+    let ep = at-party-of .party-of .ensures in
+    let ended = rw er at (at-ended-with-split .ended-with-split .ensures) in
+    ended ∙ split-skipped r p (a .q) (a .locks .now) (a .pages .now) _ _ er ep e (at-enum-told2 .enum-told2 .given .1)
+
+same-length-9 : tie.Need-same-length-9
+same-length-9 c = search needs
+
+same-length-10 : tie.Need-same-length-10
+same-length-10 c =
+    let at-at-step = c .before .before in
+    let at-link-at = at-at-step .before .before .before .before .before .before .before .before .before in
+    let start = at-link-at .before .before .before .before .before .before .before .before .before .before .before .before in
+    at-at-step .at-step .kept .0 ∙ length-set (start .args .party .now) 6 (at-link-at .link-at .result)
+
+same-length-11 : tie.Need-same-length-11
+same-length-11 c = search needs
+
+returns-4 : tie.Need-returns-4
+returns-4 c =
+    let at-at-step = c .before .before in
+    let at-m = at-at-step .before .before .before in
+    let at-divide = at-m .before .before .before .before in
+    let at-link-at = at-divide .before .before in
+    let at-party-of = at-link-at .before .before in
+    let at-if1 = at-party-of .before .before in
+    let at-split-barred = at-if1 .before in
+    let at-root-of = at-split-barred .before in
+    let start = at-root-of .before .before .before .before .before .before in
+    let a = start .args in
+    let r = rootIn (a .root .now) in
+    let p = partyIn (a .party .now) in
+    let e = at-divide .divide .ensures (a .locks .now) in
+    let er = at-root-of .root-of .ensures in
+    let ep = at-party-of .party-of .ensures in
+    let m = at-m .m .given .0 .0 in
+    let link = at-link-at .link-at .ensures ∙ ap (λ (x : Party). linkOf (pageOf (a .pages .now) (x .chain))) ep in
+    let root = free-list-written (a .root .now) (m .head) (m .free) (start .pre .0) in
+    let party = at-at-step .at-step .ensures ∙ ap (atStep 18) (old-written (a .party .now) (at-link-at .link-at .result) (start .pre .1 .words)) in
+    chain-split r p (a .q) (a .locks .now) (a .pages .now) _ _ er ep e m _ (at-m .m .given .1) link root party
 
 pub step-17-spec : {M : Type 1} → statement M
 step-17-spec =
@@ -111,16 +199,27 @@ step-17-spec =
     split-barred-requires
     same-length
     returns
-    slice-read-t13
-    look-through-requires
-    enum-told
-    enum-known-l
+    party-of-requires
+    link-at-requires
     divide-requires
+    enum-told
+    enum-told-2
+    ended-with-split-requires
+    enum-known-m
+    slice-write-root
+    slice-write-root-2
+    slice-write-party
+    at-step-requires
     same-length-2
     same-length-3
-    returns-2
     same-length-4
+    returns-2
     same-length-5
     same-length-6
     same-length-7
-    returns-3)
+    same-length-8
+    returns-3
+    same-length-9
+    same-length-10
+    same-length-11
+    returns-4)
