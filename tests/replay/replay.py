@@ -23,6 +23,7 @@ CHECKS = [
     "NoPage.noPageKept NoPage.noneWrote (Runs.events m calls)",
     "Withdrawals.withdrawnUnwritten NoPage.noneWrote (Runs.events m calls)",
     "FittingMerges.mergesFit FittingMerges.nothingHad m calls",
+    "TakenUp.alwaysTaken (m .root .parties) Book.emptyBook m calls",
 ]
 
 # The fields of a root record and of a party's record, in the order of the words in a file of single calls.

@@ -1,8 +1,10 @@
--- THE INDEX is right: from any memory that `format` took on, every list of calls of `begin`, `step` and `withdraw`, by any parties in any order, meets the demands. The statements are specs/TheIndex.antt.
--- Main statements: format-accepts (memory of the lengths that the sizes ask for is formatted), start-right, index-right.
+-- THE INDEX is right: from any memory that `format` made, every list of calls of `begin`, `step` and `withdraw`, by any
+-- parties in any order, meets the demands. The statements are specs/TheIndex.antt.
+-- Main statements: format-accepts (memory of the lengths that the sizes ask for is formatted), format-right,
+-- start-right, index-right.
 use mathlib.Core.Path.{_≡_, refl, sym, _∙_, ap, ap₂, subst}
 use mathlib.Core.Bool.{Bool, true, false}
-use mathlib.Core.List.{List, _∷_}
+use mathlib.Core.List.{List, [], _∷_}
 use Prim.Native.Nat.{ℕ}
 use native.Mathlib.Omega.{arith}
 use lib.ListN.{length}
@@ -19,17 +21,21 @@ use Rattle.model.specs.Memory.{Memory, formatted}
 use Rattle.model.specs.Refusals.{lengthsFit}
 use Rattle.model.specs.Calls.{Called, called}
 use Rattle.model.specs.Runs.{Call, Reply, toBegin, toStep, toWithdraw, Event, replyTo, afterCall, eventOf, events, finalMemory}
-use Rattle.model.specs.Book.{emptyBook, bookAgrees, bookAtEnd}
+use Rattle.model.specs.Book.{bookAgrees, bookAtEnd}
 use Rattle.model.specs.Progress.{progresses}
-use Rattle.theory.specs.Demands.{Sizes, sizesOf, start, Reached}
+use Rattle.model.specs.TakeUp.{recordsSaved, savedBook}
+use Rattle.theory.specs.Demands.{Sizes, sizesGiven, Start, start, Reached, AtRest}
+use Rattle.theory.specs.Sequential.{fileOf}
 use Rattle.model.proofs.Theorems.RefusalOrder.{FormatOrder, format-order}
+use Rattle.theory.specs.Singly.{partiesFit}
 use Rattle.theory.proofs.Linearization.{linearizable}
 use Rattle.theory.proofs.Settings.{founds-right}
 use Rattle.theory.proofs.Withdrawals.{withdrawals-right}
 use Rattle.theory.proofs.Restored.{restored}
 use Rattle.theory.proofs.FittingMerges.{merges-right}
+use Rattle.theory.proofs.TakenUp.{reached-records, formatted-start, formatted-empty, formatted-book, formatted-holds}
 use Rattle.theory.proofs.Demands.{schedule-right, granted-right, singly-right, lists-right}
-use Rattle.index.specs.TheIndex.{Formatted, Made, begun, stepped, withdrew, happened, Ran, ended, next, StartRight, IndexRight}
+use Rattle.index.specs.TheIndex.{Formatted, Opened, by-format, Made, begun, stepped, withdrew, happened, Ran, ended, next, StartRight, FormatRight, IndexRight}
 
 -- ---- The functions did what the definitions say
 
@@ -63,8 +69,8 @@ abbrev fileSizes : Sizes → FileSizes
 fileSizes s = record { originals = s .originals; capacity = s .capacity; primaries = s .primaries; overflow = s .overflow; parties = s .parties }
 
 -- Memory of the lengths that the sizes ask for is formatted, whatever its words are.
-pub format-accepts : (s : Sizes) (m : Memory) → length (m .parties) ≡ s .parties → length (m .locks) ≡ lockWords (sizesOf s) → length (m .pages) ≡ allPageWords (sizesOf s)
-    → Formatted m (fileSizes s) (start s)
+pub format-accepts : (s : Sizes) (m : Memory) → length (m .parties) ≡ s .parties → length (m .locks) ≡ lockWords (sizesGiven s) → length (m .pages) ≡ allPageWords (sizesGiven s)
+    → Formatted m (fileSizes s) (formatted (sizesGiven s))
 unfolding lengthsFit
 format-accepts s m parties locks pages =
     sym
@@ -93,30 +99,65 @@ module _ (m₀ : Memory) (z : FileSizes) (m : Memory) (is : Formatted m₀ z m) 
   abbrev sizes-given : Sizes
   sizes-given = record { originals = z .originals; capacity = z .capacity; primaries = z .primaries; overflow = z .overflow; parties = z .parties; fit = both .0 }
 
-  pub start-right : StartRight z m
-  start-right = record { sizes = sizes-given; given = refl; starts = both .1; lists = λ xs fit. lists-right sizes-given xs fit }
+  pub format-right : FormatRight z m
+  format-right = record {
+    sizes = sizes-given;
+    given = refl;
+    starts = both .1;
+    no-records = ap recordsSaved (both .1) ∙ formatted-empty sizes-given;
+    book = ap savedBook (both .1) ∙ formatted-book sizes-given;
+    file = ap (fileOf (rootSized z)) (both .1) ∙ formatted-holds sizes-given;
+  }
 
-  -- ---- Lists of calls
+-- ---- The start of a run
 
-  pub index-right : (cs : List Call) (es : List Event) (m′ : Memory) → Ran m cs es m′ → IndexRight z cs es m′
-  index-right cs es m′ ran =
-      let started : Ran (start sizes-given) cs es m′ = subst (λ (x : Memory). Ran x cs es m′) (both .1) ran in
-      let made : es ≡ events (start sizes-given) cs = ran-events started in
-      let left : m′ ≡ Reached sizes-given cs = ran-memory started in
-      let right = schedule-right sizes-given cs in
-      record {
-        sizes = sizes-given;
-        given = refl;
-        events-are = made;
-        memory-is = left;
-        answers = subst (λ (xs : List Event). bookAgrees emptyBook xs ≡ true) (sym made) (right .answers);
-        progress = ap₂ (λ (xs : List Event) (x : Memory). progresses (z .parties) (bookAtEnd emptyBook xs) x) made left ∙ right .progress;
-        schedule = right;
-        grants = granted-right sizes-given cs;
-        singly = λ rest x fits. singly-right sizes-given cs rest x fits;
-        linearization = linearizable sizes-given cs;
-        founds = founds-right sizes-given cs (linearizable sizes-given cs);
-        withdrawals = withdrawals-right sizes-given cs;
-        restores = restored sizes-given cs;
-        merges = merges-right sizes-given cs;
-      }
+-- Memory behind a way in passes take-up.
+record Found (m : Memory) : Type 0 where
+  begins : Start
+  starts : m ≡ start begins
+
+found : {m : Memory} → Opened m → Found m
+unfolding formatted-start
+found (by-format {m} m₀ z is) = record { begins = formatted-start (sizes-given m₀ z m is); starts = both m₀ z m is .1 }
+
+pub start-right : {m : Memory} → Opened m → StartRight m
+start-right {m} way =
+    let f = found way in
+    record {
+      begins = f .begins;
+      starts = f .starts;
+      lists = λ xs fit. lists-right (f .begins) xs (subst (λ (x : Memory). partiesFit (x .root .parties) xs ≡ true) (f .starts) fit);
+    }
+
+-- ---- Lists of calls
+
+from-start : (s : Start) (cs : List Call) (es : List Event) (m′ : Memory) → Ran (start s) cs es m′ → IndexRight (start s) cs es m′
+from-start s cs es m′ ran =
+    let made : es ≡ events (start s) cs = ran-events ran in
+    let left : m′ ≡ Reached s cs = ran-memory ran in
+    let right = schedule-right s cs in
+    record {
+      begins = s;
+      starts = refl;
+      events-are = made;
+      memory-is = left;
+      answers = subst (λ (xs : List Event). bookAgrees (savedBook (start s)) xs ≡ true) (sym made) (right .answers);
+      progress = ap₂ (λ (xs : List Event) (x : Memory). progresses (start s .root .parties) (bookAtEnd (savedBook (start s)) xs) x) made left ∙ right .progress;
+      schedule = right;
+      grants = granted-right s cs;
+      singly = λ rest x fits. singly-right s cs rest x fits;
+      linearization = linearizable s cs;
+      founds = founds-right s cs (linearizable s cs);
+      withdrawals = withdrawals-right s cs;
+      restores = restored s cs;
+      merges = merges-right s cs;
+      records = λ rest.
+          ap recordsSaved left ∙ reached-records s cs (subst (λ (xs : List Event). AtRest (bookAtEnd (savedBook (start s)) xs)) made rest)
+          ∙ ap (λ (xs : List Event). bookAtEnd (savedBook (start s)) xs .contents) (sym made);
+    }
+
+-- From whatever memory the way in led to.
+pub index-right : {m : Memory} → Opened m → (cs : List Call) (es : List Event) (m′ : Memory) → Ran m cs es m′ → IndexRight m cs es m′
+index-right {m} way cs es m′ =
+    let f = found way in
+    subst (λ (x : Memory). Ran x cs es m′ → IndexRight x cs es m′) (sym (f .starts)) (from-start (f .begins) cs es m′)

@@ -1,6 +1,10 @@
--- THE INDEX as its caller has it: `format`, `begin`, `step` and `withdraw` of src/lib.rt, called one after the other on memory that nothing else changes. Read this file first.
--- What is said of one call is the equation of that function's contract. What is said of a run is the demands of document 01, of the very events and memory that the functions made.
--- Main definitions: Formatted; Made (one call), Ran (a list of calls); StartRight (what holds once format has answered ok), IndexRight (what holds after every list of calls). The theorems are proofs/TheIndex.antt.
+-- THE INDEX as its caller has it: `format`, `begin`, `step` and `withdraw` of src/lib.rt, called one after the other on
+-- memory that nothing else changes. Read this file first.
+-- What is said of one call is the equation of that function's contract. What is said of a run is the demands of document
+-- 01, of the very events and memory that the functions made.
+-- Main definitions: Formatted, the way into a run (Opened); Made (one call), Ran (a list of calls); StartRight (what
+-- holds once the way in was taken), FormatRight (what format gives beside it), IndexRight (what holds after every list of
+-- calls). The theorems are proofs/TheIndex.antt.
 use mathlib.Core.Path.{_≡_}
 use mathlib.Core.Bool.{true}
 use mathlib.Core.List.{List, [], _∷_}
@@ -12,13 +16,15 @@ use Rattle.model.specs.declared.BeginAnswer.{BeginAnswer}
 use Rattle.model.specs.declared.StepAnswer.{StepAnswer}
 use Rattle.model.specs.declared.WithdrawAnswer.{WithdrawAnswer}
 use Rattle.model.specs.Records.{rootSized}
-use Rattle.model.specs.Memory.{Memory, partyAt}
+use Rattle.model.specs.Memory.{Memory, partyAt, formatted}
 use Rattle.model.specs.Calls.{called, formatCall, beginCall, stepCall, withdrawCall}
 use Rattle.model.specs.Runs.{Call, beginFor, stepFor, withdrawFor, Reply, toBegin, toStep, toWithdraw, callerOf, Event, events}
 use Rattle.model.specs.Book.{emptyBook, bookAgrees, bookAtEnd}
 use Rattle.model.specs.Progress.{progresses}
+use Rattle.model.specs.TakeUp.{recordsSaved, savedBook}
 use Rattle.theory.specs.Singly.{Wanted, partiesFit}
-use Rattle.theory.specs.Demands.{Sizes, sizesOf, start, Reached, bookReached, ScheduleRight, GrantsRight, AtRest, RunSingly, ListSingly}
+use Rattle.theory.specs.Demands.{Sizes, sizesGiven, Start, sizesOf, start, Reached, bookReached, ScheduleRight, GrantsRight, AtRest, RunSingly, ListSingly}
+use Rattle.theory.specs.Sequential.{startFile, fileOf}
 use Rattle.theory.specs.Linearization.{Linearization}
 use Rattle.theory.specs.Settings.{FoundsRight}
 use Rattle.theory.specs.Withdrawals.{Restored, WithdrawalsRight}
@@ -29,6 +35,10 @@ use Rattle.theory.specs.FittingMerges.{nothingHad, mergesFit}
 -- `format` with the sizes z, on memory m₀, answered formatted and left m.
 abbrev pub Formatted : Memory → FileSizes → Memory → Type 0
 Formatted m₀ z m = called FormatAnswer.Formatted m ≡ formatCall m₀ (z .originals) (z .capacity) (z .primaries) (z .overflow) (z .parties)
+
+-- The way into a run that starts from m: a format answered formatted.
+pub data Opened : Memory → Type 0 where
+  by-format : {m : Memory} (m₀ : Memory) (z : FileSizes) → Formatted m₀ z m → Opened m
 
 -- A call of `begin`, `step` or `withdraw` on memory m got this reply and left m′.
 pub data Made : Memory → Call → Reply → Memory → Type 0 where
@@ -47,37 +57,48 @@ pub data Ran : Memory → List Call → List Event → Memory → Type 0 where
 
 -- ---- What holds of them
 
+-- Once the way in was taken: the run starts from memory that passes take-up.
+pub record StartRight (m : Memory) : Type 0 where
+  pub begins : Start
+  pub starts : m ≡ start begins
+  -- Demand 2: operations run singly, one after the other, answer and leave what the yardstick does.
+  pub lists : (xs : List Wanted) → partiesFit (m .root .parties) xs ≡ true → ListSingly begins xs
+
 -- Once format with the sizes z has left m.
-pub record StartRight (z : FileSizes) (m : Memory) : Type 0 where
+pub record FormatRight (z : FileSizes) (m : Memory) : Type 0 where
   -- The sizes are within their limits, and the memory is the one that document 01 says.
   pub sizes : Sizes
-  pub given : sizesOf sizes ≡ rootSized z
-  pub starts : m ≡ start sizes
-  -- Demand 2: operations run singly, one after the other, answer and leave what the yardstick does.
-  pub lists : (xs : List Wanted) → partiesFit (z .parties) xs ≡ true → ListSingly sizes xs
+  pub given : sizesGiven sizes ≡ rootSized z
+  pub starts : m ≡ formatted (sizesGiven sizes)
+  -- It has no records and nobody is under way: a run from it starts beside the empty book. Its file is the yardstick's first.
+  pub no-records : recordsSaved m ≡ []
+  pub book : savedBook m ≡ emptyBook
+  pub file : fileOf (rootSized z) m ≡ startFile (rootSized z)
 
--- Once a list of calls, made from that memory on, has made these events and left m.
-pub record IndexRight (z : FileSizes) (cs : List Call) (es : List Event) (m : Memory) : Type 0 where
-  pub sizes : Sizes
-  pub given : sizesOf sizes ≡ rootSized z
+-- Once a list of calls, made from memory m₀ on, has made these events and left m.
+pub record IndexRight (m₀ : Memory) (cs : List Call) (es : List Event) (m : Memory) : Type 0 where
+  pub begins : Start
+  pub starts : m₀ ≡ start begins
   -- The functions did what the definitions say.
-  pub events-are : es ≡ events (start sizes) cs
-  pub memory-is : m ≡ Reached sizes cs
-  -- Demand 3: every answer that a step gave is the book's, and somebody under way can move.
-  pub answers : bookAgrees emptyBook es ≡ true
-  pub progress : progresses (z .parties) (bookAtEnd emptyBook es) m ≡ true
+  pub events-are : es ≡ events (start begins) cs
+  pub memory-is : m ≡ Reached begins cs
+  -- Demand 3: every answer that a step gave is the book's, and somebody under way can move. At first the book has the records of m₀, and nobody is under way.
+  pub answers : bookAgrees (savedBook m₀) es ≡ true
+  pub progress : progresses (m₀ .root .parties) (bookAtEnd (savedBook m₀) es) m ≡ true
   -- Demand 3 whole: answers, links, progress, sizes, no page.
-  pub schedule : ScheduleRight sizes cs
+  pub schedule : ScheduleRight begins cs
   -- Demand 2: grants and refusals; and, where nobody is under way, an operation run alone.
-  pub grants : GrantsRight sizes cs
-  pub singly : AtRest (bookReached sizes cs) → (x : Wanted) → x .party < z .parties → RunSingly sizes cs x
+  pub grants : GrantsRight begins cs
+  pub singly : AtRest (bookReached begins cs) → (x : Wanted) → x .party < m₀ .root .parties → RunSingly begins cs x
   -- An order of the operations, each at one call between its begin and its answer, in which a plain map gives every answer.
-  pub linearization : Linearization sizes cs
-  -- Change 1: each found answers the setting of the last insert that added its key and was not deleted since, in that order.
-  pub founds : FoundsRight sizes cs linearization
+  pub linearization : Linearization begins cs
+  -- Change 1: each found answers the setting of the last insert that added its key and was not deleted since, in that order; or the one that m₀ had.
+  pub founds : FoundsRight begins cs linearization
   -- Change 2: neither a withdrawn operation nor its withdraw alters the map; and where an operation is begun, steps alone
   -- and is withdrawn, all lent memory is what it was before its begin.
-  pub withdrawals : WithdrawalsRight sizes cs
-  pub restores : (x : Wanted) (n : ℕ) → Restored sizes cs x n
+  pub withdrawals : WithdrawalsRight begins cs
+  pub restores : (x : Wanted) (n : ℕ) → Restored begins cs x n
   -- Change 4: a merge goes ahead exactly where the joined records fit the primary page, takes no page, gives back what both chains had, and leaves a chain of one page.
-  pub merges : mergesFit nothingHad (start sizes) cs ≡ true
+  pub merges : mergesFit nothingHad (start begins) cs ≡ true
+  -- Where nobody is under way the records of the file are the book's map.
+  pub records : AtRest (bookAtEnd (savedBook m₀) es) → recordsSaved m ≡ bookAtEnd (savedBook m₀) es .contents

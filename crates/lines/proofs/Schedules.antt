@@ -22,8 +22,8 @@ use Rattle.model.proofs.Invariant.Statement.{Inv}
 use Rattle.model.proofs.Theorems.Calls.{call-kept}
 use Rattle.model.proofs.Theorems.AllSteps.{steps-kept}
 use Rattle.model.proofs.Theorems.RefusalOrder.{format-order}
-use Rattle.theory.specs.Demands.{Sizes, sizesOf, start}
-use Rattle.theory.proofs.Reached.{formatted-inv}
+use Rattle.theory.specs.Demands.{Sizes, sizesGiven}
+use Rattle.model.proofs.Invariant.Start.{start-inv}
 use Rattle.calls.specs.Lent.{lent}
 use Rattle.held.specs.Held.{recordsLent, firstOf}
 use Rattle.forms.specs.declared.Form.{Form}
@@ -31,7 +31,7 @@ use Rattle.forms.specs.declared.Form.the-variants as Form
 use Rattle.forms.specs.declared.Reply.{Reply}
 use Rattle.forms.specs.declared.Reply.the-variants as Reply
 use Rattle.lines.specs.Lines.{wordsFor, performed}
-use Rattle.lines.specs.Schedules.{fileIn, formsAnswered, sizesGiven, formOf, replyAs, replyOf}
+use Rattle.lines.specs.Schedules.{fileIn, formsAnswered, fileSizes, formOf, replyAs, replyOf}
 
 -- A memory with other records and words behind it is the file in both together.
 file-in : (m : Memory) (b : Book) → Inv m b → (xs : List Party) (ls gs : List ℕ) → fileIn (lent (m .root) (m .parties ++ xs) (m .locks ++ ls) (m .pages ++ gs)) ≡ m
@@ -43,31 +43,34 @@ file-in m b i xs ls gs =
 
 -- ---- A format
 
+formatted-inv : (s : Sizes) → Inv (formatted (sizesGiven s)) emptyBook
+formatted-inv s = start-inv (s .originals) (s .capacity) (s .primaries) (s .overflow) (s .parties) (s .fit)
+
 -- Where there are records and words enough, a format of these sizes is accepted, and makes the file that every schedule starts from.
-pub format-starts : (s : Sizes) (m : Memory) → length (m .parties) ≡ 16 → lockWords (sizesOf s) ≤ length (m .locks) → allPageWords (sizesOf s) ≤ length (m .pages)
-    → (performed (Form.Format (sizesGiven s)) m .answer ≡ Reply.Format FormatAnswer.Formatted) × (fileIn (performed (Form.Format (sizesGiven s)) m .memory) ≡ start s)
+pub format-starts : (s : Sizes) (m : Memory) → length (m .parties) ≡ 16 → lockWords (sizesGiven s) ≤ length (m .locks) → allPageWords (sizesGiven s) ≤ length (m .pages)
+    → (performed (Form.Format (fileSizes s)) m .answer ≡ Reply.Format FormatAnswer.Formatted) × (fileIn (performed (Form.Format (fileSizes s)) m .memory) ≡ formatted (sizesGiven s))
 unfolding performed lengthsFit formatted formattedRoot
-format-starts s m records locks pages = (ap (λ (c : Called FormatAnswer). Reply.Format (c .answer)) made, ap (λ (c : Called FormatAnswer). fileIn (behind (c .memory))) made ∙ file-in (start s) emptyBook (formatted-inv s) _ _ _)
+format-starts s m records locks pages = (ap (λ (c : Called FormatAnswer). Reply.Format (c .answer)) made, ap (λ (c : Called FormatAnswer). fileIn (behind (c .memory))) made ∙ file-in (formatted (sizesGiven s)) emptyBook (formatted-inv s) _ _ _)
   where
     few : recordsLent (s .parties) ≡ s .parties
     few = min-eq-left {m = 16} (formatted-inv s .limits .parties-fit)
 
     given : Memory
-    given = firstOf (recordsLent (s .parties)) (wordsFor (sizesOf s) m)
+    given = firstOf (recordsLent (s .parties)) (wordsFor (sizesGiven s) m)
 
     behind : Memory → Memory
     behind x =
-        lent (x .root) (x .parties ++ drop (recordsLent (s .parties)) (m .parties)) (x .locks ++ drop (lockWords (sizesOf s)) (m .locks)) (x .pages ++ drop (allPageWords (sizesOf s)) (m .pages))
+        lent (x .root) (x .parties ++ drop (recordsLent (s .parties)) (m .parties)) (x .locks ++ drop (lockWords (sizesGiven s)) (m .locks)) (x .pages ++ drop (allPageWords (sizesGiven s)) (m .pages))
 
-    fits : lengthsFit (sizesOf s) given ≡ true
+    fits : lengthsFit (sizesGiven s) given ≡ true
     fits =
         rw (
           eqb-same (length (given .parties)) (s .parties) (ap (λ (n : ℕ). length (take n (m .parties))) few ∙ length-take-le (s .parties) (m .parties) (rw records (formatted-inv s .limits .parties-fit))),
-          eqb-same (length (given .locks)) (lockWords (sizesOf s)) (length-take-le (lockWords (sizesOf s)) (m .locks) locks),
-          eqb-same (length (given .pages)) (allPageWords (sizesOf s)) (length-take-le (allPageWords (sizesOf s)) (m .pages) pages),
+          eqb-same (length (given .locks)) (lockWords (sizesGiven s)) (length-take-le (lockWords (sizesGiven s)) (m .locks) locks),
+          eqb-same (length (given .pages)) (allPageWords (sizesGiven s)) (length-take-le (allPageWords (sizesGiven s)) (m .pages) pages),
         ) refl
 
-    made : formatCall given (s .originals) (s .capacity) (s .primaries) (s .overflow) (s .parties) ≡ called FormatAnswer.Formatted (start s)
+    made : formatCall given (s .originals) (s .capacity) (s .primaries) (s .overflow) (s .parties) ≡ called FormatAnswer.Formatted (formatted (sizesGiven s))
     made = format-order given (s .originals) (s .capacity) (s .primaries) (s .overflow) (s .parties) .none (s .fit) fits
 
 -- ---- Begins, steps and withdraws
@@ -96,11 +99,11 @@ calls-printed (c ∷ cs) m x b i e =
 
 -- In memory as large as turns has it, whatever its contents: for a format and the calls of a schedule turns prints that it formatted, then the replies of the schedule's events.
 pub schedule-printed : (s : Sizes) (cs : List Call) (m : Memory) → length (m .parties) ≡ 16 → 257 ≤ length (m .locks) → 16384 ≤ length (m .pages)
-    → formsAnswered (Form.Format (sizesGiven s) ∷ map formOf cs) m .answer ≡ Reply.Format FormatAnswer.Formatted ∷ map replyOf (events (start s) cs)
+    → formsAnswered (Form.Format (fileSizes s) ∷ map formOf cs) m .answer ≡ Reply.Format FormatAnswer.Formatted ∷ map replyOf (events (formatted (sizesGiven s)) cs)
 unfolding formsAnswered formatted formattedRoot
 schedule-printed s cs m records locks pages =
     let limits = formatted-inv s .limits in
     let first = format-starts s m records (omega (arith, limits .chains-fit, locks)) (omega (arith, limits .chains-fit, limits .overflow-fits, limits .parties-fit, pages)) in
-    let after = performed (Form.Format (sizesGiven s)) m .memory in
-    let rest = calls-printed cs after (start s) emptyBook (formatted-inv s) (first .1) in
+    let after = performed (Form.Format (fileSizes s)) m .memory in
+    let rest = calls-printed cs after (formatted (sizesGiven s)) emptyBook (formatted-inv s) (first .1) in
     ap (λ (r : Reply). r ∷ formsAnswered (map formOf cs) after .answer) (first .0) ∙ ap (λ (rs : List Reply). Reply.Format FormatAnswer.Formatted ∷ rs) (rest .0)

@@ -28,8 +28,8 @@ formsAnswered (f ∷ fs) m =
     called (c .answer ∷ d .answer) (d .memory)
 
 -- The form that formats a file of these sizes.
-abbrev pub sizesGiven : Sizes → FileSizes
-sizesGiven s = record { originals = s .originals; capacity = s .capacity; primaries = s .primaries; overflow = s .overflow; parties = s .parties }
+abbrev pub fileSizes : Sizes → FileSizes
+fileSizes s = record { originals = s .originals; capacity = s .capacity; primaries = s .primaries; overflow = s .overflow; parties = s .parties }
 
 -- A call as a form.
 unfoldable pub formOf : Call → Form

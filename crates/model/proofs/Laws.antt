@@ -17,6 +17,7 @@ pub mod Tests
 pub mod Structure
 pub mod Filling
 pub mod Walks
+pub mod Together
 pub mod Reading
 pub mod FreeList
 pub mod Format

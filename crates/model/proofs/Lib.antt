@@ -7,3 +7,4 @@ pub mod Steps
 pub mod Exits
 pub mod Withdrawing
 pub mod Theorems
+pub mod TakingUp

@@ -10,3 +10,5 @@ pub mod AllSteps
 pub mod Answering
 pub mod Meanings
 pub mod Merges
+pub mod Records
+pub mod BookAscends

@@ -1,6 +1,6 @@
 -- The book (document 01, "The set book"; by document 02, change 1, it keeps a map): what every answer of a run must be.
 -- It is fed the events of a run, and compares each answer with its note.
--- Main definitions: Book, emptyBook; enter; noteAtSix, noteAtTen and noteAtEleven; bookAfter, agrees (one event); bookAgrees, bookAtEnd (over a whole list).
+-- Main definitions: Book, emptyBook; enter; noteAtSix, noteAtTen and noteAtEleven; contentsAtEleven; bookAfter, agrees (one event); bookAgrees, bookAtEnd (over a whole list).
 use mathlib.Core.Bool.{Bool, true, false, cond, _&&_}
 use mathlib.Core.List.{List, [], _∷_}
 use mathlib.Core.Option.{Option, none, some}
@@ -16,7 +16,9 @@ use Rattle.model.specs.declared.BeginAnswer.{BeginAnswer}
 use Rattle.model.specs.declared.BeginAnswer.the-variants as BeginAnswer
 use Rattle.model.specs.declared.WithdrawAnswer.{WithdrawAnswer}
 use Rattle.model.specs.declared.WithdrawAnswer.the-variants as WithdrawAnswer
+use Rattle.model.specs.declared.Entry.{Entry}
 use Rattle.model.specs.Answers.{foundOrAbsent, sameAnswer}
+use Rattle.model.specs.Entries.{entryOf, hasKey, settingIn, insertedInto, removedFrom}
 use Rattle.model.specs.Runs.{Call, beginFor, stepFor, withdrawFor, Reply, toBegin, toStep, toWithdraw, Event}
 
 -- What the book keeps beside a key that is in: its setting.
@@ -29,18 +31,13 @@ pub record Entered : Type 0 where
   pub key : ℕ
   pub note : Option OperationAnswer
 
--- "The book keeps a set of keys, at first empty, and for each operation under way its party, operation, key and note": the keys with their settings; an insert's setting stands in its operation.
+-- "The book keeps a set of keys, at first empty, and for each operation under way its party, operation, key and note": the keys with their settings, as a list of records, keys strictly ascending; an insert's setting stands in its operation.
 pub record Book : Type 0 where
-  pub contents : ℕ → Option Value
+  pub contents : List Entry
   pub entries : ℕ → Option Entered
 
 unfoldable pub emptyBook : Book
-emptyBook = record { contents = λ k. none; entries = λ q. none }
-
--- Whether a key is in.
-abbrev pub isIn : Option Value → Bool
-isIn none = false
-isIn (some x) = true
+emptyBook = record { contents = []; entries = λ q. none }
 
 -- A function changed at one number.
 unfoldable pub changedAt : {A : Type 0} → (ℕ → A) → ℕ → A → ℕ → A
@@ -49,8 +46,8 @@ changedAt f i a j = cond (eqb j i) a (f j)
 abbrev pub withEntry : Book → ℕ → Option Entered → Book
 withEntry b q e = record { contents = b .contents; entries = changedAt (b .entries) q e }
 
-abbrev pub withContent : Book → ℕ → Option Value → Book
-withContent b k x = record { contents = changedAt (b .contents) k x; entries = b .entries }
+abbrev pub withContents : Book → List Entry → Book
+withContents b es = record { contents = es; entries = b .entries }
 
 abbrev pub noted : Entered → OperationAnswer → Entered
 noted e a = record { operation = e .operation; key = e .key; note = some a }
@@ -77,12 +74,11 @@ noteAtEleven Operation.Find there = OperationAnswer.NoPage
 noteAtEleven (Operation.Insert y) there = cond there OperationAnswer.Present OperationAnswer.Inserted
 noteAtEleven Operation.Delete there = cond there OperationAnswer.Deleted OperationAnswer.Absent
 
--- What the map has of the key after step 11, from what it had: an insert adds its setting, or keeps the one that is there.
-unfoldable pub contentAtEleven : Operation → Option Value → Option Value
-contentAtEleven Operation.Find x = x
-contentAtEleven (Operation.Insert y) none = some y
-contentAtEleven (Operation.Insert y) (some x) = some x
-contentAtEleven Operation.Delete x = none
+-- The map after step 11, from what it was: an insert adds its record, or keeps the one that is there.
+unfoldable pub contentsAtEleven : Operation → ℕ → List Entry → List Entry
+contentsAtEleven Operation.Find k es = es
+contentsAtEleven (Operation.Insert y) k es = cond (hasKey k es) es (insertedInto (entryOf k y) es)
+contentsAtEleven Operation.Delete k es = removedFrom k es
 
 -- The book after a step of this number, performed for party q with the entry e.
 unfoldable pub notedIfFind : Book → ℕ → Entered → Option OperationAnswer → Book
@@ -91,10 +87,10 @@ notedIfFind b q e (some a) = withEntry b q (some (noted e a))
 
 unfoldable pub noteStep : Book → ℕ → Entered → ℕ → Book
 noteStep b q e number =
-    let there = isIn (b .contents (e .key)) in
-    let six = notedIfFind b q e (noteAtSix (e .operation) (b .contents (e .key))) in
+    let there = hasKey (e .key) (b .contents) in
+    let six = notedIfFind b q e (noteAtSix (e .operation) (settingIn (e .key) (b .contents))) in
     let ten = withEntry b q (some (noted e (noteAtTen (e .operation) there))) in
-    let eleven = withContent (withEntry b q (some (noted e (noteAtEleven (e .operation) there)))) (e .key) (contentAtEleven (e .operation) (b .contents (e .key))) in
+    let eleven = withContents (withEntry b q (some (noted e (noteAtEleven (e .operation) there)))) (contentsAtEleven (e .operation) (e .key) (b .contents)) in
     cond (eqb number 6) six (cond (eqb number 10) ten (cond (eqb number 11) eleven b))
 
 unfoldable pub noteFor : Book → ℕ → Option Entered → ℕ → Book

@@ -1,8 +1,8 @@
 -- Bucket chains walked by their links, with the tests of damage (document 01, "Refused calls").
--- Main definitions: Checked (a reading, or damage); overflowFrom and listFrom (the pages that a link leads to); Chain and chainOf (a chain looked through whole).
+-- Main definitions: Checked (a reading, or damage); overflowFrom and listFrom (the pages that a link leads to); Chain and chainOf (a chain looked through whole); chainsFrom (the records of some chains).
 use mathlib.Core.Bool.{Bool, true, false, cond}
 use mathlib.Core.List.{List, [], _∷_, _++_}
-use Prim.Native.Nat.{ℕ, zero, suc}
+use Prim.Native.Nat.{ℕ, zero, suc, _+_}
 use lib.Dec.{eqb}
 use Rattle.model.specs.declared.Root.{Root}
 use Rattle.model.specs.declared.Entry.{Entry}
@@ -75,3 +75,12 @@ pagesIn (sound c) = c .pages
 unfoldable pub pagesListed : Checked (List ℕ) → List ℕ
 pagesListed damaged = []
 pagesListed (sound xs) = xs
+
+-- Its records, and those of the n chains from chain c on, a list each.
+unfoldable pub recordsRead : Checked Chain → List Entry
+recordsRead damaged = []
+recordsRead (sound c) = c .entries
+
+unfoldable pub chainsFrom : Root → List ℕ → ℕ → ℕ → List (List Entry)
+chainsFrom r ps zero c = []
+chainsFrom r ps (suc n) c = recordsRead (chainOf r ps c) ∷ chainsFrom r ps n (c + 1)

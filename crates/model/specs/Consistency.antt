@@ -13,9 +13,10 @@ use Rattle.model.specs.Answers.{foundOrAbsent}
 use Rattle.model.specs.Sizes.{within}
 use Rattle.model.specs.LockWords.{holds, chainWord}
 use Rattle.model.specs.Addresses.{span, hash, chainCount}
-use Rattle.model.specs.Entries.{hasKey, settingIn}
+use Rattle.model.specs.declared.Entry.{Entry}
+use Rattle.model.specs.Entries.{hasKey, settingIn, joinedAll}
 use Rattle.model.specs.Pages.{pageOf, entriesOf, primaryPage, scratchPage}
-use Rattle.model.specs.Chains.{sound, Chain, chainOf, listFrom, entriesOn}
+use Rattle.model.specs.Chains.{sound, Chain, chainOf, listFrom, entriesOn, chainsFrom}
 use Rattle.model.specs.Filling.{recordAt, PairIs}
 use Rattle.model.specs.LockRequests.{modeOf}
 use Rattle.model.specs.Memory.{Memory, partyAt}
@@ -85,13 +86,16 @@ pub record LeftToWalk (m : Memory) (b : Book) (q : ℕ) : Type 0 where
 
 -- ---- P4, the records
 
--- A chain of the file has key k, with setting x.
+-- A chain of the file has key k, with setting x. (What recordsIn says of one key: proofs/Theorems/Records.antt.)
 pub record InFile (m : Memory) (f : Consistent m) (k : ℕ) (x : Value) : Type 0 where
   pub number : ℕ
   pub inside : number < chainsWith m (f .split)
   pub has : settingIn k (f .chain number .entries) ≡ some x
 
--- "The set of records in the hashfile" is the book's map, which decisive steps alone change.
+-- "The set of records in the hashfile": those of all its chains, joined in the order of their keys.
+unfoldable pub recordsIn : (m : Memory) → Consistent m → List Entry
+recordsIn m f = joinedAll (chainsFrom (m .root) (m .pages) (chainsWith m (f .split)) 0)
+
+-- They are the book's map, which decisive steps alone change.
 pub record SameMap (m : Memory) (b : Book) (f : Consistent m) : Type 0 where
-  pub in-map : (k : ℕ) (x : Value) → InFile m f k x → b .contents k ≡ some x
-  pub in-file : (k : ℕ) (x : Value) → b .contents k ≡ some x → InFile m f k x
+  pub records : recordsIn m f ≡ b .contents

@@ -1,6 +1,6 @@
 -- The records of the file and ascending lists of them (document 01, "A chain's keys ascend").
 -- A record (document 02, change 1: "a key and a 32-bit setting") is told apart by its key alone: order, doubles and "in both halves" never look at the setting.
--- Main definitions: keyOf, settingOf, entryOf; hasKey, settingIn, ascending, insertedInto, removedFrom, joined, sharesKey; staying and going (the halves of a split).
+-- Main definitions: keyOf, settingOf, entryOf; hasKey, settingIn, ascending, insertedInto, removedFrom, joined, joinedAll, sharesKey; staying and going (the halves of a split).
 use mathlib.Core.Bool.{Bool, true, false, cond, _&&_, _||_}
 use mathlib.Core.List.{List, [], _∷_}
 use mathlib.Core.Option.{Option, none, some}
@@ -54,6 +54,11 @@ removedFrom k (e ∷ es) = cond (eqb (keyOf e) k) (removedFrom k es) (e ∷ remo
 unfoldable pub joined : List Entry → List Entry → List Entry
 joined [] es = es
 joined (x ∷ xs) es = insertedInto x (joined xs es)
+
+-- Any number of ascending lists joined into one, in the order of their keys.
+unfoldable pub joinedAll : List (List Entry) → List Entry
+joinedAll [] = []
+joinedAll (es ∷ rest) = joined es (joinedAll rest)
 
 -- Whether a key is in both lists.
 unfoldable pub sharesKey : List Entry → List Entry → Bool

@@ -32,3 +32,4 @@ pub mod GrantTable
 pub mod Consistency
 pub mod PagePlaces
 pub mod Merges
+pub mod TakeUp

@@ -197,6 +197,12 @@ pub enum WithdrawAnswer {
     Refused(u32),
 }
 
+// What a call of take-up answers.
+pub enum TakeUpAnswer {
+    TakenUp,
+    Refused(u32),
+}
+
 // What a call of format answers.
 pub enum FormatAnswer {
     Formatted,

@@ -37,7 +37,7 @@ use Rattle.model.specs.Calls.{Called, called, withBegun, beginCall, stepped, st
 use Rattle.model.specs.Runs.{Call, replyTo}
 use Rattle.model.specs.Book.{Book}
 use Rattle.model.specs.Effects.{scratchLink, AltersRecord, AltersScratch, AltersOwn, own-record, own-scratch, StepAlters, WaitsForLock, Begins, BeginAlters}
-use Rattle.theory.specs.Demands.{Sizes, Reached, bookReached}
+use Rattle.theory.specs.Demands.{Start, Reached, bookReached}
 use Rattle.model.proofs.Laws.Lists.{Cmp, same, diff, cmp, All, and-both, eqb-true, eqb-same, eqb-false, leb-false, not-true, not-false, among-first}
 use Rattle.model.proofs.Laws.Booleans.{and-left, and-right}
 use Rattle.model.proofs.Laws.Pages.{page-same, length-pageOf}
@@ -277,9 +277,9 @@ step-alters m b i q = record { performed = λ y. go (performed-alters m q y); ot
     go (went a) = own-record a
     go (looked in-row is-nine leads e) = own-scratch (scratch-altered m b i q in-row is-nine leads e)
 
-pub run-alters : (s : Sizes) (cs : List Call) (q : ℕ) → StepAlters (Reached s cs) q
+pub run-alters : (s : Start) (cs : List Call) (q : ℕ) → StepAlters (Reached s cs) q
 run-alters s cs q = step-alters (Reached s cs) (bookReached s cs) (reached-inv s cs) q
 
 -- No cause of refusal 6 is ever met.
-pub never-damaged : (s : Sizes) (cs : List Call) (c : Call) → undamaged (replyTo (Reached s cs) c) ≡ true
+pub never-damaged : (s : Start) (cs : List Call) (c : Call) → undamaged (replyTo (Reached s cs) c) ≡ true
 never-damaged s cs c = call-kept steps-kept (Reached s cs) (bookReached s cs) (reached-inv s cs) c .sound

@@ -13,25 +13,26 @@ use Rattle.model.specs.declared.StepAnswer.{StepAnswer}
 use Rattle.model.specs.Sizes.{within}
 use Rattle.model.specs.Records.{idle}
 use Rattle.model.specs.LockWords.{holds, chainWord}
-use Rattle.model.specs.Addresses.{span, hash, addressOf, chainCount}
-use Rattle.model.specs.Entries.{settingIn}
+use Rattle.model.specs.Addresses.{span, hash, chainCount}
+use Rattle.model.specs.Entries.{joinedAll}
 use Rattle.model.specs.Pages.{pageOf, linkToFirst, primaryPage, scratchPage}
-use Rattle.model.specs.Chains.{Chain, listFrom}
+use Rattle.model.specs.Chains.{Chain, listFrom, chainsFrom}
 use Rattle.model.specs.Outcome.{Outcome, withParty}
 use Rattle.model.specs.ScratchPages.{withScratch}
 use Rattle.model.specs.Memory.{Memory, partyAt, viewOf, afterStep}
 use Rattle.model.specs.Calls.{Called, stepped, stepCall}
 use Rattle.model.specs.Runs.{Call}
-use Rattle.model.specs.Book.{Book, isIn}
+use Rattle.model.specs.Book.{Book}
 use Rattle.model.specs.Effects.{recordAfter}
 use Rattle.model.specs.LockRequests.{modeOf, chainLock}
 use Rattle.model.specs.Steps.Chase.{chaseOf, arrived, chasing}
 use Rattle.model.specs.Steps.Dispatch.{stepOf, stepTable}
-use Rattle.theory.specs.Demands.{Sizes, Reached, bookReached}
-use Rattle.model.specs.Consistency.{restructures, chainsWith, Consistent, PairsPlaced, HomeLocked, SearchEnds, LeftToWalk, SameMap}
+use Rattle.theory.specs.Demands.{Start, Reached, bookReached}
+use Rattle.theory.specs.Sequential.{mapIn}
+use Rattle.model.specs.Consistency.{restructures, chainsWith, Consistent, PairsPlaced, HomeLocked, SearchEnds, LeftToWalk, recordsIn, SameMap}
 use Rattle.model.proofs.Laws.Lists.{Told, fails, tell, Ord, lt, ge, ord, cond-ind, not-both, le-leb, eqb-true, all-from}
 use Rattle.model.proofs.Laws.Lists as lists
-use Rattle.model.proofs.Laws.Addresses.{span-next, address-lt}
+use Rattle.model.proofs.Laws.Addresses.{span-next}
 use Rattle.model.proofs.Laws.Pages.{page-same, length-pageOf}
 use Rattle.model.proofs.Laws.Filling.{IsOverflow}
 use Rattle.model.proofs.Laws.Reading.{linked-list, length-overflow}
@@ -47,10 +48,11 @@ use Rattle.model.proofs.Effects.Releases.{lock-held}
 use Rattle.model.proofs.Effects.ScratchPage.{protected-bounds}
 use Rattle.model.proofs.Effects.BuiltChain.{chain-found}
 use Rattle.model.proofs.Steps.Chase.Copy.{step06-moves, stayed-home}
-use Rattle.model.proofs.Laws.Entries.{has-setting}
 use Rattle.model.proofs.Theorems.Pairs.{pair-places}
 use Rattle.theory.proofs.Alters.{Tested, turned-away, let-through, tested}
 use Rattle.theory.proofs.Reached.{reached-inv}
+use Rattle.theory.proofs.Singly.Files.{map-held}
+use Rattle.theory.proofs.Singly.AtRest.{liveFile, live-holding, chains-read}
 
 -- ---- How far the live file extends, by Ellis's x
 
@@ -183,16 +185,12 @@ module _ (m : Memory) (b : Book) (i : Inv m b) where
 
   -- The records of P4.
   pub map-same : SameMap m b consistent
-  unfolding chainCount consistent
+  unfolding recordsIn liveFile mapIn
   map-same = record {
-    in-map = λ k x f. i .book-ok .same k
-        ∙ ap (λ (c : ℕ). settingIn k (i .ghost .records c))
-        (key-home i (f .number) (is-live (f .number) (f .inside)) k (sym (has-setting k (i .ghost .records (f .number))) ∙ ap isIn (f .has))) ∙ f .has;
-    in-file = λ k x h. record {
-      number = addressOf (m .root .originals) (live .level) (live .next) k;
-      inside = omega (arith, spread .many, size-is (m .root .originals) live, address-lt (m .root .originals) (live .level) (live .next) k (i .limits .some-original));
-      has = sym (i .book-ok .same k) ∙ h;
-    };
+    records =
+        ap (λ (n : ℕ). joinedAll (chainsFrom (m .root) (m .pages) n 0)) (sym live-many)
+        ∙ ap joinedAll (chains-read m b i (size (m .root .originals) live) 0 (omega arith))
+        ∙ map-held (m .root .originals) (liveFile (m .root .originals) (i .ghost)) (b .contents) (live-holding m b i);
   }
 
 -- ---- P3
@@ -304,29 +302,29 @@ module _ (m : Memory) (b : Book) (i : Inv m b) (q : ℕ) where
 -- ---- Every reachable memory
 
 -- P2 (section 4.2), S1 to S4, S3′ and S4′.
-pub always-consistent : (s : Sizes) (cs : List Call) → Consistent (Reached s cs)
+pub always-consistent : (s : Start) (cs : List Call) → Consistent (Reached s cs)
 always-consistent s cs = consistent (Reached s cs) (bookReached s cs) (reached-inv s cs)
 
-pub reached-many : (s : Sizes) (cs : List Call) → size (Reached s cs .root .originals) (reached-inv s cs .ghost .live) ≡ chainsWith (Reached s cs) (always-consistent s cs .split)
+pub reached-many : (s : Start) (cs : List Call) → size (Reached s cs .root .originals) (reached-inv s cs .ghost .live) ≡ chainsWith (Reached s cs) (always-consistent s cs .split)
 unfolding always-consistent
 reached-many s cs = live-many (Reached s cs) (bookReached s cs) (reached-inv s cs)
 
 -- Each record stands in its place, whatever b is.
-pub reached-pairs : (s : Sizes) (cs : List Call) → PairsPlaced (Reached s cs) (always-consistent s cs)
+pub reached-pairs : (s : Start) (cs : List Call) → PairsPlaced (Reached s cs) (always-consistent s cs)
 unfolding always-consistent
 reached-pairs s cs = pairs-placed (Reached s cs) (bookReached s cs) (reached-inv s cs)
 
 -- P3 (section 4.3): when the search stops, and later, at 10 and at 9.
-pub search-ends : (s : Sizes) (cs : List Call) (q : ℕ) → partyAt (Reached s cs .parties) q .step ≡ 6 → within 9 10 (recordAfter (Reached s cs) q .step) ≡ true → SearchEnds (Reached s cs) q
+pub search-ends : (s : Start) (cs : List Call) (q : ℕ) → partyAt (Reached s cs .parties) q .step ≡ 6 → within 9 10 (recordAfter (Reached s cs) q .step) ≡ true → SearchEnds (Reached s cs) q
 search-ends s cs q = search-ended (Reached s cs) (bookReached s cs) (reached-inv s cs) q
 
-pub home-locked : (s : Sizes) (cs : List Call) (q : ℕ) → partyAt (Reached s cs .parties) q .step ≡ 10 → HomeLocked (Reached s cs) q
+pub home-locked : (s : Start) (cs : List Call) (q : ℕ) → partyAt (Reached s cs .parties) q .step ≡ 10 → HomeLocked (Reached s cs) q
 home-locked s cs q = at-ten (Reached s cs) (bookReached s cs) (reached-inv s cs) q
 
-pub left-to-walk : (s : Sizes) (cs : List Call) (q : ℕ) → partyAt (Reached s cs .parties) q .step ≡ 9 → LeftToWalk (Reached s cs) (bookReached s cs) q
+pub left-to-walk : (s : Start) (cs : List Call) (q : ℕ) → partyAt (Reached s cs .parties) q .step ≡ 9 → LeftToWalk (Reached s cs) (bookReached s cs) q
 left-to-walk s cs q = at-nine (Reached s cs) (bookReached s cs) (reached-inv s cs) q
 
 -- P4 (section 4.4): the records; the answers are `answers-right` of proofs/Demands.antt.
-pub same-map : (s : Sizes) (cs : List Call) → SameMap (Reached s cs) (bookReached s cs) (always-consistent s cs)
+pub same-map : (s : Start) (cs : List Call) → SameMap (Reached s cs) (bookReached s cs) (always-consistent s cs)
 unfolding always-consistent
 same-map s cs = map-same (Reached s cs) (bookReached s cs) (reached-inv s cs)

@@ -19,7 +19,7 @@ use Rattle.model.specs.Records.{atStep}
 use Rattle.model.specs.Answers.{isMoved, performs, answerOf}
 use Rattle.model.specs.Entries.{joined}
 use Rattle.model.specs.Pages.{pageOf, primaryPage, linkToFirst, scratchPage, withPage, zeroPage, withLocalLevel, levelOf, pageSound}
-use Rattle.model.specs.Chains.{sound, chainOf, listFrom, pagesIn, pagesListed}
+use Rattle.model.specs.Chains.{sound, chainOf, listFrom, pagesIn, pagesListed, recordsRead}
 use Rattle.model.specs.Filling.{fitsPrimary}
 use Rattle.model.specs.Outcome.{View, Outcome, guarded, moved, withParty, withPages}
 use Rattle.model.specs.FreeList.{givenBack, pagesGivenBack}
@@ -33,12 +33,11 @@ use Rattle.model.specs.Steps.Dispatch.{stepOf, stepTable}
 use Rattle.model.specs.Memory.{Memory, partyAt, viewOf, afterStep}
 use Rattle.model.specs.Calls.{Called, called, stepped, stepCall}
 use Rattle.model.specs.Runs.{Call, beginFor, stepFor, withdrawFor, afterCall, eventOf}
-use Rattle.model.specs.Book.{Book, changedAt, emptyBook}
+use Rattle.model.specs.Book.{Book, changedAt}
 use Rattle.model.specs.Progress.{bookAfterCall}
 use Rattle.theory.specs.Links.{chainPages, clockStart, traceOf, traceOfStep, traceTwentyNine, Trace}
-use Rattle.theory.specs.Sequential.{recordsRead}
 use Rattle.theory.specs.FittingMerges.{nothingHad, hadAfter, samePages, isOnePage, joinsRightly, givesRightly, leavesOnePage, mergeRight, callFits, mergesFit}
-use Rattle.theory.specs.Demands.{Sizes, start}
+use Rattle.theory.specs.Demands.{Start, start, bookStart}
 use Rattle.model.proofs.Laws.Lists.{Cmp, same, diff, cmp, both-and, not-both, leb-true, eqb-true, eqb-same, eqb-diff, cond-ind, and-both, or-either}
 use Rattle.model.proofs.Laws.Pages.{page-other, length-zeroPage}
 use Rattle.model.proofs.Laws.Structure.{ChainIs, chain-frame}
@@ -57,7 +56,7 @@ use Rattle.model.proofs.Steps.MergeWrite.Partner.{step29-is}
 use Rattle.model.proofs.Theorems.Merges.{step26-root, ended-no-move}
 use Rattle.model.proofs.Theorems.Calls.{StepsKept, call-kept}
 use Rattle.model.proofs.Theorems.AllSteps.{steps-kept}
-use Rattle.theory.proofs.Reached.{formatted-inv}
+use Rattle.theory.proofs.Reached.{started-inv}
 use Rattle.theory.proofs.UnderWay.{Met, no-party, nothing-begun, under-way, meets}
 
 -- ---- The target of a merge that has been written
@@ -306,6 +305,6 @@ run-fits kept m b i had none (c ∷ cs) =
     both-and (g .right) (run-fits kept (afterCall m c) (bookAfterCall b m c) (call-kept kept m b i c .inv) _ (g .none) cs)
 
 -- MERGES FIT, over every list of calls from formatted memory.
-pub merges-right : (s : Sizes) (cs : List Call) → mergesFit nothingHad (start s) cs ≡ true
+pub merges-right : (s : Start) (cs : List Call) → mergesFit nothingHad (start s) cs ≡ true
 unfolding nothingHad
-merges-right s cs = run-fits steps-kept (start s) emptyBook (formatted-inv s) nothingHad (λ q. refl) cs
+merges-right s cs = run-fits steps-kept (start s) (bookStart s) (started-inv s) nothingHad (λ q. refl) cs

@@ -29,10 +29,10 @@ use Rattle.model.specs.LockRequests.{isGranted}
 use Rattle.model.specs.Memory.{Memory, partyAt, viewOf, formatted}
 use Rattle.model.specs.Calls.{Called, called, stepped, stepCall, withBegun, beginCall, withdrawCall}
 use Rattle.model.specs.Runs.{Call, beginFor, stepFor, withdrawFor, eventOf, afterCall}
-use Rattle.model.specs.Book.{Book, Entered, emptyBook}
+use Rattle.model.specs.Book.{Book, Entered}
 use Rattle.model.specs.Progress.{underWay, bookAfterCall}
 use Rattle.model.specs.Holds.{Hold, permitted, withoutAll, givesUp, requested, withHeld, wantedBy, holdsAfterStep, givesUpWithdrawn, holdsAfterWithdraw, holdsAfter, neverWaits, grantRight, answerRight, refusedWith, beginRefusedWith, isBegun, idleRight, beginRight, withdrawRefusedWith, isWithdrawn, withdrawRight, stepRight, callRight, grantsRight}
-use Rattle.theory.specs.Demands.{Sizes, sizesOf, start, GrantsRight}
+use Rattle.theory.specs.Demands.{Start, sizesOf, start, GrantsRight, bookStart}
 use Rattle.model.specs.Steps.Dispatch.{wants}
 use Rattle.model.proofs.Laws.Lists.{both-and, eqb-true, le-leb, lt-leb}
 use Rattle.model.specs.Claims.{claims}
@@ -41,7 +41,7 @@ use Rattle.model.specs.Withdraw.{isDecided}
 use Rattle.model.proofs.Steps.Withdraw.{leftBy}
 use Rattle.model.proofs.Invariant.Statement.{factsAt, Busy, Inv, sceneOf}
 use Rattle.model.proofs.Invariant.Frame.{SameLimits}
-use Rattle.model.proofs.Invariant.Start.{party-idle, start-inv}
+use Rattle.theory.proofs.Reached.{started-inv, started-idle}
 use Rattle.model.proofs.Theorems.RefusalOrder.{begin-order}
 use Rattle.model.proofs.Theorems.Calls.{StepsKept, within-limits, operation-some, lengths-fit, call-kept}
 use Rattle.theory.proofs.SizesStay.{limits-on, call-limits, start-limits, sized-root}
@@ -228,13 +228,13 @@ run-grants kept z m b i l hs ok (c ∷ cs) =
     (run-grants kept z (afterCall m c) (bookAfterCall b m c) (call-kept kept m b i c .inv) (limits-on z (m .root) (afterCall m c .root) l (call-limits m c)) (holdsAfter z hs m c) (g .ledger) cs)
 
 -- Nobody holds a lock at first.
-start-ledger : (r : Root) → LedgerOk (formatted r .root) (formatted r .parties) []
-unfolding formatted holdCount claims claimCount
-start-ledger r = record { agrees = λ q d. rw (party-idle (r .parties) q) refl }
+start-ledger : (s : Start) → LedgerOk (start s .root) (start s .parties) []
+unfolding holdCount claims claimCount
+start-ledger s = record { agrees = λ q d. rw (started-idle s q) refl }
 
 -- DEMAND 2, grants and refusals.
-pub grants-right : StepsKept → (s : Sizes) (cs : List Call) → GrantsRight s cs
+pub grants-right : StepsKept → (s : Start) (cs : List Call) → GrantsRight s cs
 grants-right kept s cs = record {
-  grants = run-grants kept (sizesOf s) (start s) emptyBook (start-inv (s .originals) (s .capacity) (s .primaries) (s .overflow) (s .parties) (s .fit)) (start-limits s) []
-      (start-ledger (sizesOf s)) cs;
+  grants = run-grants kept (sizesOf s) (start s) (bookStart s) (started-inv s) (start-limits s) []
+      (start-ledger s) cs;
 }

@@ -21,10 +21,10 @@ pub mod Consistency
 pub mod Places
 pub mod FittingMerges
 pub mod StepReads
-pub mod PlainMaps
 pub mod Singly
 pub mod Linearization
 pub mod Settings
 pub mod Withdrawals
 pub mod Demands
 pub mod Meanings
+pub mod TakenUp

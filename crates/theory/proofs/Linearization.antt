@@ -14,14 +14,15 @@ use Rattle.model.specs.declared.Party.{Party}
 use Rattle.model.specs.Records.{idle}
 use Rattle.model.specs.Memory.{Memory, partyAt}
 use Rattle.model.specs.Runs.{Call, events}
-use Rattle.model.specs.Book.{Book, Entered, emptyBook}
-use Rattle.theory.specs.PlainMap.{PlainMap, emptyMap}
-use Rattle.theory.specs.Demands.{Sizes, start, Reached, bookReached}
+use Rattle.model.specs.Book.{Book, Entered}
+use Rattle.theory.specs.PlainMap.{PlainMap}
+use Rattle.theory.specs.Demands.{Start, start, mapStart, Reached, bookReached, bookStart}
 use Rattle.theory.specs.Linearization.{IsOneOf, Operated, operationsOf, takesEffect, hasTakenEffect, Linearized, answersInOrder, mapAfter, Placed, Linearization}
 use Rattle.model.specs.Withdraw.{isDecided}
+use Rattle.model.specs.TakeUp.{openBook}
 use Rattle.model.proofs.Laws.Lists.{Ord, lt, ge, ord}
 use Rattle.model.proofs.Invariant.Statement.{PartyOk, resting, working, Inv, sceneOf}
-use Rattle.theory.proofs.Reached.{formatted-inv, reached-inv}
+use Rattle.theory.proofs.Reached.{started-inv, reached-inv}
 use Rattle.theory.proofs.Consistency.{always-consistent, same-map}
 use Rattle.theory.proofs.Linearization.Ordering.{away, isFixed, away-not-looking, Origin, from-rest, from-party, PlacedFrom, Begun, Suffix}
 use Rattle.theory.proofs.Linearization.Leads.{isBehind, isPast, past-decided}
@@ -82,26 +83,26 @@ module _ (m : Memory) (b : Book) (i : Inv m b) (p : ℕ) where
 
 -- ---- From formatted memory
 
-module _ (s : Sizes) (cs : List Call) where
-  all-away : (p : ℕ) → statusOf (start s) emptyBook p ≡ away
-  unfolding statusOf emptyBook
+module _ (s : Start) (cs : List Call) where
+  all-away : (p : ℕ) → statusOf (start s) (bookStart s) p ≡ away
+  unfolding statusOf openBook
   all-away p = refl
 
-  none-begun : Begun 1 (λ p. 0) (statusOf (start s) emptyBook)
+  none-begun : Begun 1 (λ p. 0) (statusOf (start s) (bookStart s))
   none-begun = record { earlier = λ p. omega arith; apart = λ p q d x y. absurd (x (all-away p)) }
 
-  abbrev whole : Suffix 1 (λ p. 0) (statusOf (start s) emptyBook) (mapOf emptyBook) (events (start s) cs) (statusOf (Reached s cs) (bookReached s cs)) (mapOf (bookReached s cs))
-  whole = run-suffix (start s) emptyBook (formatted-inv s) cs 1 (λ p. 0) none-begun
+  abbrev whole : Suffix 1 (λ p. 0) (statusOf (start s) (bookStart s)) (mapOf (bookStart s)) (events (start s) cs) (statusOf (Reached s cs) (bookReached s cs)) (mapOf (bookReached s cs))
+  whole = run-suffix (start s) (bookStart s) (started-inv s) cs 1 (λ p. 0) none-begun
 
-  starts-empty : mapOf emptyBook ≡ emptyMap
-  unfolding emptyBook emptyMap
+  starts-empty : mapOf (bookStart s) ≡ mapStart s
+  unfolding openBook
   starts-empty = refl
 
-  of-run : (o : Operated) → Origin 1 (λ p. 0) (statusOf (start s) emptyBook) (events (start s) cs) o → IsOneOf o (operationsOf (events (start s) cs))
+  of-run : (o : Operated) → Origin 1 (λ p. 0) (statusOf (start s) (bookStart s)) (events (start s) cs) o → IsOneOf o (operationsOf (events (start s) cs))
   of-run o (from-rest m) = m
   of-run o (from-party p u k h e) = absurd (away-not-looking u k (sym (all-away p) ∙ h))
 
-  place : (x : Linearized) → PlacedFrom 1 (λ p. 0) (statusOf (start s) emptyBook) (events (start s) cs) x → Placed (events (start s) cs) x
+  place : (x : Linearized) → PlacedFrom 1 (λ p. 0) (statusOf (start s) (bookStart s)) (events (start s) cs) x → Placed (events (start s) cs) x
   place x h = record {
     of-run = of-run (x .operated) (h .origin);
     after-begin = h .after-begin;
@@ -115,8 +116,8 @@ module _ (s : Sizes) (cs : List Call) where
   unfolding hasTakenEffect
   taken o = ap (λ (t : Bool). takesEffect t (o .ended)) (fixed-decided (Reached s cs) (bookReached s cs) (reached-inv s cs) (o .party))
 
-  map-left : (k : ℕ) → mapAfter emptyMap (whole .order) k ≡ mapOf (bookReached s cs) k
-  map-left k = ap (λ (z : PlainMap). mapAfter z (whole .order) k) (sym starts-empty) ∙ ap (λ (z : PlainMap). z k) (whole .left)
+  map-then : mapAfter (mapStart s) (whole .order) ≡ mapOf (bookReached s cs)
+  map-then = ap (λ (z : PlainMap). mapAfter z (whole .order)) (sym starts-empty) ∙ whole .left
 
   -- Every list of calls has a linearization.
   pub linearizable : Linearization s cs
@@ -130,6 +131,5 @@ module _ (s : Sizes) (cs : List Call) where
         (let before = whole .placed x m .before-end a h in let after = whole .placed y n .after-begin in omega arith);
     answers = ap (λ (z : PlainMap). answersInOrder z (whole .order)) (sym starts-empty) ∙ whole .answers;
     file = always-consistent s cs;
-    in-file = λ k x h. same-map s cs .in-file k x (sym (map-left k) ∙ h);
-    in-map = λ k x h. map-left k ∙ same-map s cs .in-map k x h;
+    map-left = same-map s cs .records ∙ sym map-then;
   }

@@ -33,9 +33,9 @@ use Rattle.model.specs.Calls.{Called, called, stepped, stepCall, withBegun, beg
 use Rattle.model.specs.Withdraw.{isDecided, builtPages}
 use Rattle.model.specs.Effects.{Withdraws}
 use Rattle.model.specs.Runs.{Call, beginFor, stepFor, withdrawFor, callerOf, replyTo, afterCall}
-use Rattle.model.specs.Book.{Book, Entered, bookAfter, emptyBook}
+use Rattle.model.specs.Book.{Book, Entered, bookAfter}
 use Rattle.theory.specs.Links.{Trace, trace, noTrace, chainPages, traceLooked, walkedFrom, traceTen, traceNine, traceFourteen, traceTwentyNine, traceOf, Clock, clockStart, traceOfStep, traceAnswered, traceOfWithdraw, traceOfCall, ticked, clockAfter, allFresh, linksFresh}
-use Rattle.theory.specs.Demands.{Sizes, start}
+use Rattle.theory.specs.Demands.{Start, start, bookStart, sizesOf}
 use Rattle.model.specs.Steps.Write.{isChange}
 use Rattle.model.specs.Steps.Dispatch.{stepTable, stepOf}
 use Rattle.model.proofs.Laws.Lists.{Told, holds, fails, tell, Cmp, same, diff, cmp, cond-ind, not-both, and-both, both-and, or-either, lt-ltb, eqb-true, eqb-diff, among-first, _▸_, all-in}
@@ -54,7 +54,7 @@ use Rattle.model.proofs.Invariant.Facts.{facts-at}
 use Rattle.model.proofs.Effects.GivingBack.{no-reader}
 use Rattle.model.proofs.Theorems.RefusalOrder.{begin-refused, begin-accepted, step-refused, step-accepted}
 use Rattle.model.proofs.Theorems.Gate.{ready}
-use Rattle.model.proofs.Invariant.Start.{start-inv, party-idle}
+use Rattle.theory.proofs.Reached.{started-inv, started-idle}
 use Rattle.model.proofs.Theorems.Calls.{StepsKept, call-kept}
 use Rattle.model.proofs.Invariant.Turn.{Turn}
 use Rattle.model.proofs.Steps.Withdraw.{undecided}
@@ -563,14 +563,14 @@ run-links kept k m b i ok (c ∷ cs) =
     (run-links kept (clockAfter k m c) (afterCall m c) (bookAfter b c (partyAt (m .parties) (callerOf c) .step) (replyTo m c)) (call-kept kept m b i c .inv) (f .clock) cs)
 
 -- Before the first call nobody is under way.
-start-clock : (s : Sizes) → ClockOk clockStart (start s)
-unfolding clockStart formatted oldOpen isAmong
+start-clock : (s : Start) → ClockOk clockStart (start s)
+unfolding clockStart oldOpen isAmong
 start-clock s = record {
   past = λ x. omega arith;
-  scratch-fresh = λ q l e n. absurd (false≢true (sym (ap (λ (p : Party). scratchOpen (p .step)) (party-idle (s .parties) q)) ∙ e));
-  old-fresh = λ q l h n. absurd (false≢true (sym (ap oldOpen (party-idle (s .parties) q)) ∙ h));
+  scratch-fresh = λ q l e n. absurd (false≢true (sym (ap (λ (p : Party). scratchOpen (p .step)) (started-idle s q)) ∙ e));
+  old-fresh = λ q l h n. absurd (false≢true (sym (ap oldOpen (started-idle s q)) ∙ h));
 }
 
-pub links-fresh : StepsKept → (s : Sizes) (cs : List Call) → linksFresh clockStart (start s) cs ≡ true
+pub links-fresh : StepsKept → (s : Start) (cs : List Call) → linksFresh clockStart (start s) cs ≡ true
 links-fresh kept s cs =
-    run-links kept clockStart (start s) emptyBook (start-inv (s .originals) (s .capacity) (s .primaries) (s .overflow) (s .parties) (s .fit)) (start-clock s) cs
+    run-links kept clockStart (start s) (bookStart s) (started-inv s) (start-clock s) cs

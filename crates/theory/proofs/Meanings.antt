@@ -1,12 +1,14 @@
 -- Definitions that only forbid, or that stand as a premise, said once more: a wider one would make a statement weaker
 -- and every proof of it would still stand.
--- Main statements: answers-allowed (what a plain map may answer, as a table), other-replies-refused, lengths-agree;
+-- Main statements: answers-allowed (what a plain map may answer, as a table), plain-setting, plain-ascends (what it leaves of each key),
+-- other-replies-refused, lengths-agree;
 -- clock-starts-at-zero, read-before-given (the link rule); accepted-replies, unanswered-comes-after-all;
 -- begins-write-none, steps-write-eleven, withdraws-write-none, withdrawn-wrote-none (what alters the map). Merges has
--- those of merges that fit.
+-- those of merges that fit, Maps those of maps.
 pub mod Merges
-use mathlib.Core.Path.{_≡_, refl, ap}
-use mathlib.Core.Bool.{Bool, true, false, _&&_, or-false}
+pub mod Maps
+use mathlib.Core.Path.{_≡_, refl, sym, ap, _∙_}
+use mathlib.Core.Bool.{Bool, true, false, cond, _&&_, or-false}
 use mathlib.Core.List.{List, [], _∷_, map}
 use mathlib.Core.Option.{Option, none, some}
 use Prim.Native.Nat.{ℕ}
@@ -21,14 +23,17 @@ use Rattle.model.specs.declared.StepAnswer.the-variants as StepAnswer
 use Rattle.model.specs.declared.WithdrawAnswer.the-variants as WithdrawAnswer
 use Rattle.model.specs.Answers.{answerNumber, foundOrAbsent, performs, settingFound, sameAnswer}
 use Rattle.model.specs.Runs.{beginFor, stepFor, withdrawFor, Reply, toStep, toWithdraw}
-use Rattle.model.specs.Book.{Value}
-use Rattle.theory.specs.PlainMap.{PlainMap, plainAnswer, mayLackPages, isNoPage, answersAsMap}
+use Rattle.model.specs.Book.{Value, contentsAtEleven}
+use Rattle.model.specs.Entries.{settingIn, ascending}
+use Rattle.theory.specs.PlainMap.{PlainMap, plainAnswer, plainAfter, mayLackPages, isNoPage, answersAsMap}
 use Rattle.theory.specs.Links.{Clock, clockStart, follow, allFresh}
 use Rattle.theory.specs.Singly.{Wanted, answersAsMaps}
 use Rattle.theory.specs.Linearization.{isBefore}
 use Rattle.theory.specs.Reads.{isAccepted}
 use Rattle.theory.specs.NoPage.{isWriting}
 use Rattle.theory.specs.Withdrawals.{writesMap, unwritten}
+use Rattle.model.proofs.Laws.Entries.{isIn, has-setting}
+use Rattle.model.proofs.Laws.Changes.{settingAfter, setting-eleven, ascends-eleven}
 
 -- The six answers, in the order of their numbers, found with the setting y.
 abbrev pub answersWith : Value → List OperationAnswer
@@ -44,14 +49,28 @@ allowed (Operation.Insert z) none y = true ∷ false ∷ false ∷ false ∷ tru
 allowed Operation.Delete (some x) y = false ∷ false ∷ true ∷ false ∷ true ∷ false ∷ []
 allowed Operation.Delete none y = false ∷ false ∷ false ∷ true ∷ false ∷ false ∷ []
 
-pub answers-allowed : (s : PlainMap) (o : Operation) (k : ℕ) (there : Option Value) (y : Value) → s k ≡ there → map (answersAsMap s o k) (answersWith y) ≡ allowed o there y
+pub answers-allowed : (s : PlainMap) (o : Operation) (k : ℕ) (there : Option Value) (y : Value) → settingIn k s ≡ there → map (answersAsMap s o k) (answersWith y) ≡ allowed o there y
 unfolding answersAsMap plainAnswer mayLackPages isNoPage sameAnswer foundOrAbsent answerNumber settingFound
 answers-allowed s Operation.Find k (some x) y e = rw e (ap (λ b. false ∷ false ∷ false ∷ false ∷ false ∷ b ∷ []) (or-false (eqb y x)))
 answers-allowed s Operation.Find k none y e = rw e refl
-answers-allowed s (Operation.Insert z) k (some x) y e = rw e refl
-answers-allowed s (Operation.Insert z) k none y e = rw e refl
-answers-allowed s Operation.Delete k (some x) y e = rw e refl
-answers-allowed s Operation.Delete k none y e = rw e refl
+answers-allowed s (Operation.Insert z) k (some x) y e = rw (sym (has-setting k s) ∙ ap isIn e) refl
+answers-allowed s (Operation.Insert z) k none y e = rw (sym (has-setting k s) ∙ ap isIn e) refl
+answers-allowed s Operation.Delete k (some x) y e = rw (sym (has-setting k s) ∙ ap isIn e) refl
+answers-allowed s Operation.Delete k none y e = rw (sym (has-setting k s) ∙ ap isIn e) refl
+
+-- What an operation leaves: it is what the book's 11 makes of its map. Its own key keeps the setting that is there, or an
+-- insert adds its own, or a delete takes it (settingAfter); every other key has what it had; and the keys still ascend.
+pub plain-eleven : (s : PlainMap) (o : Operation) (k : ℕ) → plainAfter s o k ≡ contentsAtEleven o k s
+unfolding plainAfter contentsAtEleven
+plain-eleven s Operation.Find k = refl
+plain-eleven s (Operation.Insert x) k = refl
+plain-eleven s Operation.Delete k = refl
+
+pub plain-setting : (s : PlainMap) (o : Operation) (k j : ℕ) → settingIn j (plainAfter s o k) ≡ cond (eqb j k) (settingAfter o (settingIn k s)) (settingIn j s)
+plain-setting s o k j = ap (settingIn j) (plain-eleven s o k) ∙ setting-eleven o k s j
+
+pub plain-ascends : (s : PlainMap) (o : Operation) (k : ℕ) → ascending s ≡ true → ascending (plainAfter s o k) ≡ true
+plain-ascends s o k a = rw (plain-eleven s o k) (ascends-eleven o k s a)
 
 -- An operation run singly ends done: any other last reply is no answer of a plain map.
 pub other-replies-refused :

@@ -25,10 +25,10 @@ use Rattle.model.specs.LockRequests.{isGranted}
 use Rattle.model.specs.Memory.{Memory, partyAt, viewOf}
 use Rattle.model.specs.Calls.{Called, stepped, stepCall}
 use Rattle.model.specs.Runs.{Call, eventOf, afterCall}
-use Rattle.model.specs.Book.{Book, Entered, emptyBook}
+use Rattle.model.specs.Book.{Book, Entered}
 use Rattle.model.specs.Holds.{sameMode}
 use Rattle.model.specs.Progress.{isEntered, underWay, canMove, someBelow, progresses, bookAfterCall, alwaysProgresses}
-use Rattle.theory.specs.Demands.{Sizes, start, Reached, bookReached}
+use Rattle.theory.specs.Demands.{Start, start, Reached, bookReached, bookStart, sizesOf}
 use Rattle.model.specs.Steps.Dispatch.{stepOf, wants}
 use Rattle.model.proofs.Laws.Lists.{Told, holds, fails, tell, Cmp, same, diff, cmp, Ord, lt, ge, ord, and-both, both-and, or-either, left-or, right-or, not-both, not-true, eqb-true, All}
 use Rattle.model.specs.Claims.{claims}
@@ -36,7 +36,7 @@ use Rattle.model.proofs.Invariant.Claims.{isClaimed}
 use Rattle.model.proofs.Invariant.LockMoves.{permits-true}
 use Rattle.model.proofs.Theorems.RefusalOrder.{step-order}
 use Rattle.model.proofs.Invariant.Statement.{factsAt, Busy, PartyOk, resting, working, sceneOf, Inv}
-use Rattle.model.proofs.Invariant.Start.{start-inv}
+use Rattle.theory.proofs.Reached.{started-inv}
 use Rattle.model.proofs.Theorems.Calls.{StepsKept, within-limits, operation-some, record-sound, lengths-fit, root-sound, party-sound, call-kept, run-inv}
 use Rattle.theory.proofs.SizesStay.{call-limits, sizes-stay}
 use Rattle.theory.proofs.UnderWay.{inv-fits, entered-under}
@@ -222,8 +222,8 @@ always-progress kept m b i (c ∷ cs) =
     (always-progress kept (afterCall m c) (bookAfterCall b m c) (call-kept kept m b i c .inv) cs))
 
 -- Ellis's P1, no deadlock: after every list of calls from formatted memory.
-pub no-deadlock : StepsKept → (s : Sizes) (cs : List Call) → progresses (s .parties) (bookReached s cs) (Reached s cs) ≡ true
+pub no-deadlock : StepsKept → (s : Start) (cs : List Call) → progresses (sizesOf s .parties) (bookReached s cs) (Reached s cs) ≡ true
 no-deadlock kept s cs =
     subst (λ (n : ℕ). progresses n (bookReached s cs) (Reached s cs) ≡ true) (sizes-stay s cs .parties)
     (progress-holds kept (Reached s cs) (bookReached s cs)
-    (run-inv kept (start s) emptyBook (start-inv (s .originals) (s .capacity) (s .primaries) (s .overflow) (s .parties) (s .fit)) cs))
+    (run-inv kept (start s) (bookStart s) (started-inv s) cs))

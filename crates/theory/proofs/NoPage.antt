@@ -21,21 +21,21 @@ use Rattle.model.specs.Outcome.{Outcome}
 use Rattle.model.specs.Memory.{Memory, partyAt, viewOf}
 use Rattle.model.specs.Calls.{Called, called, stepped, stepCall, withBegun, beginCall, withdrawCall}
 use Rattle.model.specs.Runs.{Call, beginFor, stepFor, withdrawFor, callerOf, replyTo, afterCall, eventOf, events}
-use Rattle.model.specs.Book.{Book, Entered, changedAt, emptyBook}
+use Rattle.model.specs.Book.{Book, Entered, changedAt}
 use Rattle.theory.specs.PlainMap.{isNoPage}
 use Rattle.model.specs.Effects.{Withdraws}
 use Rattle.model.specs.Progress.{bookAfterCall}
 use Rattle.theory.specs.NoPage.{isWriting, noneWrote, wroteBegin, wroteStep, wroteAfter, endsNoPage, noPageRight, noPageKept}
 use Rattle.model.specs.Steps.Write.{isChange}
 use Rattle.model.specs.Steps.Dispatch.{hasStep, stepOf}
-use Rattle.theory.specs.Demands.{Sizes, start}
+use Rattle.theory.specs.Demands.{Start, start, bookStart}
 use Rattle.model.proofs.Laws.Lists.{Cmp, same, diff, cmp, Told, holds, fails, tell, not-both, both-and, and-both, or-either, eqb-true, eqb-same, eqb-diff}
 use Rattle.model.proofs.Laws.Changes.{change-made}
 use Rattle.model.proofs.Invariant.Statement.{factsAt, Busy, Inv, sceneOf}
 use Rattle.model.proofs.Effects.Kept.{row-same, row-other}
 use Rattle.model.proofs.Theorems.RefusalOrder.{begin-order}
 use Rattle.model.proofs.Theorems.Calls.{StepsKept, within-limits, operation-some, lengths-fit, call-kept}
-use Rattle.theory.proofs.Reached.{formatted-inv}
+use Rattle.theory.proofs.Reached.{started-inv}
 use Rattle.theory.proofs.LockTrades.{step-trades}
 use Rattle.theory.proofs.Alters.{nothing-altered}
 use Rattle.theory.proofs.UnderWay.{Met, no-party, nothing-begun, under-way, meets}
@@ -239,6 +239,6 @@ run-clean kept m b i w ok (c ∷ cs) =
     both-and (g .right) (run-clean kept (afterCall m c) (bookAfterCall b m c) (call-kept kept m b i c .inv) _ (g .wrote) cs)
 
 -- From formatted memory.
-pub no-page-kept : StepsKept → (s : Sizes) (cs : List Call) → noPageKept noneWrote (events (start s) cs) ≡ true
+pub no-page-kept : StepsKept → (s : Start) (cs : List Call) → noPageKept noneWrote (events (start s) cs) ≡ true
 unfolding noneWrote
-no-page-kept kept s cs = run-clean kept (start s) emptyBook (formatted-inv s) noneWrote (λ q h. absurd (not-both true refl (sym h))) cs
+no-page-kept kept s cs = run-clean kept (start s) (bookStart s) (started-inv s) noneWrote (λ q h. absurd (not-both true refl (sym h))) cs

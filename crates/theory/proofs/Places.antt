@@ -20,7 +20,7 @@ use Rattle.model.specs.Steps.Table.{rowAt}
 use Rattle.model.specs.Memory.{Memory, partyAt}
 use Rattle.model.specs.Book.{Book, Entered}
 use Rattle.model.specs.Runs.{Call}
-use Rattle.theory.specs.Demands.{Sizes, Reached, bookReached}
+use Rattle.theory.specs.Demands.{Start, Reached, bookReached}
 use Rattle.model.specs.Effects.{scratchLink}
 use Rattle.model.specs.Consistency.{chainsWith}
 use Rattle.model.specs.PagePlaces.{count, pagesDrawn, freeList, chainedFrom, handIf, otherLinkOf, owesOld, hasBuilt, inHand, inHands, placesOf, PagesPlaced}
@@ -343,6 +343,6 @@ module _ (m : Memory) (b : Book) (i : Inv m b) where
           (kinds-apart (g .own x) nobody (eqb-diff (g .own x .kind) 0 (λ e. n (placed x ∙ rw (eqb-same (g .own x .kind) 0 e)))))
 
 -- After every list of calls from formatted memory, the chains of the file being those of always-consistent.
-pub reached-placed : (s : Sizes) (cs : List Call) → PagesPlaced (Reached s cs) (chainsWith (Reached s cs) (always-consistent s cs .split))
+pub reached-placed : (s : Start) (cs : List Call) → PagesPlaced (Reached s cs) (chainsWith (Reached s cs) (always-consistent s cs .split))
 reached-placed s cs =
     subst (PagesPlaced (Reached s cs)) (reached-many s cs) (pages-placed (Reached s cs) (bookReached s cs) (reached-inv s cs))

@@ -36,7 +36,7 @@ use Rattle.model.specs.Progress.{underWay}
 use Rattle.model.specs.Steps.Find.{answered, lookedOn, step09}
 use Rattle.model.specs.Steps.Dispatch.{hasStep, stepTable, stepOf}
 use Rattle.theory.specs.Singly.{Wanted, stepsOf}
-use Rattle.theory.specs.Demands.{Sizes, start, Reached, bookReached}
+use Rattle.theory.specs.Demands.{Start, start, Reached, bookReached}
 use Rattle.theory.specs.Withdrawals.{callsBegun, callsWithdrawn, atWithdraw, recordThere, Restored}
 use Rattle.model.proofs.Laws.Lists.{Ord, lt, ge, ord, Cmp, same, diff, cmp, cond-ind, not-both, eqb-diff, lt-leb}
 use Rattle.model.proofs.Invariant.Statement.{Busy, factsAt, PartyOk, resting, working, Inv, sceneOf}
@@ -208,7 +208,7 @@ begin-revocable m b i q o k h = go (ord q (m .root .parties))
 
 -- ---- After every list of calls
 
-module _ (s : Sizes) (cs : List Call) (x : Wanted) (n : ℕ) where
+module _ (s : Start) (cs : List Call) (x : Wanted) (n : ℕ) where
   abbrev q : ℕ
   q = x .party
 

@@ -15,16 +15,17 @@ use Rattle.model.specs.declared.OperationAnswer.the-variants as OperationAnswer
 use Rattle.model.specs.declared.BeginAnswer.the-variants as BeginAnswer
 use Rattle.model.specs.Answers.{answerNumber, foundOrAbsent, sameAnswer}
 use Rattle.model.specs.Runs.{Call, beginFor, stepFor, withdrawFor, Reply, toBegin, toStep, toWithdraw, Event, events}
-use Rattle.model.specs.Book.{Value, isIn, changedAt}
+use Rattle.model.specs.Book.{Value}
+use Rattle.model.specs.Entries.{entryOf, hasKey, settingIn, removedFrom}
 use Rattle.model.specs.Steps.Write.{isChange}
-use Rattle.theory.specs.PlainMap.{PlainMap, emptyMap, plainAnswer, keptOr, plainAfter, mayLackPages, isNoPage, answersAsMap, mapLeftBy}
-use Rattle.theory.specs.Demands.{Sizes, start}
+use Rattle.theory.specs.PlainMap.{PlainMap, plainAnswer, plainAfter, mayLackPages, isNoPage, answersAsMap, mapLeftBy}
+use Rattle.theory.specs.Demands.{Start, start, mapStart}
 use Rattle.theory.specs.Linearization.{IsOneOf, Ended, Operated, entering, operationsFrom, operationsOf, hasTakenEffect, Linearized, timesIn, answersInOrder, mapAfter, Linearization}
-use Rattle.theory.specs.Settings.{changesKey, leavesKey, LastAdded, FoundInOrder, FoundsRight}
-use Rattle.model.proofs.Laws.Lists.{Cmp, same, diff, cmp, eqb-true, eqb-diff, and-both, both-and, or-either}
+use Rattle.theory.specs.Settings.{changesKey, leavesKey, LastAdded, FoundInOrder, FoundsRight, Came, from-before, from-insert}
+use Rattle.model.proofs.Laws.Lists.{Cmp, same, diff, cmp, eqb-true, eqb-same, eqb-diff, and-both, both-and, or-either}
 use Rattle.model.proofs.Laws.Answers.{answers-same}
-use Rattle.model.proofs.Invariant.Facts.{changed-here, changed-elsewhere}
-use Rattle.theory.proofs.PlainMaps.{changed-same, out-none, kept-there}
+use Rattle.model.proofs.Laws.Entries.{isIn}
+use Rattle.model.proofs.Laws.Changes.{setting-inserted, setting-removed}
 use Rattle.theory.proofs.Linearization.Notes.{six-left}
 use Rattle.theory.proofs.Linearization.Ordering.{entered-late}
 
@@ -32,7 +33,7 @@ use Rattle.theory.proofs.Linearization.Ordering.{entered-late}
 
 -- Key k has setting x after operation o with key j answered a: it had it, and this operation left the key; or this operation is the insert that added it.
 data Source (s : PlainMap) (o : Operation) (j k : ℕ) (x : Value) (a : OperationAnswer) : Type 0 where
-  had : (eqb j k && isChange (answerNumber a)) ≡ false → s k ≡ some x → Source s o j k x a
+  had : (eqb j k && isChange (answerNumber a)) ≡ false → settingIn k s ≡ some x → Source s o j k x a
   added : o ≡ Operation.Insert x → j ≡ k → a ≡ OperationAnswer.Inserted → Source s o j k x a
 
 same-setting : (x y : Value) → _≡_ {A = Option Value} (some x) (some y) → x ≡ y
@@ -43,54 +44,53 @@ no-setting x e = false≢true (ap isIn e)
 
 module _ (s : PlainMap) (j k : ℕ) (x : Value) where
   -- A key other than the operation's.
-  elsewhere : (o : Operation) (a : OperationAnswer) (y : Option Value) → j ≢ k → changedAt s j y k ≡ some x → Source s o j k x a
-  elsewhere o a y d h = had (ap (λ (t : Bool). t && isChange (answerNumber a)) (eqb-diff j k d)) (sym (changed-elsewhere s j y k (λ e. d (sym e))) ∙ h)
+  elsewhere : (o : Operation) (a : OperationAnswer) (y : Option Value) → j ≢ k → cond (eqb j k) y (settingIn k s) ≡ some x → Source s o j k x a
+  elsewhere o a y d h = had (ap (λ (t : Bool). t && isChange (answerNumber a)) (eqb-diff j k d)) (sym (ap (λ (t : Bool). cond t y (settingIn k s)) (eqb-diff j k d)) ∙ h)
 
-  find-source : (t : Option Value) → mapLeftBy s Operation.Find j (foundOrAbsent t) k ≡ some x → Source s Operation.Find j k x (foundOrAbsent t)
+  find-source : (t : Option Value) → settingIn k (mapLeftBy s Operation.Find j (foundOrAbsent t)) ≡ some x → Source s Operation.Find j k x (foundOrAbsent t)
   unfolding foundOrAbsent isChange answerNumber
-  find-source t h = had (ap (λ (u : Bool). eqb j k && u) (quiet t) ∙ and-false (eqb j k)) (sym (ap (λ (u : PlainMap). u k) (six-left s j t)) ∙ h)
+  find-source t h = had (ap (λ (u : Bool). eqb j k && u) (quiet t) ∙ and-false (eqb j k)) (sym (ap (settingIn k) (six-left s j t)) ∙ h)
     where
       quiet : (u : Option Value) → isChange (answerNumber (foundOrAbsent u)) ≡ false
       quiet none = refl
       quiet (some y) = refl
 
-  insert-source : (y : Value) (t : Bool) → isIn (s j) ≡ t → mapLeftBy s (Operation.Insert y) j (cond t OperationAnswer.Present OperationAnswer.Inserted) k ≡ some x
+  insert-source : (y : Value) (t : Bool) → hasKey j s ≡ t → settingIn k (mapLeftBy s (Operation.Insert y) j (cond t OperationAnswer.Present OperationAnswer.Inserted)) ≡ some x
       → Source s (Operation.Insert y) j k x (cond t OperationAnswer.Present OperationAnswer.Inserted)
-  unfolding mapLeftBy plainAfter isNoPage isChange answerNumber keptOr
-  insert-source y true e h = had (and-false (eqb j k)) (sym (changed-same s j (keptOr (s j) y) (sym (kept-there (s j) y e)) k) ∙ h)
-  insert-source y false e h = go (cmp j k)
+  unfolding mapLeftBy plainAfter isNoPage isChange answerNumber
+  insert-source y true e h = had (and-false (eqb j k)) (rw e at h)
+  insert-source y false e h = go (cmp j k) (sym (setting-inserted (entryOf j y) k s e) ∙ (rw e at h))
     where
-      go : Cmp j k → Source s (Operation.Insert y) j k x OperationAnswer.Inserted
-      go (diff d) = elsewhere (Operation.Insert y) OperationAnswer.Inserted (keptOr (s j) y) d h
-      go (same i) =
-          let put : keptOr (s j) y ≡ some y = ap (λ (u : Option Value). keptOr u y) (out-none (s j) e) in
-          added (ap Operation.Insert (same-setting y x (sym put ∙ sym (changed-here s j (keptOr (s j) y) k (sym i)) ∙ h))) i refl
+      go : Cmp j k → cond (eqb j k) (some y) (settingIn k s) ≡ some x → Source s (Operation.Insert y) j k x OperationAnswer.Inserted
+      go (diff d) t = elsewhere (Operation.Insert y) OperationAnswer.Inserted (some y) d t
+      go (same i) t = added (ap Operation.Insert (same-setting y x (rw (eqb-same j k i) at t))) i refl
 
-  delete-source : (t : Bool) → mapLeftBy s Operation.Delete j (cond t OperationAnswer.Deleted OperationAnswer.Absent) k ≡ some x
+  removed-source : (a : OperationAnswer) → settingIn k (removedFrom j s) ≡ some x → Source s Operation.Delete j k x a
+  removed-source a h = go (cmp j k) (sym (setting-removed j k s) ∙ h)
+    where
+      go : Cmp j k → cond (eqb j k) none (settingIn k s) ≡ some x → Source s Operation.Delete j k x a
+      go (diff d) t = elsewhere Operation.Delete a none d t
+      go (same i) t = absurd (no-setting x (rw (eqb-same j k i) at t))
+
+  delete-source : (t : Bool) → settingIn k (mapLeftBy s Operation.Delete j (cond t OperationAnswer.Deleted OperationAnswer.Absent)) ≡ some x
       → Source s Operation.Delete j k x (cond t OperationAnswer.Deleted OperationAnswer.Absent)
   unfolding mapLeftBy plainAfter isNoPage answerNumber
-  delete-source t h = go (cmp j k) t h
-    where
-      go : Cmp j k → (u : Bool) → mapLeftBy s Operation.Delete j (cond u OperationAnswer.Deleted OperationAnswer.Absent) k ≡ some x
-          → Source s Operation.Delete j k x (cond u OperationAnswer.Deleted OperationAnswer.Absent)
-      go (diff d) true g = elsewhere Operation.Delete OperationAnswer.Deleted none d g
-      go (diff d) false g = elsewhere Operation.Delete OperationAnswer.Absent none d g
-      go (same i) true g = absurd (no-setting x (sym (changed-here s j none k (sym i)) ∙ g))
-      go (same i) false g = absurd (no-setting x (sym (changed-here s j none k (sym i)) ∙ g))
+  delete-source true h = removed-source OperationAnswer.Deleted h
+  delete-source false h = removed-source OperationAnswer.Absent h
 
   -- The plain answer, and "no page".
-  plain-source : (o : Operation) → mapLeftBy s o j (plainAnswer s o j) k ≡ some x → Source s o j k x (plainAnswer s o j)
+  plain-source : (o : Operation) → settingIn k (mapLeftBy s o j (plainAnswer s o j)) ≡ some x → Source s o j k x (plainAnswer s o j)
   unfolding plainAnswer
-  plain-source Operation.Find h = find-source (s j) h
-  plain-source (Operation.Insert y) h = insert-source y (isIn (s j)) refl h
-  plain-source Operation.Delete h = delete-source (isIn (s j)) h
+  plain-source Operation.Find h = find-source (settingIn j s) h
+  plain-source (Operation.Insert y) h = insert-source y (hasKey j s) refl h
+  plain-source Operation.Delete h = delete-source (hasKey j s) h
 
-  short-source : (o : Operation) (a : OperationAnswer) → isNoPage a ≡ true → mapLeftBy s o j a k ≡ some x → Source s o j k x a
+  short-source : (o : Operation) (a : OperationAnswer) → isNoPage a ≡ true → settingIn k (mapLeftBy s o j a) ≡ some x → Source s o j k x a
   unfolding mapLeftBy isNoPage isChange answerNumber
   short-source o a e h =
-      had (ap (λ (n : ℕ). eqb j k && (eqb n 1 || eqb n 3)) (eqb-true (answerNumber a) 5 e) ∙ and-false (eqb j k)) (sym (ap (λ (t : Bool). cond t s (plainAfter s o j) k) e) ∙ h)
+      had (ap (λ (n : ℕ). eqb j k && (eqb n 1 || eqb n 3)) (eqb-true (answerNumber a) 5 e) ∙ and-false (eqb j k)) (sym (ap (λ (t : Bool). settingIn k (cond t s (plainAfter s o j))) e) ∙ h)
 
-  source : (o : Operation) (a : OperationAnswer) → answersAsMap s o j a ≡ true → mapLeftBy s o j a k ≡ some x → Source s o j k x a
+  source : (o : Operation) (a : OperationAnswer) → answersAsMap s o j a ≡ true → settingIn k (mapLeftBy s o j a) ≡ some x → Source s o j k x a
   unfolding answersAsMap
   source o a h g = go (or-either (sameAnswer a (plainAnswer s o j)) (isNoPage a && mayLackPages s o j) h)
     where
@@ -98,16 +98,11 @@ module _ (s : PlainMap) (j k : ℕ) (x : Value) where
       go (inr e) = short-source o a (and-both (isNoPage a) (mayLackPages s o j) e .0) g
       go (inl e) =
           let i = answers-same a (plainAnswer s o j) e in
-          subst (Source s o j k x) (sym i) (plain-source o (subst (λ (b : OperationAnswer). mapLeftBy s o j b k ≡ some x) i g))
+          subst (Source s o j k x) (sym i) (plain-source o (subst (λ (b : OperationAnswer). settingIn k (mapLeftBy s o j b) ≡ some x) i g))
 
 -- ---- An order of operations
 
--- Key k has setting x after the operations xs on the map s: it had it, and they left the key; or it was added last in them.
-data Came (s : PlainMap) (k : ℕ) (x : Value) (xs : List Linearized) : Type 0 where
-  from-before : s k ≡ some x → leavesKey k xs ≡ true → Came s k x xs
-  from-insert : LastAdded k x xs → Came s k x xs
-
-came-from : (s : PlainMap) (xs : List Linearized) → answersInOrder s xs ≡ true → (k : ℕ) (x : Value) → mapAfter s xs k ≡ some x → Came s k x xs
+came-from : (s : PlainMap) (xs : List Linearized) → answersInOrder s xs ≡ true → (k : ℕ) (x : Value) → settingIn k (mapAfter s xs) ≡ some x → Came s k x xs
 unfolding answersInOrder mapAfter leavesKey changesKey
 came-from s [] h k x g = from-before g refl
 came-from s (y ∷ ys) h k x g =
@@ -133,15 +128,6 @@ came-from s (y ∷ ys) h k x g =
       not-since = l .not-since;
     })
 
--- From the empty map on, it was added last.
-added-last : (xs : List Linearized) → answersInOrder emptyMap xs ≡ true → (k : ℕ) (x : Value) → mapAfter emptyMap xs k ≡ some x → LastAdded k x xs
-unfolding emptyMap
-added-last xs h k x g = go (came-from emptyMap xs h k x g)
-  where
-    go : Came emptyMap k x xs → LastAdded k x xs
-    go (from-before e q) = absurd (no-setting x e)
-    go (from-insert l) = l
-
 -- An order cut at one of its operations: the answers before it are right, and its own is right after them.
 answers-cut : (s : PlainMap) (xs : List Linearized) (y : Linearized) (ys : List Linearized) → answersInOrder s (xs ++ (y ∷ ys)) ≡ true
     → (answersInOrder s xs ≡ true) × (answersAsMap (mapAfter s xs) (y .operated .operation) (y .operated .key) (y .answer) ≡ true)
@@ -154,7 +140,7 @@ answers-cut s (x ∷ xs) y ys h =
     (both-and (f .0) (rest .0), rest .1)
 
 -- What is answered found is what the map has.
-found-has : (s : PlainMap) (o : Operation) (j : ℕ) (x : Value) → answersAsMap s o j (OperationAnswer.Found x) ≡ true → s j ≡ some x
+found-has : (s : PlainMap) (o : Operation) (j : ℕ) (x : Value) → answersAsMap s o j (OperationAnswer.Found x) ≡ true → settingIn j s ≡ some x
 unfolding answersAsMap plainAnswer isNoPage answerNumber foundOrAbsent
 found-has s o j x h = go o (or-either (sameAnswer (OperationAnswer.Found x) (plainAnswer s o j)) false h)
   where
@@ -169,13 +155,13 @@ found-has s o j x h = go o (or-either (sameAnswer (OperationAnswer.Found x) (pla
     changing true a b n m e = n (numbered a e)
     changing false a b n m e = m (numbered b e)
 
-    go : (u : Operation) → (sameAnswer (OperationAnswer.Found x) (plainAnswer s u j) ≡ true) ⊎ (false ≡ true) → s j ≡ some x
+    go : (u : Operation) → (sameAnswer (OperationAnswer.Found x) (plainAnswer s u j) ≡ true) ⊎ (false ≡ true) → settingIn j s ≡ some x
     go u (inr e) = absurd (false≢true e)
-    go Operation.Find (inl e) = looked (s j) (answers-same (OperationAnswer.Found x) (foundOrAbsent (s j)) e)
+    go Operation.Find (inl e) = looked (settingIn j s) (answers-same (OperationAnswer.Found x) (foundOrAbsent (settingIn j s)) e)
     go (Operation.Insert y) (inl e) =
-        absurd (changing (isIn (s j)) OperationAnswer.Present OperationAnswer.Inserted (omega arith) (omega arith) (answers-same (OperationAnswer.Found x) _ e))
+        absurd (changing (hasKey j s) OperationAnswer.Present OperationAnswer.Inserted (omega arith) (omega arith) (answers-same (OperationAnswer.Found x) _ e))
     go Operation.Delete (inl e) =
-        absurd (changing (isIn (s j)) OperationAnswer.Deleted OperationAnswer.Absent (omega arith) (omega arith) (answers-same (OperationAnswer.Found x) _ e))
+        absurd (changing (hasKey j s) OperationAnswer.Deleted OperationAnswer.Absent (omega arith) (omega arith) (answers-same (OperationAnswer.Found x) _ e))
 
 -- ---- An operation in its place
 
@@ -230,12 +216,12 @@ place-of n (x ∷ xs) h = go (cmp (x .operated .begun) n) (place-of n xs)
 
 -- ---- Every found
 
-pub founds-right : (s : Sizes) (cs : List Call) (l : Linearization s cs) → FoundsRight s cs l
+pub founds-right : (s : Start) (cs : List Call) (l : Linearization s cs) → FoundsRight s cs l
 unfolding hasTakenEffect
 founds-right s cs l = record { found = in-order }
   where
     in-order : (o : Operated) (a : Ended) (x : ℕ) → IsOneOf o (operationsOf (events (start s) cs)) → o .ended ≡ some a → a .answer ≡ some (OperationAnswer.Found x)
-        → FoundInOrder o x (l .order)
+        → FoundInOrder s o x (l .order)
     in-order o a x m answered found =
         let once : timesIn (o .begun) (l .order) ≡ 1 = l .each o m ∙ rw (answered, found) refl in
         let p = place-of (o .begun) (l .order) (λ z. omega (arith, once, z)) in
@@ -243,14 +229,14 @@ founds-right s cs l = record { found = in-order }
         let own : p .here .operated ≡ o = begun-once 1 (events (start s) cs) (p .here .operated) o (p .its-call) (placed .of-run) m in
         let given : _≡_ {A = Option OperationAnswer} (some (p .here .answer)) (some (OperationAnswer.Found x)) = sym (placed .same-answer a (ap (λ (u : Operated). u .ended) own ∙ answered)) ∙ found in
         let its-answer : p .here .answer ≡ OperationAnswer.Found x = cc in
-        let cut = answers-cut emptyMap (p .earlier) (p .here) (p .later) (ap (answersInOrder emptyMap) (sym (p .parts)) ∙ l .answers) in
-        let has = found-has (mapAfter emptyMap (p .earlier)) (p .here .operated .operation) (p .here .operated .key) x
-        (ap (answersAsMap (mapAfter emptyMap (p .earlier)) (p .here .operated .operation) (p .here .operated .key)) (sym its-answer) ∙ cut .1) in
+        let cut = answers-cut (mapStart s) (p .earlier) (p .here) (p .later) (ap (answersInOrder (mapStart s)) (sym (p .parts)) ∙ l .answers) in
+        let has = found-has (mapAfter (mapStart s) (p .earlier)) (p .here .operated .operation) (p .here .operated .key) x
+        (ap (answersAsMap (mapAfter (mapStart s) (p .earlier)) (p .here .operated .operation) (p .here .operated .key)) (sym its-answer) ∙ cut .1) in
         record {
           earlier = p .earlier;
           here = p .here;
           later = p .later;
           parts = p .parts;
           own = own;
-          last-added = added-last (p .earlier) (cut .0) (o .key) x (ap (λ (u : Operated). mapAfter emptyMap (p .earlier) (u .key)) (sym own) ∙ has);
+          came = came-from (mapStart s) (p .earlier) (cut .0) (o .key) x (ap (λ (u : Operated). settingIn (u .key) (mapAfter (mapStart s) (p .earlier))) (sym own) ∙ has);
         }

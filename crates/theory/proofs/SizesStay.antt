@@ -16,7 +16,7 @@ use Rattle.model.specs.GivenSizes.{sizedRoot, sizedMemory}
 use Rattle.model.specs.Refusals.{firstCause, beginRows, stepRows}
 use Rattle.model.specs.Calls.{Called, withBegun, beginCall, stepped, stepCall, withdrawCall}
 use Rattle.model.specs.Runs.{Call, beginFor, stepFor, withdrawFor, afterCall, finalMemory}
-use Rattle.theory.specs.Demands.{Sizes, sizesOf, start, Reached, SizesStay}
+use Rattle.theory.specs.Demands.{Start, sizesOf, start, Reached, SizesStay}
 use Rattle.model.specs.Steps.Dispatch.{stepOf}
 use Rattle.model.proofs.Laws.Lists.{Cmp, same, diff, cmp}
 use Rattle.model.proofs.Invariant.Frame.{SameLimits}
@@ -91,14 +91,14 @@ run-limits m [] = same-limits (m .root)
 run-limits m (c ∷ cs) = limits-on (m .root) (afterCall m c .root) (finalMemory (afterCall m c) cs .root) (call-limits m c) (run-limits (afterCall m c) cs)
 
 -- Format leaves the sizes given.
-pub start-limits : (s : Sizes) → SameLimits (sizesOf s) (start s .root)
+pub start-limits : (s : Start) → SameLimits (sizesOf s) (start s .root)
 unfolding formatted formattedRoot
 start-limits s = record { originals= = refl; capacity= = refl; primaries= = refl; overflow= = refl; parties= = refl }
 
-pub reached-limits : (s : Sizes) (cs : List Call) → SameLimits (sizesOf s) (Reached s cs .root)
+pub reached-limits : (s : Start) (cs : List Call) → SameLimits (sizesOf s) (Reached s cs .root)
 reached-limits s cs = limits-on (sizesOf s) (start s .root) (Reached s cs .root) (start-limits s) (run-limits (start s) cs)
 
-pub sizes-stay : (s : Sizes) (cs : List Call) → SizesStay s cs
+pub sizes-stay : (s : Start) (cs : List Call) → SizesStay s cs
 sizes-stay s cs =
     let l = reached-limits s cs in
     record { originals = l .originals=; capacity = l .capacity=; primaries = l .primaries=; overflow = l .overflow=; parties = l .parties= }

@@ -4,7 +4,6 @@
 use mathlib.Core.Path.{_≡_, refl, sym, ap, _∙_}
 use mathlib.Core.Bool.{Bool, true, false, false≢true}
 use mathlib.Core.List.{List, [], _∷_, _++_}
-use mathlib.Core.Option.{Option}
 use Prim.Native.Nat.{ℕ}
 use native.Mathlib.Omega.{arith}
 use Rattle.model.specs.declared.Party.{Party}
@@ -19,17 +18,17 @@ use Rattle.model.specs.Withdraw.{isDecided}
 use Rattle.model.specs.Memory.{Memory, partyAt}
 use Rattle.model.specs.Calls.{Called, withdrawCall}
 use Rattle.model.specs.Runs.{Call, beginFor, stepFor, withdrawFor, Reply, toBegin, toStep, toWithdraw, replyTo, afterCall, Event, eventOf, events}
-use Rattle.model.specs.Book.{Book, Value, Entered, emptyBook, enter, afterReply, afterBegin, afterWithdraw, bookAfter, bookAtEnd}
+use Rattle.model.specs.Book.{Book, Entered, enter, afterReply, afterBegin, afterWithdraw, bookAfter, bookAtEnd}
 use Rattle.model.specs.Progress.{bookAfterCall}
 use Rattle.theory.specs.NoPage.{isWriting, noneWrote}
-use Rattle.theory.specs.Demands.{Sizes, start, Reached, bookReached}
+use Rattle.theory.specs.Demands.{Start, start, Reached, bookReached, bookStart}
 use Rattle.theory.specs.Withdrawals.{writesMap, writesOn, MapStays, unwritten, withdrawnUnwritten, WithdrawalsRight}
 use Rattle.model.proofs.Laws.Lists.{Told, holds, fails, tell, both-and, eqb-false}
 use Rattle.model.proofs.Invariant.Statement.{Busy, Inv, sceneOf}
 use Rattle.model.proofs.Steps.Withdraw.{undecided-early}
 use Rattle.model.proofs.Theorems.Calls.{operation-some, call-kept}
 use Rattle.model.proofs.Theorems.AllSteps.{steps-kept}
-use Rattle.theory.proofs.Reached.{formatted-inv}
+use Rattle.theory.proofs.Reached.{started-inv}
 use Rattle.theory.proofs.BookFed.{book-fed-at}
 use Rattle.theory.proofs.Consistency.{always-consistent, same-map}
 use Rattle.theory.proofs.Linearization.Notes.{noted-contents}
@@ -69,20 +68,19 @@ book-last b (x ∷ es) e = book-last (bookAfter b (x .call) (x .number) (x .repl
 
 -- ---- The map in the file
 
-module _ (s : Sizes) (cs : List Call) (c : Call) (plain : writesOn (Reached s cs) c ≡ false) where
+module _ (s : Start) (cs : List Call) (c : Call) (plain : writesOn (Reached s cs) c ≡ false) where
   book-then : bookReached s (cs ++ (c ∷ [])) .contents ≡ bookReached s cs .contents
   unfolding events
   book-then =
       let e = eventOf (Reached s cs) c in
-      ap (λ (es : List Event). bookAtEnd emptyBook es .contents) (book-fed-at (start s) cs c [])
-      ∙ ap (λ (b : Book). b .contents) (book-last emptyBook (events (start s) cs) e) ∙ contents-kept (bookReached s cs) (e .call) (e .number) (e .reply) plain
+      ap (λ (es : List Event). bookAtEnd (bookStart s) es .contents) (book-fed-at (start s) cs c [])
+      ∙ ap (λ (b : Book). b .contents) (book-last (bookStart s) (events (start s) cs) e) ∙ contents-kept (bookReached s cs) (e .call) (e .number) (e .reply) plain
 
   pub map-stays : MapStays s cs c
   map-stays = record {
     before = always-consistent s cs;
     after = always-consistent s (cs ++ (c ∷ []));
-    kept = λ k x h. same-map s (cs ++ (c ∷ [])) .in-file k x (ap (λ (f : ℕ → Option Value). f k) book-then ∙ same-map s cs .in-map k x h);
-    no-more = λ k x h. same-map s cs .in-file k x (ap (λ (f : ℕ → Option Value). f k) (sym book-then) ∙ same-map s (cs ++ (c ∷ [])) .in-map k x h);
+    same = same-map s (cs ++ (c ∷ [])) .records ∙ book-then ∙ sym (same-map s cs .records);
   }
 
 -- ---- Operations that are withdrawn
@@ -126,9 +124,9 @@ run-unwritten m b i w ok (c ∷ cs) =
     both-and (call-unwritten m b i w ok c)
     (run-unwritten (afterCall m c) (bookAfterCall b m c) (call-kept steps-kept m b i c .inv) _ (call-clean m b i w ok c .wrote) cs)
 
-pub none-written : (s : Sizes) (cs : List Call) → withdrawnUnwritten noneWrote (events (start s) cs) ≡ true
+pub none-written : (s : Start) (cs : List Call) → withdrawnUnwritten noneWrote (events (start s) cs) ≡ true
 unfolding noneWrote
-none-written s cs = run-unwritten (start s) emptyBook (formatted-inv s) noneWrote (λ q h. absurd (false≢true h)) cs
+none-written s cs = run-unwritten (start s) (bookStart s) (started-inv s) noneWrote (λ q h. absurd (false≢true h)) cs
 
-pub withdrawals-right : (s : Sizes) (cs : List Call) → WithdrawalsRight s cs
+pub withdrawals-right : (s : Start) (cs : List Call) → WithdrawalsRight s cs
 withdrawals-right s cs = record { map-stays = map-stays s cs; none-written = none-written s cs }

@@ -8,14 +8,13 @@ use lib.ListN.{length}
 use lib.Dec.{eqb}
 use Rattle.model.specs.Answers.{isMoved, performs}
 use Rattle.model.specs.Entries.{joined}
-use Rattle.model.specs.Chains.{Checked, damaged, sound, Chain, chainOf}
+use Rattle.model.specs.Chains.{Checked, damaged, sound, Chain, chainOf, recordsRead}
 use Rattle.model.specs.Filling.{fitsPrimary}
 use Rattle.model.specs.Memory.{Memory, partyAt, viewOf}
 use Rattle.model.specs.Calls.{stepCall}
 use Rattle.model.specs.Runs.{Call, beginFor, stepFor, withdrawFor, afterCall}
 use Rattle.model.specs.Book.{changedAt}
 use Rattle.theory.specs.Links.{chainPages, clockStart, traceOfStep}
-use Rattle.theory.specs.Sequential.{recordsRead}
 
 -- ---- What both chains had
 

@@ -10,3 +10,4 @@ pub mod Demands
 pub mod Linearization
 pub mod Settings
 pub mod Withdrawals
+pub mod TakenUp

@@ -23,10 +23,9 @@ use Rattle.model.specs.Steps.Write.{isChange}
 use Rattle.model.specs.Withdraw.{isDecided}
 use Rattle.model.specs.Memory.{Memory, partyAt}
 use Rattle.model.specs.Runs.{Call, beginFor, stepFor, withdrawFor, Reply, toBegin, toStep, toWithdraw, Event, events}
-use Rattle.theory.specs.PlainMap.{PlainMap, emptyMap, answersAsMap, mapLeftBy}
-use Rattle.model.specs.Book.{Value}
-use Rattle.model.specs.Consistency.{Consistent, InFile}
-use Rattle.theory.specs.Demands.{Sizes, start, Reached}
+use Rattle.theory.specs.PlainMap.{PlainMap, answersAsMap, mapLeftBy}
+use Rattle.model.specs.Consistency.{Consistent, recordsIn}
+use Rattle.theory.specs.Demands.{Start, start, mapStart, Reached}
 
 -- x is one of xs.
 abbrev pub IsOneOf : {A : Type 0} → A → List A → Type 0
@@ -192,9 +191,9 @@ pub record StandsBefore (x y : Linearized) (xs : List Linearized) : Type 0 where
   pub back : List Linearized
   pub parts : xs ≡ front ++ (x ∷ (between ++ (y ∷ back)))
 
--- The run of a list of calls from formatted memory has a linearization: an order of operations, by the calls at which they
+-- The run of a list of calls from a start has a linearization: an order of operations, by the calls at which they
 -- take effect.
-pub record Linearization (s : Sizes) (cs : List Call) : Type 0 where
+pub record Linearization (s : Start) (cs : List Call) : Type 0 where
   pub order : List Linearized
   pub ascending : ascendingFrom 1 order ≡ true
   pub placed : (x : Linearized) → IsOneOf x order → Placed (events (start s) cs) x
@@ -203,10 +202,9 @@ pub record Linearization (s : Sizes) (cs : List Call) : Type 0 where
   pub each : (o : Operated) → IsOneOf o (operationsOf (events (start s) cs)) → timesIn (o .begun) order ≡ cond (hasTakenEffect (Reached s cs) o) 1 0
   -- Real time: an operation answered before another begins stands before it.
   pub real-time : (x y : Linearized) (a : Ended) → IsOneOf x order → IsOneOf y order → x .operated .ended ≡ some a → a .call < y .operated .begun → StandsBefore x y order
-  -- From the empty map on, a plain map gives every answer. "No page" stands only for an insert of a missing key or a
+  -- From the map at the start on, a plain map gives every answer. "No page" stands only for an insert of a missing key or a
   -- delete of a present one, and leaves the map.
-  pub answers : answersInOrder emptyMap order ≡ true
+  pub answers : answersInOrder (mapStart s) order ≡ true
   -- The map at the end is what the chains of the file hold.
   pub file : Consistent (Reached s cs)
-  pub in-file : (k : ℕ) (x : Value) → mapAfter emptyMap order k ≡ some x → InFile (Reached s cs) file k x
-  pub in-map : (k : ℕ) (x : Value) → InFile (Reached s cs) file k x → mapAfter emptyMap order k ≡ some x
+  pub map-left : recordsIn (Reached s cs) file ≡ mapAfter (mapStart s) order

@@ -1,46 +1,43 @@
 -- The plain map (demand 2: "operations run singly answer as a plain set does"; document 02, change 1: "The file now behaves as a one-at-a-time map"): keys with their settings and nothing
 -- else, one operation after the other.
 -- Main definitions: PlainMap, emptyMap; plainAnswer and plainAfter (what an operation answers, and the map it leaves); answersAsMap and mapLeftBy (with "no page").
+-- What an operation leaves of each key is plain-setting of proofs/Meanings.antt.
 use mathlib.Core.Bool.{Bool, false, cond, not, _&&_, _||_}
-use mathlib.Core.Option.{Option, none, some}
+use mathlib.Core.List.{List, []}
 use Prim.Native.Nat.{ℕ}
 use lib.Dec.{eqb}
 use Rattle.model.specs.declared.Operation.{Operation}
 use Rattle.model.specs.declared.Operation.the-variants as Operation
 use Rattle.model.specs.declared.OperationAnswer.{OperationAnswer}
 use Rattle.model.specs.declared.OperationAnswer.the-variants as OperationAnswer
+use Rattle.model.specs.declared.Entry.{Entry}
 use Rattle.model.specs.Answers.{answerNumber, foundOrAbsent, sameAnswer}
-use Rattle.model.specs.Book.{Value, isIn, changedAt}
+use Rattle.model.specs.Entries.{entryOf, hasKey, settingIn, insertedInto, removedFrom}
 
--- A map: the setting of each key that is in.
+-- A map: a record for each key that is in, keys strictly ascending.
 abbrev pub PlainMap : Type 0
-PlainMap = ℕ → Option Value
+PlainMap = List Entry
 
 unfoldable pub emptyMap : PlainMap
-emptyMap k = none
+emptyMap = []
 
 -- What an operation with key k answers on a map.
 unfoldable pub plainAnswer : PlainMap → Operation → ℕ → OperationAnswer
-plainAnswer s Operation.Find k = foundOrAbsent (s k)
-plainAnswer s (Operation.Insert x) k = cond (isIn (s k)) OperationAnswer.Present OperationAnswer.Inserted
-plainAnswer s Operation.Delete k = cond (isIn (s k)) OperationAnswer.Deleted OperationAnswer.Absent
+plainAnswer s Operation.Find k = foundOrAbsent (settingIn k s)
+plainAnswer s (Operation.Insert x) k = cond (hasKey k s) OperationAnswer.Present OperationAnswer.Inserted
+plainAnswer s Operation.Delete k = cond (hasKey k s) OperationAnswer.Deleted OperationAnswer.Absent
 
--- "an insert of a present key keeps the old one": the setting that was there, or else x.
-unfoldable pub keptOr : Option Value → Value → Option Value
-keptOr none x = some x
-keptOr (some y) x = some y
-
--- The map that it leaves.
+-- The map that it leaves. "an insert of a present key keeps the old one".
 unfoldable pub plainAfter : PlainMap → Operation → ℕ → PlainMap
 plainAfter s Operation.Find k = s
-plainAfter s (Operation.Insert x) k = changedAt s k (keptOr (s k) x)
-plainAfter s Operation.Delete k = changedAt s k none
+plainAfter s (Operation.Insert x) k = cond (hasKey k s) s (insertedInto (entryOf k x) s)
+plainAfter s Operation.Delete k = removedFrom k s
 
 -- Where "no page" may stand: an insert of a missing key or a delete of a present one. It leaves the map.
 unfoldable pub mayLackPages : PlainMap → Operation → ℕ → Bool
 mayLackPages s Operation.Find k = false
-mayLackPages s (Operation.Insert x) k = not (isIn (s k))
-mayLackPages s Operation.Delete k = isIn (s k)
+mayLackPages s (Operation.Insert x) k = not (hasKey k s)
+mayLackPages s Operation.Delete k = hasKey k s
 
 unfoldable pub isNoPage : OperationAnswer → Bool
 isNoPage a = eqb (answerNumber a) (answerNumber OperationAnswer.NoPage)

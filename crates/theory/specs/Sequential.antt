@@ -6,7 +6,7 @@
 use mathlib.Core.Path.{_≡_}
 use mathlib.Core.Bool.{Bool, cond, not, _||_}
 use mathlib.Core.List.{List, [], _∷_, _++_}
-use Prim.Native.Nat.{ℕ, zero, suc, _+_, _-_, _<_}
+use Prim.Native.Nat.{ℕ, _+_, _-_, _<_}
 use lib.ListN.{getD, set, take, replicate}
 use lib.Dec.{ltb}
 use Rattle.model.specs.declared.Root.{Root}
@@ -19,8 +19,8 @@ use Rattle.model.specs.declared.Restructuring.the-variants as Restructuring
 use Rattle.model.specs.Addresses.{addressOf, chainCount, splitNext, splitLevel, mergeTarget, mergePartner, mergeLevel, splitBarred, mergeBarred}
 use Rattle.model.specs.Answers.{foundOrAbsent}
 use Rattle.model.specs.declared.Entry.{Entry}
-use Rattle.model.specs.Entries.{entryOf, hasKey, settingIn, insertedInto, removedFrom, joined, staying, going}
-use Rattle.model.specs.Chains.{Checked, damaged, sound, Chain, chainOf}
+use Rattle.model.specs.Entries.{entryOf, hasKey, settingIn, insertedInto, removedFrom, joined, joinedAll, staying, going}
+use Rattle.model.specs.Chains.{sound, Chain, chainOf, chainsFrom}
 use Rattle.model.specs.Filling.{pagesFor, fitsPrimary}
 use Rattle.model.specs.Steps.Rebuild.{splitOwed, mergeOwed}
 use Rattle.model.specs.Memory.{Memory}
@@ -139,24 +139,15 @@ performedOn r f Operation.Delete k = deleteIn r f k
 
 -- ---- The map that a file holds, and the file that format leaves
 
--- The setting of each key in its home chain.
-unfoldable pub mapIn : Root → File → PlainMap
-mapIn r f k = settingIn k (recordsAt f (homeIn r f k))
+-- The records of its chains, joined in the order of their keys.
+unfoldable pub mapIn : File → PlainMap
+mapIn f = joinedAll (f .chains)
 
 -- Level 0, next 0 and N empty chains.
 unfoldable pub startFile : Root → File
 startFile r = record { level = 0; next = 0; chains = replicate (r .originals) [] }
 
 -- ---- The file that a memory holds, read with the sizes of z
-
-unfoldable pub recordsRead : Checked Chain → List Entry
-recordsRead damaged = []
-recordsRead (sound c) = c .entries
-
--- The records of the n chains from chain c on.
-unfoldable pub chainsFrom : Root → List ℕ → ℕ → ℕ → List (List Entry)
-chainsFrom r ps zero c = []
-chainsFrom r ps (suc n) c = recordsRead (chainOf r ps c) ∷ chainsFrom r ps n (c + 1)
 
 unfoldable pub fileOf : Root → Memory → File
 fileOf z m =

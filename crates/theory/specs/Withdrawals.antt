@@ -18,12 +18,11 @@ use Rattle.model.specs.Withdraw.{isDecided}
 use Rattle.model.specs.Memory.{Memory, partyAt}
 use Rattle.model.specs.Calls.{beginCall, withdrawCall}
 use Rattle.model.specs.Runs.{Call, beginFor, stepFor, withdrawFor, Reply, toBegin, toStep, toWithdraw, Event, eventOf, events}
-use Rattle.model.specs.Book.{Value}
 use Rattle.model.specs.Progress.{underWay}
-use Rattle.model.specs.Consistency.{Consistent, InFile}
+use Rattle.model.specs.Consistency.{Consistent, recordsIn}
 use Rattle.theory.specs.NoPage.{isWriting, noneWrote, wroteAfter}
 use Rattle.theory.specs.Singly.{Wanted, stepsOf}
-use Rattle.theory.specs.Demands.{Sizes, start, Reached, bookReached}
+use Rattle.theory.specs.Demands.{Start, start, Reached, bookReached}
 
 -- ---- All is what it was before begin
 
@@ -35,15 +34,15 @@ abbrev pub callsWithdrawn : Wanted → ℕ → List Call
 callsWithdrawn x n = callsBegun x n ++ (withdrawFor (x .party) ∷ [])
 
 -- The memory when the withdraw is called, and the party's record there.
-abbrev pub atWithdraw : Sizes → List Call → Wanted → ℕ → Memory
+abbrev pub atWithdraw : Start → List Call → Wanted → ℕ → Memory
 atWithdraw s cs x n = Reached s (cs ++ callsBegun x n)
 
-abbrev pub recordThere : Sizes → List Call → Wanted → ℕ → Party
+abbrev pub recordThere : Start → List Call → Wanted → ℕ → Party
 recordThere s cs x n = partyAt (atWithdraw s cs x n .parties) (x .party)
 
 -- After a list of calls, an operation whose begin is accepted, and n steps of its party alone, those that wait among
 -- them.
-pub record Restored (s : Sizes) (cs : List Call) (x : Wanted) (n : ℕ) : Type 0 where
+pub record Restored (s : Start) (cs : List Call) (x : Wanted) (n : ℕ) : Type 0 where
   -- "In memory the index alone has changed, with no other party's call in between, all is what it was before begin":
   -- each lent word.
   pub restored : beginCall (Reached s cs) (x .party) (x .operation) (x .key) .answer ≡ BeginAnswer.Begun
@@ -67,11 +66,10 @@ abbrev pub writesOn : Memory → Call → Bool
 writesOn m c = let e = eventOf m c in writesMap (e .call) (e .number) (e .reply)
 
 -- After a list of calls, the call c leaves the map that the chains of the file hold.
-pub record MapStays (s : Sizes) (cs : List Call) (c : Call) : Type 0 where
+pub record MapStays (s : Start) (cs : List Call) (c : Call) : Type 0 where
   pub before : Consistent (Reached s cs)
   pub after : Consistent (Reached s (cs ++ (c ∷ [])))
-  pub kept : (k : ℕ) (x : Value) → InFile (Reached s cs) before k x → InFile (Reached s (cs ++ (c ∷ []))) after k x
-  pub no-more : (k : ℕ) (x : Value) → InFile (Reached s (cs ++ (c ∷ []))) after k x → InFile (Reached s cs) before k x
+  pub same : recordsIn (Reached s (cs ++ (c ∷ []))) after ≡ recordsIn (Reached s cs) before
 
 -- Whether an operation that a withdraw takes back has performed no step 11 since its begin; w says by party who has.
 unfoldable pub unwritten : (ℕ → Bool) → Call → Reply → Bool
@@ -89,6 +87,6 @@ withdrawnUnwritten w (e ∷ es) = unwritten w (e .call) (e .reply) && withdrawnU
 
 -- A call alters the map only where it performs step 11; so no withdraw does, and no call of an operation that is
 -- withdrawn later.
-pub record WithdrawalsRight (s : Sizes) (cs : List Call) : Type 0 where
+pub record WithdrawalsRight (s : Start) (cs : List Call) : Type 0 where
   pub map-stays : (c : Call) → writesOn (Reached s cs) c ≡ false → MapStays s cs c
   pub none-written : withdrawnUnwritten noneWrote (events (start s) cs) ≡ true

@@ -84,7 +84,7 @@ own-parts m b i q in-row p c ls o = record {
   extents = o .extents;
   locks = o .locks;
   pages = pages-row m b i q row-long p (o .frees);
-  book = record { same = λ k. rw (o .contents=) (i .book-ok .same k) };
+  book = record { ascends = rw (o .contents=) (i .book-ok .ascends); same = λ k. rw (o .contents=) (i .book-ok .same k) };
   self = o .self;
   others = keeps;
 }

@@ -227,7 +227,7 @@ module _ {m : Memory} {b : Book} {q k : ℕ} (now : Turn m b q k) {t : Scene} {p
       }
 
   pub book-touched : (c : Book) → c .contents ≡ b .contents → BookOk (t .root) (t .ghost) c
-  book-touched c e = record { same = λ k. rw (e, w .sizes .limits .originals=, w .live=, w .records=) (now .inv .book-ok .same k) }
+  book-touched c e = record { ascends = rw e (now .inv .book-ok .ascends); same = λ k. rw (e, w .sizes .limits .originals=, w .live=, w .records=) (now .inv .book-ok .same k) }
 
   -- The primary pages outside the live file, where the step left them.
   pub dead-kept : (c : ℕ) → isAmong c ws ≡ false → size (m .root .originals) (now .inv .ghost .live) ≤ c → c < m .root .primaries

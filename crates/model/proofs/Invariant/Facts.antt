@@ -15,9 +15,9 @@ use Rattle.model.specs.Records.{idle}
 use Rattle.model.specs.Memory.{Memory, partyAt}
 use Rattle.model.specs.declared.Root.{Root}
 use Rattle.model.specs.Entries.{hasKey}
-use Rattle.model.specs.Book.{Book, Entered, isIn, changedAt, noteFor, noteStep}
+use Rattle.model.specs.Book.{Book, Entered, changedAt, noteFor, noteStep}
 use Rattle.model.specs.Addresses.{countOfChains, addressOf}
-use Rattle.model.proofs.Laws.Entries.{has-setting}
+use Rattle.model.proofs.Laws.Entries.{has-same}
 use Rattle.model.proofs.Laws.Lists.{eqb-true, eqb-same, eqb-diff, Ord, lt, ge, ord, and-both, or-either}
 use Rattle.model.proofs.Invariant.Ghost.{Ghost, rootExtent, size}
 use Rattle.model.proofs.Invariant.Statement.{restructures, liveFor, uses, BookOk, Scene, NoPages, factsAt, Busy, PartyOk, resting, working, sceneOf, Inv}
@@ -78,8 +78,8 @@ still-noted b q none n x6 x10 x11 = refl
 still-noted b q (some e) n x6 x10 x11 = rw (eqb-diff n 6 x6, eqb-diff n 10 x10, eqb-diff n 11 x11) refl
 
 -- A key is in the book exactly where its live home chain has it.
-pub book-has : {r : Root} {g : Ghost} {b : Book} → BookOk r g b → (k : ℕ) → isIn (b .contents k) ≡ hasKey k (g .records (addressOf (r .originals) (g .live .level) (g .live .next) k))
-book-has {r} {g} {b} x k = ap isIn (x .same k) ∙ has-setting k (g .records (addressOf (r .originals) (g .live .level) (g .live .next) k))
+pub book-has : {r : Root} {g : Ghost} {b : Book} → BookOk r g b → (k : ℕ) → hasKey k (b .contents) ≡ hasKey k (g .records (addressOf (r .originals) (g .live .level) (g .live .next) k))
+book-has {r} {g} {b} x k = has-same k k (b .contents) (g .records (addressOf (r .originals) (g .live .level) (g .live .next) k)) (x .same k)
 
 -- A function changed at one number.
 pub changed-here : {A : Type 0} (f : ℕ → A) (k : ℕ) (a : A) (j : ℕ) → j ≡ k → changedAt f k a j ≡ a

@@ -166,8 +166,8 @@ module _ (n b p v q : ℕ) (fits : withinLimits (rootOfSizes n b p v q) ≡ true
   }
 
   start-book : BookOk root ghost emptyBook
-  unfolding settingIn emptyBook
-  start-book = record { same = λ k. refl }
+  unfolding ascending settingIn emptyBook
+  start-book = record { ascends = refl; same = λ k. refl }
 
   abbrev scene : Scene
   scene = sceneOf (formatted sizes) ghost emptyBook

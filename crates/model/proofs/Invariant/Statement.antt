@@ -103,8 +103,10 @@ pub record PagesOk (r : Root) (ps : List Party) (m : List ℕ) (g : Ghost) : Typ
 -- ---- The book's map
 
 pub record BookOk (r : Root) (g : Ghost) (b : Book) : Type 0 where
+  -- Its keys strictly ascend.
+  pub ascends : ascending (b .contents) ≡ true
   -- The book has of a key what its live home chain has.
-  pub same : (k : ℕ) → b .contents k ≡ settingIn k (g .records (addressOf (r .originals) (g .live .level) (g .live .next) k))
+  pub same : (k : ℕ) → settingIn k (b .contents) ≡ settingIn k (g .records (addressOf (r .originals) (g .live .level) (g .live .next) k))
 
 -- ---- The facts of a party
 

@@ -10,8 +10,7 @@ use native.Mathlib.Omega.{arith}
 use lib.Dec.{eqb}
 use Rattle.model.specs.declared.Entry.{Entry}
 use Rattle.model.specs.Entries.{keyOf, settingOf, entryOf, hasKey, settingIn, belowFirst, ascending}
-use Rattle.model.specs.Book.{isIn}
-use Rattle.model.proofs.Laws.Entries.{has-setting, setting-absent}
+use Rattle.model.proofs.Laws.Entries.{has-same, setting-absent}
 use Rattle.model.proofs.Laws.Lists.{Cmp, same, diff, cmp, and-both, left-or, or-either, eqb-true, eqb-same, eqb-diff, ltb-true, true≢false, false≢true}
 use Rattle.model.proofs.Laws.Joins.{below-absent, ascending-rest}
 
@@ -68,7 +67,7 @@ same-record x y s t = ap (λ (k : ℕ). entryOf k (settingOf x)) s ∙ ap (entry
 
 -- The same settings are the same keys.
 same-keys : (xs ys : List Entry) → ((k : ℕ) → settingIn k xs ≡ settingIn k ys) → (k : ℕ) → hasKey k xs ≡ hasKey k ys
-same-keys xs ys f k = sym (has-setting k xs) ∙ ap isIn (f k) ∙ has-setting k ys
+same-keys xs ys f k = has-same k k xs ys (f k)
 
 pub same-ascending : (xs ys : List Entry) → ascending xs ≡ true → ascending ys ≡ true → ((k : ℕ) → settingIn k xs ≡ settingIn k ys) → xs ≡ ys
 same-ascending [] [] a b f = refl

@@ -1,5 +1,6 @@
 -- What an insert or a delete makes of a chain's records: one key more or one key less, every other key with the setting it had, and the keys still ascend.
--- Main statements: has-inserted, length-inserted (the keys afterwards); setting-inserted, setting-removed (their settings); ascends-inserted, ascends-removed; ChangeMade and change-made (a change, beside what the book makes of its key).
+-- Main statements: has-inserted, length-inserted (the keys afterwards); setting-inserted, setting-removed (their settings); ascends-inserted, ascends-removed;
+-- settingAfter, setting-eleven (what the book's 11 makes of every key), ascends-eleven; ChangeMade and change-made (a change of a chain is the one that the book makes of its map).
 use mathlib.Core.Path.{_≡_, refl, sym, ap, subst, _∙_}
 use mathlib.Core.Bool.{Bool, true, false, cond, _||_, false≢true}
 use mathlib.Core.Logic.{_≢_}
@@ -14,10 +15,10 @@ use Rattle.model.specs.declared.Operation.the-variants as Operation
 use Rattle.model.specs.Answers.{operationNumber, settingGiven, answerNumber, answerOf}
 use Rattle.model.specs.declared.Entry.{Entry}
 use Rattle.model.specs.Entries.{keyOf, settingOf, entryOf, hasKey, settingIn, belowFirst, ascending, insertedInto, removedFrom}
-use Rattle.model.specs.Book.{Value, isIn, noteAtEleven, contentAtEleven}
+use Rattle.model.specs.Book.{Value, noteAtEleven, contentsAtEleven}
 use Rattle.model.specs.Steps.Rebuild.{Change, kept, changed, changeOf}
 use Rattle.model.specs.Steps.Dispatch.{hasStep}
-use Rattle.model.proofs.Laws.Entries.{has-setting, setting-absent}
+use Rattle.model.proofs.Laws.Entries.{isIn, has-setting, setting-absent}
 use Rattle.model.proofs.Laws.Lists.{cond-ind, Told, holds, fails, tell, Cmp, same, diff, cmp, Ord, lt, ge, ord, and-both, both-and, or-neither, eqb-same, eqb-diff, eqb-false, ltb-true, lt-ltb}
 
 -- ---- The keys afterwards
@@ -96,6 +97,14 @@ below-removed x k (e ∷ es) a b =
     lower k j [] h b = refl
     lower k j (e ∷ es) h b = let l = ltb-true j (keyOf e) b in lt-ltb k (keyOf e) (omega arith)
 
+-- A key that is not in is not taken out.
+pub removed-absent : (k : ℕ) (es : List Entry) → hasKey k es ≡ false → removedFrom k es ≡ es
+unfolding hasKey removedFrom
+removed-absent k [] n = refl
+removed-absent k (e ∷ es) n =
+    let o = or-neither (eqb (keyOf e) k) (hasKey k es) n in
+    rw (o .0, removed-absent k es (o .1)) refl
+
 pub ascends-inserted : (x : Entry) (es : List Entry) → ascending es ≡ true → hasKey (keyOf x) es ≡ false → ascending (insertedInto x es) ≡ true
 unfolding ascending belowFirst insertedInto hasKey
 ascends-inserted x [] a n = refl
@@ -120,20 +129,67 @@ ascends-removed x (e ∷ es) a =
     cond-ind (λ (l : List Entry). ascending l ≡ true) (eqb (keyOf e) x) (removedFrom x es) (e ∷ removedFrom x es)
     (λ _. ih) (λ _. both-and (below-removed x (keyOf e) es (f .1) (f .0)) ih)
 
--- ---- A change, and the book beside it
+-- ---- The book's map at 11
 
--- A change of key k from the records es to the records after, with this answer: operation o's own answer, which the book notes; the key has afterwards what the book then has of it, and every
--- other key what it had.
+-- What a key has after an operation on it, from what it had: an insert adds its setting, or keeps the one that is there.
+unfoldable pub settingAfter : Operation → Option Value → Option Value
+settingAfter Operation.Find x = x
+settingAfter (Operation.Insert y) none = some y
+settingAfter (Operation.Insert y) (some x) = some x
+settingAfter Operation.Delete x = none
+
+-- The book's 11, key by key: its key has what settingAfter says, every other key what it had.
+pub setting-eleven : (o : Operation) (k : ℕ) (es : List Entry) (j : ℕ) → settingIn j (contentsAtEleven o k es) ≡ cond (eqb j k) (settingAfter o (settingIn k es)) (settingIn j es)
+unfolding contentsAtEleven settingAfter
+setting-eleven Operation.Find k es j = go (cmp j k)
+  where
+    go : Cmp j k → settingIn j es ≡ cond (eqb j k) (settingIn k es) (settingIn j es)
+    go (same i) = rw (eqb-same j k i) (ap (λ (l : ℕ). settingIn l es) i)
+    go (diff n) = rw (eqb-diff j k n)
+setting-eleven (Operation.Insert x) k es j =
+    cond-ind (λ (l : List Entry). settingIn j l ≡ cond (eqb j k) (settingAfter (Operation.Insert x) (settingIn k es)) (settingIn j es)) (hasKey k es) es (insertedInto (entryOf k x) es)
+    (λ h. there (cmp j k) (settingIn k es) refl (has-setting k es ∙ h)) (λ h. setting-inserted (entryOf k x) j es h ∙ anew (cmp j k) h)
+  where
+    there : Cmp j k → (t : Option Value) → settingIn k es ≡ t → isIn (settingIn k es) ≡ true → settingIn j es ≡ cond (eqb j k) (settingAfter (Operation.Insert x) (settingIn k es)) (settingIn j es)
+    there (same i) none e h = absurd (false≢true (rw e at h))
+    there (same i) (some y) e h = rw (eqb-same j k i, e) (ap (λ (l : ℕ). settingIn l es) i ∙ e)
+    there (diff n) t e h = rw (eqb-diff j k n)
+
+    anew : Cmp j k → hasKey k es ≡ false → cond (eqb k j) (some x) (settingIn j es) ≡ cond (eqb j k) (settingAfter (Operation.Insert x) (settingIn k es)) (settingIn j es)
+    anew (same i) h = rw (eqb-same j k i, eqb-same k j (sym i), setting-absent k es h)
+    anew (diff n) h = rw (eqb-diff j k n, eqb-diff k j (λ s. n (sym s)))
+setting-eleven Operation.Delete k es j = setting-removed k j es ∙ there (cmp j k)
+  where
+    there : Cmp j k → cond (eqb k j) none (settingIn j es) ≡ cond (eqb j k) none (settingIn j es)
+    there (same i) = rw (eqb-same j k i, eqb-same k j (sym i))
+    there (diff n) = rw (eqb-diff j k n, eqb-diff k j (λ s. n (sym s)))
+
+pub ascends-eleven : (o : Operation) (k : ℕ) (es : List Entry) → ascending es ≡ true → ascending (contentsAtEleven o k es) ≡ true
+unfolding contentsAtEleven
+ascends-eleven Operation.Find k es a = a
+ascends-eleven (Operation.Insert x) k es a =
+    cond-ind (λ (l : List Entry). ascending l ≡ true) (hasKey k es) es (insertedInto (entryOf k x) es) (λ _. a) (λ h. ascends-inserted (entryOf k x) es a h)
+ascends-eleven Operation.Delete k es a = ascends-removed k es a
+
+-- ---- A change of a chain, and the book beside it
+
+-- A change of key k from the records es to the records after, with this answer: operation o's own answer, which the book notes; and the records change as the book's map does.
 pub record ChangeMade (o : Operation) (k : ℕ) (es : List Entry) (answer : ℕ) (after : List Entry) : Type 0 where
   pub made : answer ≡ cond (eqb (operationNumber o) 2) 1 3
   pub noted : noteAtEleven o (hasKey k es) ≡ answerOf answer
-  pub ascends : ascending es ≡ true → ascending after ≡ true
-  pub settings : (j : ℕ) → settingIn j after ≡ cond (eqb j k) (contentAtEleven o (settingIn k es)) (settingIn j es)
+  pub records : after ≡ contentsAtEleven o k es
 
--- A key other than k is in where it was.
-pub keys-kept : {o : Operation} {k : ℕ} {es : List Entry} {answer : ℕ} {after : List Entry} → ChangeMade o k es answer after → (j : ℕ) → j ≢ k → hasKey j after ≡ hasKey j es
-keys-kept {o} {k} {es} {answer} {after} c j n =
-    sym (has-setting j after) ∙ ap isIn (c .settings j ∙ ap (λ (t : Bool). cond t (contentAtEleven o (settingIn k es)) (settingIn j es)) (eqb-diff j k n)) ∙ has-setting j es
+module _ {o : Operation} {k : ℕ} {es : List Entry} {answer : ℕ} {after : List Entry} (c : ChangeMade o k es answer after) where
+  pub change-ascends : ascending es ≡ true → ascending after ≡ true
+  change-ascends a = rw (c .records) (ascends-eleven o k es a)
+
+  pub change-settings : (j : ℕ) → settingIn j after ≡ cond (eqb j k) (settingAfter o (settingIn k es)) (settingIn j es)
+  change-settings j = ap (settingIn j) (c .records) ∙ setting-eleven o k es j
+
+  -- A key other than k is in where it was.
+  pub keys-kept : (j : ℕ) → j ≢ k → hasKey j after ≡ hasKey j es
+  keys-kept j n =
+      sym (has-setting j after) ∙ ap isIn (change-settings j ∙ ap (λ (t : Bool). cond t (settingAfter o (settingIn k es)) (settingIn j es)) (eqb-diff j k n)) ∙ has-setting j es
 
 -- What a change says of its answer and records.
 answerIn : Change → ℕ
@@ -151,47 +207,26 @@ isChanged (changed a es) = true
 module _ (k x : ℕ) (es : List Entry) (answer : ℕ) (after : List Entry) where
   -- An insert changes a chain without its key, a delete one with it.
   insert-made : changeOf 2 k x es ≡ changed answer after → ChangeMade (Operation.Insert x) k es answer after
-  unfolding changeOf answerNumber answerOf operationNumber noteAtEleven contentAtEleven isChanged answerIn recordsIn
+  unfolding changeOf answerNumber answerOf operationNumber noteAtEleven contentsAtEleven isChanged answerIn recordsIn
   insert-made e = go (tell (hasKey k es))
     where
-      there : (j : ℕ) → Cmp j k → hasKey k es ≡ false
-          → cond (eqb k j) (some x) (settingIn j es) ≡ cond (eqb j k) (contentAtEleven (Operation.Insert x) (settingIn k es)) (settingIn j es)
-      there j (same i) h = rw (eqb-same j k i, eqb-same k j (sym i), setting-absent k es h)
-      there j (diff n) h = rw (eqb-diff j k n, eqb-diff k j (λ s. n (sym s)))
-
       go : Told (hasKey k es) → ChangeMade (Operation.Insert x) k es answer after
       go (holds h) = absurd (false≢true (ap isChanged (rw h at e)))
       go (fails h) =
           let c : changed 1 (insertedInto (entryOf k x) es) ≡ changed answer after = rw h at e in
           let a : answer ≡ 1 = sym (ap answerIn c) in
-          let l : after ≡ insertedInto (entryOf k x) es = sym (ap recordsIn c) in
-          record {
-            made = a;
-            noted = rw (h, a) refl;
-            ascends = λ up. rw l (ascends-inserted (entryOf k x) es up h);
-            settings = λ j. rw l (setting-inserted (entryOf k x) j es h ∙ there j (cmp j k) h);
-          }
+          record { made = a; noted = rw (h, a) refl; records = rw h (sym (ap recordsIn c)) }
 
   delete-made : changeOf 3 k x es ≡ changed answer after → ChangeMade Operation.Delete k es answer after
-  unfolding changeOf answerNumber answerOf operationNumber noteAtEleven contentAtEleven isChanged answerIn recordsIn
+  unfolding changeOf answerNumber answerOf operationNumber noteAtEleven contentsAtEleven isChanged answerIn recordsIn
   delete-made e = go (tell (hasKey k es))
     where
-      there : (j : ℕ) → Cmp j k → cond (eqb k j) none (settingIn j es) ≡ cond (eqb j k) none (settingIn j es)
-      there j (same i) = rw (eqb-same j k i, eqb-same k j (sym i))
-      there j (diff n) = rw (eqb-diff j k n, eqb-diff k j (λ s. n (sym s)))
-
       go : Told (hasKey k es) → ChangeMade Operation.Delete k es answer after
       go (fails h) = absurd (false≢true (ap isChanged (rw h at e)))
       go (holds h) =
           let c : changed 3 (removedFrom k es) ≡ changed answer after = rw h at e in
           let a : answer ≡ 3 = sym (ap answerIn c) in
-          let l : after ≡ removedFrom k es = sym (ap recordsIn c) in
-          record {
-            made = a;
-            noted = rw (h, a) refl;
-            ascends = λ up. rw l (ascends-removed k es up);
-            settings = λ j. rw l (setting-removed k j es ∙ there j (cmp j k));
-          }
+          record { made = a; noted = rw (h, a) refl; records = sym (ap recordsIn c) }
 
   -- An operation that has step 11 is an insert or a delete.
   pub change-made : (o : Operation) (n : ℕ) → operationNumber o ≡ n → settingGiven o ≡ x → hasStep n 11 ≡ true → changeOf n k x es ≡ changed answer after → ChangeMade o k es answer after

@@ -63,7 +63,7 @@ needed-exact b m some = go ((m + (b - 1)) / b) (div-add-mod' (m + (b - 1)) b) (m
     go zero e l = record { enough = omega arith; none-empty = omega arith }
     go (suc q) e l = let s : suc q - 1 ≡ q = omega arith in rw s record { enough = omega arith; none-empty = omega arith }
 
-exact-less : (b n k : ℕ) → Exact b n (suc k) → Exact b (n - b) k
+pub exact-less : (b n k : ℕ) → Exact b n (suc k) → Exact b (n - b) k
 exact-less b n k x = record { enough = omega arith; none-empty = omega arith }
 
 -- ---- Records that fit the primary page

@@ -1,5 +1,5 @@
 -- What a walk finds: the pages that a link leads to are linked and sound, no more than the walk may follow, and none stands twice.
--- Main statements: walked-chained (a walk without damage); Reads and chain-reads (a chain looked through whole); linked-sound, linked-overflow, linked-distinct (of pages that stand linked);
+-- Main statements: walked-chained (a walk without damage); Reads and chain-reads (a chain looked through whole), read-ascends; linked-sound, linked-overflow, linked-distinct (of pages that stand linked);
 -- same-beside (a page that is none of them is written); length-entriesOn (how many records pages hold at most).
 use mathlib.Core.Path.{_≡_, refl, sym, ap, _∙_}
 use mathlib.Core.Logic.{_≢_}
@@ -13,7 +13,7 @@ use Rattle.model.specs.declared.Root.{Root}
 use Rattle.model.specs.Sizes.{pageWords}
 use Rattle.model.specs.Entries.{ascending}
 use Rattle.model.specs.Pages.{pageOf, withPage, countOf, linkOf, entriesOf, linkSound, pageSound, primaryPage, linkToFirst}
-use Rattle.model.specs.Chains.{Checked, damaged, sound, soundIf, andThen, overflowFrom, listFrom, entriesOn, Chain, readChain, ascendingChain, chainOf}
+use Rattle.model.specs.Chains.{Checked, damaged, sound, soundIf, andThen, overflowFrom, listFrom, entriesOn, Chain, readChain, ascendingChain, chainOf, recordsRead}
 use Rattle.model.proofs.Laws.Lists.{All, eqb-true, eqb-false}
 use Rattle.model.proofs.Laws.Distinct.{Outside, Distinct}
 use Rattle.model.proofs.Laws.Pages.{Has, page-other}
@@ -76,6 +76,15 @@ chain-reads r ps c d e = go (pageSound r (pageOf ps c)) (listFrom r ps (linkOf (
     go true damaged eb ex e = absurd (let z : _≡_ {A = ℕ} 0 1 = cc in omega arith)
     go true (sound xs) eb ex e = whole xs (sym eb) (sym ex) (ascending (readChain ps c xs .entries)) refl e
     go false x eb ex e = absurd (let z : _≡_ {A = ℕ} 0 1 = cc in omega arith)
+
+-- Whatever was read ascends.
+pub read-ascends : (r : Root) (ps : List ℕ) (c : ℕ) → ascending (recordsRead (chainOf r ps c)) ≡ true
+unfolding recordsRead ascending
+read-ascends r ps c = go (chainOf r ps c) refl
+  where
+    go : (x : Checked Chain) → chainOf r ps c ≡ x → ascending (recordsRead x) ≡ true
+    go damaged e = refl
+    go (sound d) e = chain-reads r ps c d e .ascends
 
 -- ---- Pages that stand linked
 

@@ -21,7 +21,7 @@ use Rattle.model.specs.Chains.{Chain}
 use Rattle.model.specs.Filling.{pagesFor}
 use Rattle.model.specs.FreeList.{tooFew, rootAfterTaking}
 use Rattle.model.specs.Memory.{Memory, viewOf}
-use Rattle.model.specs.Book.{Book, Entered, isIn, changedAt, withEntry, noted, noteAtTen, noteStep, noteFor}
+use Rattle.model.specs.Book.{Book, Entered, changedAt, withEntry, noted, noteAtTen, noteStep, noteFor}
 use Rattle.model.specs.LockRequests.{modeOf}
 use Rattle.model.specs.Steps.Rebuild.{Change, kept, changed, changeOf, owedBy, changesNothing, changing, rebuilt, rebuildWith, step10}
 use Rattle.model.specs.Steps.Write.{isChange}
@@ -76,9 +76,9 @@ module _ {m : Memory} {b : Book} {q : ℕ} (t : Turn m b q 10) where
   -- ---- The book's note
 
   -- The key is in the map where it is on the chain, its home.
-  there-is : isIn (b .contents (entry .key)) ≡ hasKey (me t .key) records
+  there-is : hasKey (entry .key) (b .contents) ≡ hasKey (me t .key) records
   there-is =
-      ap (λ (k : ℕ). isIn (b .contents k)) (t .busy .same-key) ∙ book-has (t .inv .book-ok) (me t .key)
+      ap (λ (k : ℕ). hasKey k (b .contents)) (t .busy .same-key) ∙ book-has (t .inv .book-ok) (me t .key)
       ∙ ap (λ (c : ℕ). hasKey (me t .key) (t .inv .ghost .records c))
       (home-is (r .originals) (t .inv .ghost .live) (me t .chain) (me t .lev) (me t .key) (t .inv .limits .some-original) (omega (arith, t .inv .extents-ok .live-next)) (at-home .heads) (at-home .exact))
 

@@ -33,7 +33,7 @@ use Rattle.model.specs.Steps.Dispatch.{hasStep, stepTable, stepOf}
 use Rattle.model.specs.Memory.{Memory, partyAt, viewOf, afterStep}
 use Rattle.model.specs.Calls.{Called, called, stepped, stepCall, withBegun, beginCall, withdrawCall}
 use Rattle.model.specs.Runs.{Call, beginFor, stepFor, withdrawFor, callerOf, toBegin, toWithdraw, replyTo, afterCall, eventOf, events, finalMemory}
-use Rattle.model.specs.Book.{Book, Entered, isIn, noted, noteAtEleven, withEntry, enter, noteFor, afterReply, afterBegin, afterWithdraw, bookAfter, bookAtEnd, agreesWith}
+use Rattle.model.specs.Book.{Book, Entered, noted, noteAtEleven, withEntry, enter, noteFor, afterReply, afterBegin, afterWithdraw, bookAfter, bookAtEnd, agreesWith}
 use Rattle.theory.specs.Linearization.{entering, endIn, endTo, stepMarks, marks}
 use Rattle.model.specs.Withdraw.{isDecided}
 use Rattle.model.proofs.Laws.Lists.{Ord, lt, ge, ord}
@@ -129,12 +129,12 @@ module _ (m : Memory) (b : Book) (i : Inv m b) (q : ℕ) (in-row : q < m .root .
 
   -- An 11 makes a change: the note is inserted or deleted.
   eleven-made : number ≡ 11 → out .answer ≡ StepAnswer.Moved → out .after .number ≡ q → out .after .party .step ≡ 12
-      → isChange (answerNumber (noteAtEleven (e .operation) (isIn (b .contents (e .key))))) ≡ true
+      → isChange (answerNumber (noteAtEleven (e .operation) (hasKey (e .key) (b .contents)))) ≡ true
   unfolding afterReply
   eleven-made k goes number= step= = written (at-twelve .facts)
     where
       a : OperationAnswer
-      a = noteAtEleven (e .operation) (isIn (b .contents (e .key)))
+      a = noteAtEleven (e .operation) (hasKey (e .key) (b .contents))
 
       was : At 11 (sceneOf m (i .ghost) b) q (partyAt (m .parties) q)
       was = facts-at 10 (sceneOf m (i .ghost) b) q (partyAt (m .parties) q) k (i .parties-ok q in-row)

@@ -25,7 +25,7 @@ use Rattle.model.specs.Calls.{beginCall, stepCall, stepped, withBegun, withdraw
 use Rattle.model.specs.Claims.{claims}
 use Rattle.model.specs.Withdraw.{builtPages, isDecided, takenBack, takenBackSoundly, withdrawn}
 use Rattle.model.specs.Chains.{ascendingChain, chainOf, entriesOn, listFrom, overflowFrom, readChain}
-use Rattle.model.specs.Entries.{ascending, belowFirst, hasKey, insertedInto, isEmpty, removedFrom, settingIn}
+use Rattle.model.specs.Entries.{entryOf, ascending, belowFirst, hasKey, insertedInto, isEmpty, removedFrom, settingIn}
 use Rattle.model.specs.Filling.{filled, overflowNeeded, overflowWritten, pagesFor, primaryOf}
 use Rattle.model.specs.FreeList.{alsoTaken, isAmong, pagesTaken, takenFrom, tooFew, rootAfterTaking, givenBack, pagesGivenBack, roomToGiveBack}
 use Rattle.model.specs.LockWords.{fieldOf, grantedWord, holds, permits, releasedWord, withField}
@@ -43,8 +43,8 @@ use Rattle.model.specs.Steps.Dispatch.{hasStep, stepOf, stepTable}
 use Rattle.model.specs.Steps.Find.{answered, lookedOn, step09}
 use Rattle.model.specs.Steps.Chase.{arrived, chase, chaseOf, chasing, step06}
 use Rattle.model.specs.Steps.Locate.{located, step01, step02, step03, step04, step05}
-use Rattle.theory.specs.PlainMap.{emptyMap, plainAnswer, keptOr, plainAfter, mayLackPages, isNoPage, answersAsMap, mapLeftBy}
-use Rattle.theory.specs.Demands.{Sizes, start, Reached}
+use Rattle.theory.specs.PlainMap.{emptyMap, plainAnswer, plainAfter, mayLackPages, isNoPage, answersAsMap, mapLeftBy}
+use Rattle.theory.specs.Demands.{Sizes, sizesGiven}
 use Rattle.theory.specs.Linearization.{Operated, Ended, endIn, endTo, orLater, firstEnd, entering, operationsFrom, operationsOf, hasTakenEffect, Linearized, ascendingFrom, timesIn, answersInOrder, mapAfter}
 
 -- ---- The run
@@ -104,7 +104,7 @@ opened : ℕ
 unfolding stirredLeft stirredRight nextWord outputs table rowOf byteOf tableWord mixed addressFor chainCount hashOf levelFor span answerNumber operationNumber settingGiven foundOrAbsent changedAt beginCall stepCall stepped withBegun ascendingChain chainOf entriesOn listFrom overflowFrom readChain ascending belowFirst hasKey settingIn insertedInto isEmpty removedFrom filled overflowNeeded overflowWritten pagesFor primaryOf alsoTaken isAmong pagesTaken takenFrom tooFew fieldOf grantedWord holds permits releasedWord withField formatted formattedPages formattedRoot freePages givenUp heldAll isGranted isHeld request withHold withoutHold countOf recordsIn entriesOf wordsOf filledPage freePage levelOf linkOf linkSound linkToFirst namesOverflow pageOf pageSound withPage zeroPage beginRows firstCause lengthsFit partySound recordSound rootSound stepRows afterCall eventOf events finalMemory replyTo withinLimits changeOf changesNothing changing isChange mergeOwed owedBy primaryWritten rebuildWith rebuilt rootAfterTaking splitOwed step10 step11 hasStep stepOf stepTable answered lookedOn step09 arrived chase chaseOf chasing located modeOf release step01 step02 step03 step04 step05 step06 hasTakenEffect isDecided claims builtPages takenBack takenBackSoundly withdrawn withdrawRows withdrawnFrom withdrawCall givenBack pagesGivenBack roomToGiveBack
 opened = 0
 
-its-events : events (start sizes) calls ≡ transcript
+its-events : events ((formatted (sizesGiven sizes))) calls ≡ transcript
 unfolding opened
 its-events = refl
 
@@ -132,7 +132,7 @@ its-operations = refl
 -- All but the delete have taken effect.
 abbrev effectsOf : List Operated → List Bool
 effectsOf [] = []
-effectsOf (o ∷ os) = hasTakenEffect (Reached sizes calls) o ∷ effectsOf os
+effectsOf (o ∷ os) = hasTakenEffect (finalMemory (formatted (sizesGiven sizes)) calls) o ∷ effectsOf os
 
 its-effects : effectsOf (insert-of-zero ∷ first-find ∷ second-find ∷ delete-of-one ∷ []) ≡ true ∷ true ∷ true ∷ false ∷ []
 unfolding opened
@@ -148,18 +148,18 @@ order =
     ∷ []
 
 its-order : (ascendingFrom 1 order && answersInOrder emptyMap order) ≡ true
-unfolding ascendingFrom answersInOrder emptyMap answersAsMap mapLeftBy plainAnswer plainAfter keptOr mayLackPages isNoPage sameAnswer answerNumber settingFound foundOrAbsent changedAt
+unfolding ascendingFrom answersInOrder emptyMap answersAsMap mapLeftBy plainAnswer plainAfter hasKey settingIn insertedInto mayLackPages isNoPage sameAnswer answerNumber settingFound foundOrAbsent
 its-order = refl
 
--- The map that it leaves has 5 with 9.
-its-map : mapAfter emptyMap order 5 ≡ some 9
-unfolding mapAfter emptyMap mapLeftBy plainAfter keptOr isNoPage answerNumber changedAt
+-- The map that it leaves has 5 with 9, and nothing else.
+its-map : mapAfter emptyMap order ≡ entryOf 5 9 ∷ []
+unfolding mapAfter emptyMap mapLeftBy plainAfter hasKey insertedInto isNoPage answerNumber
 its-map = refl
 
 -- With another setting found, no plain map gives these answers.
 other-setting : answersInOrder emptyMap
     (record { operated = insert-of-zero; point = 16; answer = OperationAnswer.Inserted } ∷ record { operated = second-find; point = 24; answer = OperationAnswer.Found 8 } ∷ []) ≡ false
-unfolding answersInOrder emptyMap answersAsMap mapLeftBy plainAnswer plainAfter keptOr mayLackPages isNoPage sameAnswer answerNumber settingFound foundOrAbsent changedAt
+unfolding answersInOrder emptyMap answersAsMap mapLeftBy plainAnswer plainAfter hasKey settingIn insertedInto mayLackPages isNoPage sameAnswer answerNumber settingFound foundOrAbsent
 other-setting = refl
 
 abbrev timesOf : List Operated → List ℕ
@@ -172,5 +172,5 @@ its-times = refl
 
 -- In the order of the begins no plain map gives these answers.
 order-of-begins : answersInOrder emptyMap (record { operated = insert-of-zero; point = 1; answer = OperationAnswer.Inserted } ∷ record { operated = first-find; point = 2; answer = OperationAnswer.Absent } ∷ []) ≡ false
-unfolding answersInOrder emptyMap answersAsMap mapLeftBy plainAnswer plainAfter keptOr mayLackPages isNoPage sameAnswer answerNumber settingFound foundOrAbsent changedAt
+unfolding answersInOrder emptyMap answersAsMap mapLeftBy plainAnswer plainAfter hasKey settingIn insertedInto mayLackPages isNoPage sameAnswer answerNumber settingFound foundOrAbsent
 order-of-begins = refl

@@ -13,14 +13,15 @@ use Rattle.model.specs.declared.Operation.{Operation}
 use Rattle.model.specs.declared.Operation.the-variants as Operation
 use Rattle.model.specs.declared.OperationAnswer.{OperationAnswer}
 use Rattle.model.specs.Answers.{answerNumber, foundOrAbsent, sameAnswer, settingFound}
-use Rattle.model.specs.Book.{Value, Entered, Book, isIn, changedAt, withEntry, withContent, noted, noteAtSix, noteAtTen, noteAtEleven, contentAtEleven, notedIfFind, noteStep, noteFor, isNote}
-use Rattle.theory.specs.PlainMap.{PlainMap, plainAnswer, keptOr, plainAfter, mayLackPages, isNoPage, answersAsMap, mapLeftBy}
+use Rattle.model.specs.Entries.{hasKey, settingIn}
+use Rattle.model.specs.Book.{Value, Entered, Book, changedAt, withEntry, withContents, noted, noteAtSix, noteAtTen, noteAtEleven, contentsAtEleven, notedIfFind, noteStep, noteFor, isNote}
+use Rattle.theory.specs.PlainMap.{PlainMap, plainAnswer, plainAfter, mayLackPages, isNoPage, answersAsMap, mapLeftBy}
 use Rattle.model.specs.Steps.Write.{isChange}
 use Rattle.theory.specs.Linearization.{decisiveStep}
 use Rattle.model.proofs.Laws.Lists.{cond-ind, eqb-diff, left-or}
 use Rattle.model.proofs.Invariant.Facts.{changed-here, changed-elsewhere}
 use Rattle.model.proofs.Laws.Answers.{same-answer, answers-same}
-use Rattle.theory.proofs.PlainMaps.{changed-same, out-none, kept-there, content-kept}
+use Rattle.model.proofs.Laws.Changes.{removed-absent}
 
 -- The book's map.
 abbrev pub mapOf : Book → PlainMap
@@ -28,9 +29,9 @@ mapOf b = b .contents
 
 -- ---- 6 of a find
 
-pub six-plain : (s : PlainMap) (k : ℕ) → answersAsMap s Operation.Find k (foundOrAbsent (s k)) ≡ true
+pub six-plain : (s : PlainMap) (k : ℕ) → answersAsMap s Operation.Find k (foundOrAbsent (settingIn k s)) ≡ true
 unfolding answersAsMap plainAnswer
-six-plain s k = left-or _ (same-answer (foundOrAbsent (s k)))
+six-plain s k = left-or _ (same-answer (foundOrAbsent (settingIn k s)))
 
 pub six-left : (s : PlainMap) (k : ℕ) (x : Option Value) → mapLeftBy s Operation.Find k (foundOrAbsent x) ≡ s
 unfolding mapLeftBy plainAfter isNoPage answerNumber foundOrAbsent
@@ -39,7 +40,7 @@ six-left s k (some x) = refl
 
 -- ---- 10
 
-pub ten-plain : (s : PlainMap) (o : Operation) (k : ℕ) (t : Bool) → o ≢ Operation.Find → isIn (s k) ≡ t → answersAsMap s o k (noteAtTen o t) ≡ true
+pub ten-plain : (s : PlainMap) (o : Operation) (k : ℕ) (t : Bool) → o ≢ Operation.Find → hasKey k s ≡ t → answersAsMap s o k (noteAtTen o t) ≡ true
 unfolding answersAsMap plainAnswer mayLackPages isNoPage noteAtTen sameAnswer answerNumber settingFound
 ten-plain s Operation.Find k t n h = absurd (n refl)
 ten-plain s (Operation.Insert x) k true n h = rw h refl
@@ -47,13 +48,13 @@ ten-plain s (Operation.Insert x) k false n h = rw h refl
 ten-plain s Operation.Delete k true n h = rw h refl
 ten-plain s Operation.Delete k false n h = rw h refl
 
-pub ten-left : (s : PlainMap) (o : Operation) (k : ℕ) (t : Bool) → o ≢ Operation.Find → isIn (s k) ≡ t → (j : ℕ) → s j ≡ mapLeftBy s o k (noteAtTen o t) j
+pub ten-left : (s : PlainMap) (o : Operation) (k : ℕ) (t : Bool) → o ≢ Operation.Find → hasKey k s ≡ t → s ≡ mapLeftBy s o k (noteAtTen o t)
 unfolding mapLeftBy plainAfter isNoPage noteAtTen answerNumber
-ten-left s Operation.Find k t n h j = absurd (n refl)
-ten-left s (Operation.Insert x) k true n h j = sym (changed-same s k (keptOr (s k) x) (sym (kept-there (s k) x h)) j)
-ten-left s (Operation.Insert x) k false n h j = refl
-ten-left s Operation.Delete k true n h j = refl
-ten-left s Operation.Delete k false n h j = sym (changed-same s k none (out-none (s k) h) j)
+ten-left s Operation.Find k t n h = absurd (n refl)
+ten-left s (Operation.Insert x) k true n h = rw h refl
+ten-left s (Operation.Insert x) k false n h = refl
+ten-left s Operation.Delete k true n h = refl
+ten-left s Operation.Delete k false n h = sym (removed-absent k s h)
 
 pub ten-decides : (o : Operation) (t : Bool) → o ≢ Operation.Find → decisiveStep o (noteAtTen o t) ≡ 10
 unfolding decisiveStep noteAtTen isChange answerNumber
@@ -65,7 +66,7 @@ ten-decides Operation.Delete false n = refl
 
 -- ---- 11
 
-pub eleven-plain : (s : PlainMap) (o : Operation) (k : ℕ) (t : Bool) → o ≢ Operation.Find → isIn (s k) ≡ t → answersAsMap s o k (noteAtEleven o t) ≡ true
+pub eleven-plain : (s : PlainMap) (o : Operation) (k : ℕ) (t : Bool) → o ≢ Operation.Find → hasKey k s ≡ t → answersAsMap s o k (noteAtEleven o t) ≡ true
 unfolding answersAsMap plainAnswer noteAtEleven sameAnswer answerNumber settingFound
 eleven-plain s Operation.Find k t n h = absurd (n refl)
 eleven-plain s (Operation.Insert x) k true n h = rw h refl
@@ -73,14 +74,14 @@ eleven-plain s (Operation.Insert x) k false n h = rw h refl
 eleven-plain s Operation.Delete k true n h = rw h refl
 eleven-plain s Operation.Delete k false n h = rw h refl
 
--- What the book has after 11 is what a plain map has: an insert's setting or the one that was there, nothing of a delete's key.
-pub eleven-left : (s : PlainMap) (k : ℕ) (o : Operation) (t : Bool) → o ≢ Operation.Find → (j : ℕ) → changedAt s k (contentAtEleven o (s k)) j ≡ mapLeftBy s o k (noteAtEleven o t) j
-unfolding mapLeftBy plainAfter isNoPage noteAtEleven contentAtEleven answerNumber
-eleven-left s k Operation.Find t n j = absurd (n refl)
-eleven-left s k (Operation.Insert x) true n j = ap (λ (y : Option Value). changedAt s k y j) (content-kept (s k) x)
-eleven-left s k (Operation.Insert x) false n j = ap (λ (y : Option Value). changedAt s k y j) (content-kept (s k) x)
-eleven-left s k Operation.Delete true n j = refl
-eleven-left s k Operation.Delete false n j = refl
+-- What the book has after 11 is what a plain map has.
+pub eleven-left : (s : PlainMap) (k : ℕ) (o : Operation) (t : Bool) → o ≢ Operation.Find → contentsAtEleven o k s ≡ mapLeftBy s o k (noteAtEleven o t)
+unfolding mapLeftBy plainAfter isNoPage noteAtEleven contentsAtEleven answerNumber
+eleven-left s k Operation.Find t n = absurd (n refl)
+eleven-left s k (Operation.Insert x) true n = refl
+eleven-left s k (Operation.Insert x) false n = refl
+eleven-left s k Operation.Delete true n = refl
+eleven-left s k Operation.Delete false n = refl
 
 -- An insert's or delete's note at 11, where it is a change made, is decided there.
 pub eleven-decides : (o : Operation) (a : OperationAnswer) → o ≢ Operation.Find → isChange (answerNumber a) ≡ true → decisiveStep o a ≡ 11
@@ -149,11 +150,11 @@ module _ (b : Book) (q : ℕ) where
     noted-own n = subst (λ (x : Option Entered). Kind (noteFor b q x n .entries q)) (sym entry) (step-kind n)
 
     abbrev there : Bool
-    there = isIn (b .contents (e .key))
+    there = hasKey (e .key) (b .contents)
 
     -- The books after 6 of a find, 10 and 11.
     pub after-six : e .operation ≡ Operation.Find
-        → noteFor b q (b .entries q) 6 ≡ withEntry b q (some (noted e (foundOrAbsent (b .contents (e .key)))))
+        → noteFor b q (b .entries q) 6 ≡ withEntry b q (some (noted e (foundOrAbsent (settingIn (e .key) (b .contents)))))
     unfolding noteFor noteStep notedIfFind noteAtSix
     after-six h = rw (entry, h) refl
 
@@ -162,7 +163,7 @@ module _ (b : Book) (q : ℕ) where
     after-ten = rw entry refl
 
     pub after-eleven : noteFor b q (b .entries q) 11
-        ≡ withContent (withEntry b q (some (noted e (noteAtEleven (e .operation) there)))) (e .key) (contentAtEleven (e .operation) (b .contents (e .key)))
+        ≡ withContents (withEntry b q (some (noted e (noteAtEleven (e .operation) there)))) (contentsAtEleven (e .operation) (e .key) (b .contents))
     unfolding noteFor noteStep
     after-eleven = rw entry refl
 

@@ -25,7 +25,8 @@ use Rattle.model.specs.Steps.Write.{isChange}
 use Rattle.model.specs.Memory.{Memory, partyAt, afterStep}
 use Rattle.model.specs.Calls.{Called, called}
 use Rattle.model.specs.Runs.{stepFor, toStep}
-use Rattle.model.specs.Book.{Book, Entered, isIn, changedAt, withEntry, withContent, noted, noteAtTen, noteAtEleven, contentAtEleven, noteFor, afterReply, agreesWith, isNoteOf}
+use Rattle.model.specs.Entries.{hasKey, settingIn}
+use Rattle.model.specs.Book.{Book, Entered, changedAt, withEntry, withContents, noted, noteAtTen, noteAtEleven, contentsAtEleven, noteFor, afterReply, agreesWith, isNoteOf}
 use Rattle.theory.specs.Linearization.{entering, endIn, decisiveStep, stepMarks, marks}
 use Rattle.model.proofs.Laws.Lists.{Cmp, same, diff, cmp, eqb-diff, neither-or, left-fails, right-fails}
 use Rattle.model.proofs.Invariant.Statement.{Inv}
@@ -197,7 +198,7 @@ module _ (m : Memory) (b : Book) (i : Inv m b) (q : ℕ) (in-row : q < m .root .
   pub six-turn : number ≡ 6 → e .operation ≡ Operation.Find → v .party .step ≡ 9 → StepTurn m b q (called StepAnswer.Moved now)
   unfolding afterReply decisiveStep isBehind
   six-turn k find then =
-      let a = foundOrAbsent (b .contents (e .key)) in
+      let a = foundOrAbsent (settingIn (e .key) (b .contents)) in
       let book = ap (noteFor b q (b .entries q)) k ∙ after-six b q e entry find in
       let c = withEntry b q (some (noted e a)) in
       decides q Operation.Find (e .key) a (ap (λ (n : ℕ). record { call = stepFor q; number = n; reply = toStep StepAnswer.Moved }) k)
@@ -205,12 +206,12 @@ module _ (m : Memory) (b : Book) (i : Inv m b) (q : ℕ) (in-row : q < m .root .
       (ap (statusOf now) book
       ∙ states c (fixed Operation.Find (e .key) a) (λ p d. changed-elsewhere (b .entries) q _ p d)
       (decided-then a c (changed-here (b .entries) q _ q refl) (ap isBehind then) ∙ ap (λ (o : Operation). fixed o (e .key) a) find))
-      (ap mapOf book ∙ sym (six-left (mapOf b) (e .key) (b .contents (e .key))))
+      (ap mapOf book ∙ sym (six-left (mapOf b) (e .key) (settingIn (e .key) (b .contents))))
 
   pub ten-turn : number ≡ 10 → e .operation ≢ Operation.Find → v .party .step ≡ 12 → StepTurn m b q (called StepAnswer.Moved now)
   unfolding afterReply isBehind
   ten-turn k change then =
-      let there = isIn (b .contents (e .key)) in
+      let there = hasKey (e .key) (b .contents) in
       let a = noteAtTen (e .operation) there in
       let book = ap (noteFor b q (b .entries q)) k ∙ after-ten b q e entry in
       let c = withEntry b q (some (noted e a)) in
@@ -220,20 +221,20 @@ module _ (m : Memory) (b : Book) (i : Inv m b) (q : ℕ) (in-row : q < m .root .
       (ap (statusOf now) book
       ∙ states c (fixed (e .operation) (e .key) a) (λ p d. changed-elsewhere (b .entries) q _ p d)
       (decided-then a c (changed-here (b .entries) q _ q refl) (ap isBehind then)))
-      (ap mapOf book ∙ fun-ext (λ j. ten-left (mapOf b) (e .operation) (e .key) there change refl j))
+      (ap mapOf book ∙ ten-left (mapOf b) (e .operation) (e .key) there change refl)
 
-  pub eleven-turn : number ≡ 11 → e .operation ≢ Operation.Find → isChange (answerNumber (noteAtEleven (e .operation) (isIn (b .contents (e .key))))) ≡ true
+  pub eleven-turn : number ≡ 11 → e .operation ≢ Operation.Find → isChange (answerNumber (noteAtEleven (e .operation) (hasKey (e .key) (b .contents)))) ≡ true
       → v .party .step ≡ 12 → StepTurn m b q (called StepAnswer.Moved now)
   unfolding afterReply isBehind
   eleven-turn k change made then =
-      let there = isIn (b .contents (e .key)) in
+      let there = hasKey (e .key) (b .contents) in
       let a = noteAtEleven (e .operation) there in
       let book = ap (noteFor b q (b .entries q)) k ∙ after-eleven b q e entry in
-      let c = withContent (withEntry b q (some (noted e a))) (e .key) (contentAtEleven (e .operation) (b .contents (e .key))) in
+      let c = withContents (withEntry b q (some (noted e a))) (contentsAtEleven (e .operation) (e .key) (b .contents)) in
       decides q (e .operation) (e .key) a
       (ap (λ (n : ℕ). record { call = stepFor q; number = n; reply = toStep StepAnswer.Moved }) (k ∙ sym (eleven-decides (e .operation) a change made)))
       (was-looking (ap isBehind k)) (eleven-plain (mapOf b) (e .operation) (e .key) there change refl)
       (ap (statusOf now) book
       ∙ states c (fixed (e .operation) (e .key) a) (λ p d. changed-elsewhere (b .entries) q _ p d)
       (decided-then a c (changed-here (b .entries) q _ q refl) (ap isBehind then)))
-      (ap mapOf book ∙ fun-ext (λ j. eleven-left (b .contents) (e .key) (e .operation) there change j))
+      (ap mapOf book ∙ eleven-left (b .contents) (e .key) (e .operation) there change)

@@ -12,14 +12,13 @@ use Rattle.model.specs.declared.Entry.{Entry}
 use Rattle.model.specs.declared.Operation.{Operation}
 use Rattle.model.specs.Answers.{isMoved, performs}
 use Rattle.model.specs.Entries.{joined}
-use Rattle.model.specs.Chains.{damaged, sound, Chain, chainOf}
+use Rattle.model.specs.Chains.{damaged, sound, Chain, chainOf, recordsRead}
 use Rattle.model.specs.Filling.{fitsPrimary}
 use Rattle.model.specs.Memory.{Memory, partyAt, viewOf}
 use Rattle.model.specs.Calls.{stepCall}
 use Rattle.model.specs.Runs.{beginFor, stepFor, withdrawFor}
 use Rattle.model.specs.Book.{changedAt}
 use Rattle.theory.specs.Links.{chainPages, clockStart, traceOfStep}
-use Rattle.theory.specs.Sequential.{recordsRead}
 use Rattle.theory.specs.FittingMerges.{hadAfter, samePages, isOnePage, joinsRightly, givesRightly, leavesOnePage, mergeRight, callFits}
 use Rattle.model.proofs.Laws.Lists.{and-both, eqb-true, eqb-same, eqb-diff}
 

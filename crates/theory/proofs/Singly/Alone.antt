@@ -31,7 +31,9 @@ use Rattle.model.specs.LockRequests.{isGranted, withHold, request, heldAll, giv
 use Rattle.model.specs.Memory.{Memory, partyAt, viewOf, afterStep}
 use Rattle.model.specs.Calls.{Called, called, stepCall, stepped}
 use Rattle.model.specs.Runs.{Reply, toStep, replyTo, afterCall, eventOf, events, finalMemory}
-use Rattle.model.specs.Book.{Book, Entered, Value, withEntry, noteFor, noteStep, noteAtSix, notedIfFind, afterReply, agreesWith, isNote, isNoteOf}
+use Rattle.model.specs.declared.Entry.{Entry}
+use Rattle.model.specs.Entries.{settingIn}
+use Rattle.model.specs.Book.{Book, Entered, withEntry, noteFor, noteStep, noteAtSix, notedIfFind, afterReply, agreesWith, isNote, isNoteOf}
 use Rattle.model.specs.Ready.{viewing}
 use Rattle.theory.specs.Sequential.{File, Finished, finishes, recordsAt, pagesInUse, fileOf}
 use Rattle.theory.specs.Singly.{stepsOf, repliesOf, movesThen, doneBy}
@@ -236,7 +238,7 @@ unfolding noteFor noteStep
 contents-kept b q none n d = refl
 contents-kept b q (some e) n d =
     rw (eqb-diff n 11 d)
-    (cond-ind (λ (c : Book). c .contents ≡ b .contents) (eqb n 6) _ _ (λ _. six-kept b q e (noteAtSix (e .operation) (b .contents (e .key))))
+    (cond-ind (λ (c : Book). c .contents ≡ b .contents) (eqb n 6) _ _ (λ _. six-kept b q e (noteAtSix (e .operation) (settingIn (e .key) (b .contents))))
     (λ _. cond-ind (λ (c : Book). c .contents ≡ b .contents) (eqb n 10) _ _ (λ _. refl) (λ _. refl)))
 
 module _ (m : Memory) (b : Book) (q : ℕ) (p : Party) (f : File) (out : ℕ) (a : Alone m b q p f out) where
@@ -269,7 +271,7 @@ module _ (m : Memory) (b : Book) (q : ℕ) (p : Party) (f : File) (out : ℕ) (a
     alone-moves k d e h w =
         alone-after (bookOn b q p)
         (subst (λ (y : Party). Inv (leftAt m q t x ls ps) (bookOn b q y)) (a .mine) (k .kept .inv)) e
-        (subst (λ (y : ℕ → Option Value). Holding (m .root .originals) g y) (sym (contents-kept b q (b .entries q) (p .step) d)) h) w
+        (subst (λ (y : List Entry). Holding (m .root .originals) g y) (sym (contents-kept b q (b .entries q) (p .step) d)) h) w
 
   -- The same where the root stays too, and with it the file.
   pub alone-on : (x : Party) (ls ps : List ℕ) → Performed m b q (moved (viewing (m .root) x q ls ps)) → p .step ≢ 11 → liveFor (m .root) x ≡ liveFor (m .root) p
@@ -353,7 +355,7 @@ module _ (m : Memory) (b : Book) (q : ℕ) (p : Party) (f : File) (out : ℕ) (a
       file-then : fileOf t m-then ≡ g
       file-then =
           rests-with m-then b-then g inv-then (λ j. idles j (cmp j q)) e
-          (rw (z .originals=) (subst (λ (u : ℕ → Option Value). Holding (m .root .originals) g u) (sym (contents-kept b q (b .entries q) (p .step) d)) h))
+          (rw (z .originals=) (subst (λ (u : List Entry). Holding (m .root .originals) g u) (sym (contents-kept b q (b .entries q) (p .step) d)) h))
 
 -- ---- What a step that ends answers
 

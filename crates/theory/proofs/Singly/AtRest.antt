@@ -12,37 +12,21 @@ use lib.Dec.{eqb}
 use Rattle.model.specs.Addresses.{chainCount}
 use Rattle.model.specs.declared.Entry.{Entry}
 use Rattle.model.specs.Entries.{hasKey, ascending, settingIn}
+use Rattle.model.specs.Chains.{recordsRead, chainsFrom}
 use Rattle.model.specs.Filling.{pagesFor}
 use Rattle.model.specs.Memory.{Memory}
 use Rattle.model.specs.Book.{Book}
-use Rattle.theory.specs.Sequential.{File, recordsAt, recordsRead, chainsFrom, fileOf, pagesInUse}
+use Rattle.theory.specs.Sequential.{File, recordsAt, fileOf, pagesInUse}
 use Rattle.model.proofs.Laws.Lists.{Told, holds, fails, tell, Cmp, same, diff, cmp, Ord, lt, ge, ord, eqb-same, eqb-diff}
 use Rattle.model.proofs.Invariant.Ghost.{inChain, Extent, rootExtent, size, localLevel, Ghost}
 use Rattle.model.proofs.Laws.Addresses.{address-lt}
+use Rattle.model.proofs.Laws.Together.{listed, length-listed, listed-at}
 use Rattle.model.proofs.Invariant.Extents.{home-is}
 use Rattle.model.proofs.Laws.Reading.{overflow-length}
 use Rattle.model.proofs.Invariant.Statement.{Inv}
 use Rattle.model.proofs.Effects.BuiltChain.{chain-found}
 use Rattle.model.proofs.Laws.Entries.{setting-absent}
 use Rattle.theory.proofs.Singly.Files.{home, Holding}
-
--- ---- The records of a run of chains
-
--- Those of the n chains from chain c on.
-unfoldable pub listed : (ℕ → List Entry) → ℕ → ℕ → List (List Entry)
-listed f zero c = []
-listed f (suc n) c = f c ∷ listed f n (c + 1)
-
-pub length-listed : (f : ℕ → List Entry) (n c : ℕ) → length (listed f n c) ≡ n
-unfolding listed
-length-listed f zero c = refl
-length-listed f (suc n) c = ap suc (length-listed f n (c + 1))
-
-pub listed-at : (f : ℕ → List Entry) (n c x : ℕ) → x < n → getD (listed f n c) x [] ≡ f (c + x)
-unfolding listed
-listed-at f zero c x l = absurd (omega arith)
-listed-at f (suc n) c zero l = ap f (omega arith)
-listed-at f (suc n) c (suc x) l = listed-at f n (c + 1) x (omega arith) ∙ ap f (omega arith)
 
 -- ---- The live file
 
@@ -70,7 +54,7 @@ module _ (m : Memory) (b : Book) (i : Inv m b) where
       home-is n e c (localLevel n e c) k (i .limits .some-original) (omega (arith, i .extents-ok .live-next))
       (record { inside = l; there = i .pages-ok .homed c l k h; reach = omega arith }) refl
 
-  settings-live : (c k : ℕ) → c < size n e → Cmp (home n e k) c → settingIn k (i .ghost .records c) ≡ cond (eqb (home n e k) c) (b .contents k) none
+  settings-live : (c k : ℕ) → c < size n e → Cmp (home n e k) c → settingIn k (i .ghost .records c) ≡ cond (eqb (home n e k) c) (settingIn k (b .contents)) none
   settings-live c k l (same x) = rw (eqb-same (home n e k) c x) (ap (λ (d : ℕ). settingIn k (i .ghost .records d)) (sym x) ∙ sym (i .book-ok .same k))
   settings-live c k l (diff x) = rw (eqb-diff (home n e k) c x) (setting-absent k (i .ghost .records c) (go (tell (hasKey k (i .ghost .records c)))))
     where
@@ -78,12 +62,12 @@ module _ (m : Memory) (b : Book) (i : Inv m b) where
       go (holds h) = absurd (x (has-home c k l h))
       go (fails h) = h
 
-  settings-at : (c k : ℕ) → Ord c (size n e) → settingIn k (recordsAt (liveFile n (i .ghost)) c) ≡ cond (eqb (home n e k) c) (b .contents k) none
+  settings-at : (c k : ℕ) → Ord c (size n e) → settingIn k (recordsAt (liveFile n (i .ghost)) c) ≡ cond (eqb (home n e k) c) (settingIn k (b .contents)) none
   unfolding settingIn size
   settings-at c k (lt l _) = ap (settingIn k) (live-records c l) ∙ settings-live c k l (cmp (home n e k) c)
   settings-at c k (ge l _) =
       ap (settingIn k) (beyond-live c l)
-      ∙ sym (ap (λ (t : Bool). cond t (b .contents k) none) (eqb-diff (home n e k) c (omega (arith, address-lt n (e .level) (e .next) k (i .limits .some-original)))))
+      ∙ sym (ap (λ (t : Bool). cond t (settingIn k (b .contents)) none) (eqb-diff (home n e k) c (omega (arith, address-lt n (e .level) (e .next) k (i .limits .some-original)))))
 
   ascends-at : (c : ℕ) → Ord c (size n e) → ascending (recordsAt (liveFile n (i .ghost)) c) ≡ true
   unfolding ascending
@@ -97,12 +81,13 @@ module _ (m : Memory) (b : Book) (i : Inv m b) where
     as-many = length-listed (i .ghost .records) (size n e) 0;
     next-fits = i .extents-ok .live-next;
     ascends = λ c. ascends-at c (ord c (size n e));
+    map-ascends = i .book-ok .ascends;
     settings = λ c k. settings-at c k (ord c (size n e));
   }
 
   -- ---- The file read
 
-  chains-read : (x c : ℕ) → c + x ≡ size n e → chainsFrom (m .root) (m .pages) x c ≡ listed (i .ghost .records) x c
+  pub chains-read : (x c : ℕ) → c + x ≡ size (m .root .originals) (i .ghost .live) → chainsFrom (m .root) (m .pages) x c ≡ listed (i .ghost .records) x c
   unfolding chainsFrom listed recordsRead
   chains-read zero c s = refl
   chains-read (suc x) c s = rw (chain-found m b i c (omega arith), chains-read x (c + 1) (omega arith)) refl

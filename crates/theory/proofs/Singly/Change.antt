@@ -18,7 +18,7 @@ use Rattle.model.specs.declared.Restructuring.the-variants as Restructuring
 use Rattle.model.specs.Records.{atStep, withOld, withAnswer, withFreeList}
 use Rattle.model.specs.Answers.{operationNumber, answerNumber, answerOf, restructuringOf}
 use Rattle.model.specs.declared.Entry.{Entry}
-use Rattle.model.specs.Entries.{hasKey, insertedInto, removedFrom, entryOf, settingIn}
+use Rattle.model.specs.Entries.{hasKey, insertedInto, removedFrom, entryOf}
 use Rattle.model.specs.Pages.{pageOf, withPage, pageSound, primaryPage, scratchPage, linkToFirst}
 use Rattle.model.specs.Chains.{Chain, sound, listFrom}
 use Rattle.model.specs.Filling.{pagesFor}
@@ -27,7 +27,7 @@ use Rattle.model.specs.Outcome.{View, Outcome, withParty, withPages, moved, che
 use Rattle.model.specs.ScratchPages.{scratchOf, primaryWritten}
 use Rattle.model.specs.LockRequests.{heldAll, givenUp, chainSelective}
 use Rattle.model.specs.Memory.{Memory}
-use Rattle.model.specs.Book.{Book, Value, Entered, changedAt, contentAtEleven, noteFor, noteStep, afterReply}
+use Rattle.model.specs.Book.{Book, Entered, contentsAtEleven, noteFor, noteStep, afterReply}
 use Rattle.model.specs.Ready.{viewing}
 use Rattle.theory.specs.Sequential.{File, Finished, finishes, recordsAt, withRecords, pagesInUse, freeIn, shortOf, chainsIn, parted, rejoined, homeIn, splitFile, mergeFile, added, insertIn, removed, deleteIn}
 use Rattle.model.specs.Steps.Rebuild.{Change, kept, changed, changeOf, splitOwed, mergeOwed, owedBy, changesNothing, changing, rebuilt, rebuildWith, step10}
@@ -48,7 +48,7 @@ use Rattle.model.proofs.Effects.Operations.{Decided, decided}
 use Rattle.model.proofs.Effects.GiveUps.{given-up-rest}
 use Rattle.model.proofs.Effects.BuiltChain.{chain-found}
 use Rattle.model.proofs.Theorems.Calls.{StepsKept}
-use Rattle.theory.proofs.Singly.Files.{extentOf, home, Holding, held-home, holding-changed}
+use Rattle.theory.proofs.Singly.Files.{extentOf, home, Holding, holding-changed}
 use Rattle.theory.proofs.SizesStay.{sizes-same}
 use Rattle.theory.proofs.Singly.AtRest.{use-set}
 use Rattle.theory.proofs.Singly.Alone.{Alone, leftAt, bookOn, live-alone, records-alone, limits-free, scratch-long, many-alone, written-linked, at-alone, Performed, performs-as, performed, guarded-open, checked-open, alone-after, alone-moves, Ends, goes-on, plain, live-plain, root-extent, moves-on, ends-there}
@@ -188,7 +188,7 @@ module _ (steps : StepsKept) (q : ℕ) where
 -- ---- 11
 
 -- What the book's map is after step 11.
-contents-eleven : (b : Book) (q : ℕ) (e : Entered) → b .entries q ≡ some e → noteFor b q (b .entries q) 11 .contents ≡ changedAt (b .contents) (e .key) (contentAtEleven (e .operation) (b .contents (e .key)))
+contents-eleven : (b : Book) (q : ℕ) (e : Entered) → b .entries q ≡ some e → noteFor b q (b .entries q) 11 .contents ≡ contentsAtEleven (e .operation) (e .key) (b .contents)
 unfolding noteFor noteStep
 contents-eleven b q e h = ap (λ (z : Option Entered). noteFor b q z 11 .contents) h
 
@@ -236,26 +236,17 @@ module _ (steps : StepsKept) (m : Memory) (b : Book) (q : ℕ) (p : Party) (f : 
   abbrev g : File
   g = withRecords f (p .chain) new
 
-  abbrev then-in : Option Value
-  then-in = contentAtEleven o (b .contents (p .key))
-
-  contents-then : bookOn b q p .contents ≡ changedAt (b .contents) (p .key) then-in
+  contents-then : bookOn b q p .contents ≡ contentsAtEleven o (p .key) (b .contents)
   contents-then =
       ap (λ (n : ℕ). noteFor b q (b .entries q) n .contents) is-11 ∙ contents-eleven b q (at-11 .entered) (at-11 .busy .entry)
-      ∙ ap (λ (k : ℕ). changedAt (b .contents) k (contentAtEleven o (b .contents k))) (at-11 .busy .same-key)
-
-  -- The chain has of the key what the book has.
-  was-there : settingIn (p .key) (recordsAt f (p .chain)) ≡ b .contents (p .key)
-  was-there = ap (λ (c : ℕ). settingIn (p .key) (recordsAt f c)) at-home ∙ held-home (r .originals) f (b .contents) (a .holding) (p .key)
+      ∙ ap (λ (k : ℕ). contentsAtEleven o k (b .contents)) (at-11 .busy .same-key)
 
   holding-then : Holding (r .originals) g (bookOn b q p .contents)
-  unfolding changedAt
   holding-then =
       subst (Holding (r .originals) g) (sym contents-then)
-      (subst (λ (c : ℕ). Holding (r .originals) (withRecords f c new) (changedAt (b .contents) (p .key) then-in)) (sym at-home)
-      (holding-changed (r .originals) f (b .contents) (a .holding) some-original (p .key) new then-in (made .ascends (a .holding .ascends (p .chain)))
-      (λ j. made .settings j ∙ ap (λ (x : Option Value). cond (eqb j (p .key)) (contentAtEleven o x) (settingIn j (recordsAt f (p .chain)))) was-there
-      ∙ ap (λ (c : ℕ). cond (eqb j (p .key)) then-in (settingIn j (recordsAt f c))) at-home)))
+      (subst (λ (es : List Entry). Holding (r .originals) (withRecords f (p .chain) es) (contentsAtEleven o (p .key) (b .contents))) (sym (made .records))
+      (subst (λ (c : ℕ). Holding (r .originals) (withRecords f c (contentsAtEleven o (p .key) (recordsAt f c))) (contentsAtEleven o (p .key) (b .contents))) (sym at-home)
+      (holding-changed (r .originals) f (b .contents) (a .holding) some-original (p .key) o)))
 
   whole-then : r .free + length xs + pagesInUse (r .capacity) (g .chains) ≡ r .overflow
   unfolding withRecords recordsAt

@@ -1,5 +1,5 @@
 -- The yardstick's files by the keys and settings that they hold, and what the yardstick's changes make of a file.
--- Main statements: Holding (a file that holds exactly this map, each key at its home), same-file (level, next and the map determine a file), held-home (a key's home has of it what the map has); Rehomed, rehomed (a key's home after one split more);
+-- Main statements: Holding (a file that holds exactly this map, each key at its home), same-file (level, next and the map determine a file), held-home (a key's home has of it what the map has), map-held (its chains joined are the map); Rehomed, rehomed (a key's home after one split more);
 -- holding-changed, holding-parted, holding-rejoined.
 use mathlib.Core.Path.{_≡_, refl, sym, ap, _∙_, subst}
 use mathlib.Core.Logic.{_≢_}
@@ -16,7 +16,7 @@ use Rattle.model.specs.Addresses.{span, hash, addressOf, splitNext, mergeTarget
 use Rattle.model.specs.declared.Entry.{Entry}
 use Rattle.model.specs.Entries.{hasKey, ascending, joined, staying, going, settingIn}
 use Rattle.theory.specs.PlainMap.{PlainMap}
-use Rattle.theory.specs.Sequential.{File, recordsAt, withRecords, parted, rejoined}
+use Rattle.theory.specs.Sequential.{File, recordsAt, withRecords, parted, rejoined, mapIn}
 use Rattle.model.proofs.Laws.Lists.{Cmp, same, diff, cmp, Ord, lt, ge, ord, eqb-same, eqb-diff}
 use Rattle.model.proofs.Invariant.Ghost.{Extent, extent, size, advance}
 use Rattle.model.proofs.Invariant.Extents.{size-is}
@@ -26,9 +26,12 @@ use Rattle.model.proofs.Laws.Retreat.{Retreat, merge-retreats, merge-partner, t
 use Rattle.model.proofs.Laws.Halves.{ascends-staying, ascends-going, setting-staying, setting-going}
 use Rattle.model.proofs.Laws.Joins.{ascends-joined, setting-joined}
 use Rattle.model.proofs.Laws.Ascending.{same-ascending}
+use Rattle.model.proofs.Laws.Together.{Apart, setting-home, ascends-all}
 use Rattle.model.proofs.Steps.SplitWrite.Root.{split-advances, level-raised}
-use Rattle.model.specs.Book.{Value, isIn}
-use Rattle.model.proofs.Laws.Entries.{has-setting}
+use Rattle.model.specs.declared.Operation.{Operation}
+use Rattle.model.specs.Book.{Value, contentsAtEleven}
+use Rattle.model.proofs.Laws.Changes.{settingAfter, setting-eleven, ascends-eleven}
+use Rattle.model.proofs.Laws.Entries.{isIn, has-setting}
 
 -- ---- A file that holds exactly this map
 
@@ -44,7 +47,8 @@ pub record Holding (n : ℕ) (f : File) (s : PlainMap) : Type 0 where
   pub as-many : length (f .chains) ≡ size n (extentOf f)
   pub next-fits : f .next < span n (f .level)
   pub ascends : (c : ℕ) → ascending (recordsAt f c) ≡ true
-  pub settings : (c k : ℕ) → settingIn k (recordsAt f c) ≡ cond (eqb (home n (extentOf f) k) c) (s k) none
+  pub map-ascends : ascending s ≡ true
+  pub settings : (c k : ℕ) → settingIn k (recordsAt f c) ≡ cond (eqb (home n (extentOf f) k) c) (settingIn k s) none
 
 -- It is determined by how far it extends and by its map.
 pub same-file : (n : ℕ) (f g : File) (s : PlainMap) → Holding n f s → Holding n g s → extentOf f ≡ extentOf g → f ≡ g
@@ -54,21 +58,31 @@ same-file n f g s a b e = λ i. record { level = ap (λ (x : Extent). x .level) 
     lists : f .chains ≡ g .chains
     lists = ext-getD [] (f .chains) (g .chains) (a .as-many ∙ ap (size n) e ∙ sym (b .as-many))
         (λ c l. same-ascending (recordsAt f c) (recordsAt g c) (a .ascends c) (b .ascends c)
-        (λ k. a .settings c k ∙ ap (λ (x : Extent). cond (eqb (home n x k) c) (s k) none) e ∙ sym (b .settings c k)))
+        (λ k. a .settings c k ∙ ap (λ (x : Extent). cond (eqb (home n x k) c) (settingIn k s) none) e ∙ sym (b .settings c k)))
 
 -- What the map has of a key is what its home has.
-pub held-home : (n : ℕ) (f : File) (s : PlainMap) → Holding n f s → (k : ℕ) → settingIn k (recordsAt f (home n (extentOf f) k)) ≡ s k
+pub held-home : (n : ℕ) (f : File) (s : PlainMap) → Holding n f s → (k : ℕ) → settingIn k (recordsAt f (home n (extentOf f) k)) ≡ settingIn k s
 held-home n f s h k =
-    h .settings (home n (extentOf f) k) k ∙ ap (λ (t : Bool). cond t (s k) none) (eqb-same (home n (extentOf f) k) (home n (extentOf f) k) refl)
+    h .settings (home n (extentOf f) k) k ∙ ap (λ (t : Bool). cond t (settingIn k s) none) (eqb-same (home n (extentOf f) k) (home n (extentOf f) k) refl)
 
--- The same map.
-pub holding-same : (n : ℕ) (f : File) (s t : PlainMap) → ((k : ℕ) → t k ≡ s k) → Holding n f s → Holding n f t
-holding-same n f s t e h = record {
-  as-many = h .as-many;
-  next-fits = h .next-fits;
-  ascends = h .ascends;
-  settings = λ c k. h .settings c k ∙ ap (λ (x : Option Value). cond (eqb (home n (extentOf f) k) c) x none) (sym (e k));
-}
+-- A key is on no chain but its home.
+has-home : (n : ℕ) (f : File) (s : PlainMap) → Holding n f s → (c k : ℕ) → hasKey k (recordsAt f c) ≡ true → home n (extentOf f) k ≡ c
+has-home n f s h c k t = go (cmp (home n (extentOf f) k) c)
+  where
+    go : Cmp (home n (extentOf f) k) c → home n (extentOf f) k ≡ c
+    go (same e) = e
+    go (diff d) =
+        absurd (false≢true (sym (ap isIn (h .settings c k ∙ ap (λ (t : Bool). cond t (settingIn k s) none) (eqb-diff (home n (extentOf f) k) c d))) ∙ has-setting k (recordsAt f c) ∙ t))
+
+-- The records of its chains, joined, are the map.
+pub map-held : (n : ℕ) (f : File) (s : PlainMap) → Holding n f s → mapIn f ≡ s
+unfolding mapIn recordsAt
+map-held n f s h =
+    same-ascending (mapIn f) s (ascends-all (f .chains) apart) (h .map-ascends)
+    (λ k. setting-home (f .chains) apart (home n (extentOf f) k) k (λ d t. has-home n f s h d k t) ∙ held-home n f s h k)
+  where
+    apart : Apart (f .chains)
+    apart = record { ascends = h .ascends; once = λ c d k t u. sym (has-home n f s h c k t) ∙ has-home n f s h d k u }
 
 -- ---- Other records in one chain
 
@@ -76,10 +90,19 @@ at-home : (n : ℕ) (f : File) (s : PlainMap) → Holding n f s → 0 < n → (k
 unfolding size
 at-home n f s h positive k = omega (arith, h .as-many, address-lt n (f .level) (f .next) k positive)
 
-module _ (n : ℕ) (f : File) (s : PlainMap) (h : Holding n f s) (positive : 0 < n) (k : ℕ) (es : List Entry) (t : Option Value) (up : ascending es ≡ true)
-    (settings-then : (j : ℕ) → settingIn j es ≡ cond (eqb j k) t (settingIn j (recordsAt f (home n (extentOf f) k)))) where
+module _ (n : ℕ) (f : File) (s : PlainMap) (h : Holding n f s) (positive : 0 < n) (k : ℕ) (o : Operation) where
   abbrev at : ℕ
   at = home n (extentOf f) k
+
+  -- What the operation makes of the chain, and what the key has then.
+  abbrev es : List Entry
+  es = contentsAtEleven o k (recordsAt f (home n (extentOf f) k))
+
+  abbrev t : Option Value
+  t = settingAfter o (settingIn k s)
+
+  settings-then : (j : ℕ) → settingIn j es ≡ cond (eqb j k) t (settingIn j (recordsAt f at))
+  settings-then j = setting-eleven o k (recordsAt f at) j ∙ ap (λ (x : Option Value). cond (eqb j k) (settingAfter o x) (settingIn j (recordsAt f at))) (held-home n f s h k)
 
   records-here : recordsAt (withRecords f at es) at ≡ es
   unfolding recordsAt withRecords
@@ -90,24 +113,25 @@ module _ (n : ℕ) (f : File) (s : PlainMap) (h : Holding n f s) (positive : 0 <
   records-there c d = getD-set-other (f .chains) at c es [] d
 
   ascends-each : (c : ℕ) → Cmp c at → ascending (recordsAt (withRecords f at es) c) ≡ true
-  ascends-each c (same e) = rw (e, records-here) up
+  ascends-each c (same e) = rw (e, records-here) (ascends-eleven o k (recordsAt f at) (h .ascends at))
   ascends-each c (diff d) = rw (records-there c d) (h .ascends c)
 
-  settings-each : (c j : ℕ) → Cmp c at → Cmp j k → settingIn j (recordsAt (withRecords f at es) c) ≡ cond (eqb (home n (extentOf f) j) c) (cond (eqb j k) t (s j)) none
+  settings-each : (c j : ℕ) → Cmp c at → Cmp j k → settingIn j (recordsAt (withRecords f at es) c) ≡ cond (eqb (home n (extentOf f) j) c) (cond (eqb j k) t (settingIn j s)) none
   settings-each c j (same e) (same i) = rw (e, records-here, settings-then j, i, eqb-same k k refl, eqb-same at at refl) refl
   settings-each c j (same e) (diff x) = rw (e, records-here, settings-then j, eqb-diff j k x) (h .settings at j)
   settings-each c j (diff d) (same i) =
-      rw (records-there c d, i, eqb-same k k refl, eqb-diff at c (λ e. d (sym e))) (h .settings c k ∙ ap (λ (x : Bool). cond x (s k) none) (eqb-diff at c (λ e. d (sym e))))
+      rw (records-there c d, i, eqb-same k k refl, eqb-diff at c (λ e. d (sym e))) (h .settings c k ∙ ap (λ (x : Bool). cond x (settingIn k s) none) (eqb-diff at c (λ e. d (sym e))))
   settings-each c j (diff d) (diff x) = rw (records-there c d, eqb-diff j k x) (h .settings c j)
 
-  -- Key k has what t says, every other key what it had.
-  pub holding-changed : Holding n (withRecords f (home n (extentOf f) k) es) (λ j. cond (eqb j k) t (s j))
+  -- The chain and the map changed alike, by an operation on key k.
+  pub holding-changed : Holding n (withRecords f (home n (extentOf f) k) (contentsAtEleven o k (recordsAt f (home n (extentOf f) k)))) (contentsAtEleven o k s)
   unfolding withRecords
   holding-changed = record {
     as-many = length-set (f .chains) at es ∙ h .as-many;
     next-fits = h .next-fits;
     ascends = λ c. ascends-each c (cmp c at);
-    settings = λ c j. settings-each c j (cmp c at) (cmp j k);
+    map-ascends = ascends-eleven o k s (h .map-ascends);
+    settings = λ c j. settings-each c j (cmp c at) (cmp j k) ∙ ap (λ (x : Option Value). cond (eqb (home n (extentOf f) j) c) x none) (sym (setting-eleven o k s j));
   }
 
 -- ---- A key's home after one split more
@@ -196,25 +220,25 @@ module _ (r : Root) (f : File) (s : PlainMap) (h : Holding (r .originals) f s) (
 
   -- Which keys stay, which go, and which are elsewhere, by their homes.
   stay-settings : (k : ℕ) → Rehomed n e k
-      → cond (eqb (hash n (f .level + 1) k) (f .next)) (cond (eqb (home n e k) (f .next)) (s k) none) none ≡ cond (eqb (home n (advance n e) k) (f .next)) (s k) none
+      → cond (eqb (hash n (f .level + 1) k) (f .next)) (cond (eqb (home n e k) (f .next)) (settingIn k s) none) none ≡ cond (eqb (home n (advance n e) k) (f .next)) (settingIn k s) none
   stay-settings k (elsewhere d x) = rw (x, eqb-diff (home n e k) (f .next) d) (none-either (eqb (hash n (f .level + 1) k) (f .next)))
   stay-settings k (stays-there a b x) = rw (x, a, b, eqb-same (f .next) (f .next) refl) refl
   stay-settings k (goes a b x) = rw (x, eqb-diff (hash n (f .level + 1) k) (f .next) b, eqb-diff (size n e) (f .next) (omega (arith, next-inside))) refl
 
   go-settings : (k : ℕ) → Rehomed n e k
-      → cond (not (eqb (hash n (f .level + 1) k) (f .next))) (cond (eqb (home n e k) (f .next)) (s k) none) none ≡ cond (eqb (home n (advance n e) k) (size n e)) (s k) none
+      → cond (not (eqb (hash n (f .level + 1) k) (f .next))) (cond (eqb (home n e k) (f .next)) (settingIn k s) none) none ≡ cond (eqb (home n (advance n e) k) (size n e)) (settingIn k s) none
   go-settings k (elsewhere d x) =
       rw (x, eqb-diff (home n e k) (f .next) d, eqb-diff (home n e k) (size n e) (omega (arith, home-inside n e (h .next-fits) positive k)))
       (none-either (not (eqb (hash n (f .level + 1) k) (f .next))))
   go-settings k (stays-there a b x) = rw (x, b, eqb-same (f .next) (f .next) refl, eqb-diff (f .next) (size n e) (omega (arith, next-inside))) refl
   go-settings k (goes a b x) = rw (x, a, eqb-diff (hash n (f .level + 1) k) (f .next) b, eqb-same (f .next) (f .next) refl, eqb-same (size n e) (size n e) refl) refl
 
-  other-settings : (c k : ℕ) → c ≢ f .next → c ≢ size n e → Rehomed n e k → cond (eqb (home n e k) c) (s k) none ≡ cond (eqb (home n (advance n e) k) c) (s k) none
+  other-settings : (c k : ℕ) → c ≢ f .next → c ≢ size n e → Rehomed n e k → cond (eqb (home n e k) c) (settingIn k s) none ≡ cond (eqb (home n (advance n e) k) c) (settingIn k s) none
   other-settings c k d z (elsewhere _ x) = rw x refl
   other-settings c k d z (stays-there a b x) = rw (x, a) refl
   other-settings c k d z (goes a b x) = rw (x, a, eqb-diff (f .next) c (λ y. d (sym y)), eqb-diff (size n e) c (λ y. z (sym y))) refl
 
-  parted-settings : (c k : ℕ) → Cmp c (f .next) → Cmp c (size n e) → settingIn k (recordsAt (parted r f stay go) c) ≡ cond (eqb (home n (advance n e) k) c) (s k) none
+  parted-settings : (c k : ℕ) → Cmp c (f .next) → Cmp c (size n e) → settingIn k (recordsAt (parted r f stay go) c) ≡ cond (eqb (home n (advance n e) k) c) (settingIn k s) none
   parted-settings c k (same x) y =
       rw (x, parted-next)
       (setting-staying n (f .level + 1) (f .next) k (recordsAt f (f .next)) ∙ ap (λ (t : Option Value). cond (eqb (hash n (f .level + 1) k) (f .next)) t none) (h .settings (f .next) k)
@@ -231,7 +255,8 @@ module _ (r : Root) (f : File) (s : PlainMap) (h : Holding (r .originals) f s) (
     as-many = length-append (set (f .chains) (f .next) stay) (go ∷ []) ∙ omega (arith, set-many, advance-size n e (h .next-fits)) ∙ ap (size n) (sym parted-extent);
     next-fits = subst (λ (x : Extent). x .next < span n (x .level)) (sym parted-extent) (advance-fits n e (h .next-fits));
     ascends = λ c. parted-ascends c (cmp c (f .next)) (cmp c (size n e));
-    settings = λ c k. parted-settings c k (cmp c (f .next)) (cmp c (size n e)) ∙ ap (λ (x : Extent). cond (eqb (home n x k) c) (s k) none) (sym parted-extent);
+    map-ascends = h .map-ascends;
+    settings = λ c k. parted-settings c k (cmp c (f .next)) (cmp c (size n e)) ∙ ap (λ (x : Extent). cond (eqb (home n x k) c) (settingIn k s) none) (sym parted-extent);
   }
 
 -- ---- The last chain joined to its target
@@ -282,12 +307,12 @@ module _ (r : Root) (f : File) (s : PlainMap) (h : Holding (r .originals) f s) (
   joined-beyond c l = List·getD-eq-default (take partner (set (f .chains) target both)) [] (omega (arith, few))
 
   -- Homes in the file as it is are those one split further than in the file then.
-  settings-now : (c k : ℕ) → settingIn k (recordsAt f c) ≡ cond (eqb (home originals (advance originals d) k) c) (s k) none
-  settings-now c k = h .settings c k ∙ ap (λ (x : Extent). cond (eqb (home originals x k) c) (s k) none) (sym (retreat .advances))
+  settings-now : (c k : ℕ) → settingIn k (recordsAt f c) ≡ cond (eqb (home originals (advance originals d) k) c) (settingIn k s) none
+  settings-now c k = h .settings c k ∙ ap (λ (x : Extent). cond (eqb (home originals x k) c) (settingIn k s) none) (sym (retreat .advances))
 
   -- A key is on no chain but its home.
   off-home : (c k : ℕ) → home originals (advance originals d) k ≢ c → hasKey k (recordsAt f c) ≡ false
-  off-home c k x = sym (has-setting k (recordsAt f c)) ∙ ap isIn (settings-now c k ∙ ap (λ (t : Bool). cond t (s k) none) (eqb-diff (home originals (advance originals d) k) c x))
+  off-home c k x = sym (has-setting k (recordsAt f c)) ∙ ap isIn (settings-now c k ∙ ap (λ (t : Bool). cond t (settingIn k s) none) (eqb-diff (home originals (advance originals d) k) c x))
 
   key-once : (k : ℕ) → hasKey k (recordsAt f target) ≡ true → hasKey k (recordsAt f partner) ≡ false
   key-once k x = go (cmp (home originals (advance originals d) k) target)
@@ -297,20 +322,20 @@ module _ (r : Root) (f : File) (s : PlainMap) (h : Holding (r .originals) f s) (
       go (diff y) = absurd (false≢true (sym (off-home target k y) ∙ x))
 
   abbrev heldIn : ℕ → ℕ → Option Value
-  heldIn k c = cond (eqb (home originals (advance originals d) k) c) (s k) none
+  heldIn k c = cond (eqb (home originals (advance originals d) k) c) (settingIn k s) none
 
-  both-settings : (k : ℕ) → Rehomed originals d k → cond (isIn (heldIn k target)) (heldIn k target) (heldIn k partner) ≡ cond (eqb (home originals d k) target) (s k) none
+  both-settings : (k : ℕ) → Rehomed originals d k → cond (isIn (heldIn k target)) (heldIn k target) (heldIn k partner) ≡ cond (eqb (home originals d k) target) (settingIn k s) none
   both-settings k (elsewhere y x) =
       rw (
         x,
         eqb-diff (home originals d k) target y,
         eqb-diff (home originals d k) partner (omega (arith, partner-is, home-inside originals d (retreat .next-fits) positive k)),
       ) refl
-  both-settings k (stays-there a b x) = rw (x, a, eqb-same target target refl, eqb-diff target partner (omega (arith, before))) (in-or-none (s k))
+  both-settings k (stays-there a b x) = rw (x, a, eqb-same target target refl, eqb-diff target partner (omega (arith, before))) (in-or-none (settingIn k s))
   both-settings k (goes a b x) =
       rw (x, a, eqb-same target target refl, ← partner-is, eqb-same partner partner refl, eqb-diff partner target (omega (arith, before))) refl
 
-  rest-settings : (c k : ℕ) → c ≢ target → c < partner → Rehomed originals d k → heldIn k c ≡ cond (eqb (home originals d k) c) (s k) none
+  rest-settings : (c k : ℕ) → c ≢ target → c < partner → Rehomed originals d k → heldIn k c ≡ cond (eqb (home originals d k) c) (settingIn k s) none
   rest-settings c k y l (elsewhere _ x) = rw x refl
   rest-settings c k y l (stays-there a b x) = rw (x, a) refl
   rest-settings c k y l (goes a b x) = rw (x, a, eqb-diff target c (λ z. y (sym z)), eqb-diff (size originals d) c (omega (arith, partner-is))) refl
@@ -321,7 +346,7 @@ module _ (r : Root) (f : File) (s : PlainMap) (h : Holding (r .originals) f s) (
   rejoined-ascends c (diff x) (lt l _) = rw (joined-other c x l) (h .ascends c)
   rejoined-ascends c (diff x) (ge l _) = rw (joined-beyond c l) refl
 
-  rejoined-settings : (c k : ℕ) → Cmp c target → Ord c partner → settingIn k (recordsAt (rejoined r f target both) c) ≡ cond (eqb (home originals d k) c) (s k) none
+  rejoined-settings : (c k : ℕ) → Cmp c target → Ord c partner → settingIn k (recordsAt (rejoined r f target both) c) ≡ cond (eqb (home originals d k) c) (settingIn k s) none
   unfolding settingIn
   rejoined-settings c k (same x) l =
       rw (x, joined-target)
@@ -340,5 +365,6 @@ module _ (r : Root) (f : File) (s : PlainMap) (h : Holding (r .originals) f s) (
     as-many = few ∙ partner-is;
     next-fits = retreat .next-fits;
     ascends = λ c. rejoined-ascends c (cmp c target) (ord c partner);
+    map-ascends = h .map-ascends;
     settings = λ c k. rejoined-settings c k (cmp c target) (ord c partner);
   }

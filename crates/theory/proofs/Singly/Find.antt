@@ -125,10 +125,10 @@ find-ends kept r q k f x =
     let a = x .alone in
     let w = at-alone (x .memory) (x .book) q (x .party) f 0 a 8 (x .step=) .facts in
     let note = x .noted refl in
-    let same-home : settingIn k (recordsAt f (home (r .originals) (extentOf f) k)) ≡ x .book .contents k =
+    let same-home : settingIn k (recordsAt f (home (r .originals) (extentOf f) k)) ≡ settingIn k (x .book .contents) =
     ap (λ (t : Root). settingIn k (recordsAt f (home (t .originals) (extentOf f) k))) (sym (x .root=)) ∙ held-home (x .memory .root .originals) f (x .book .contents) (a .holding) k in
     subst (λ (t : Option Value). Ends (x .memory) q (finishes (foundOrAbsent t) Restructuring.None f)) (sym same-home)
-    (walks kept q f (foundOrAbsent (x .book .contents k)) (w .rest) (x .memory) (x .book) (x .party) a (x .step=) (note .entered) (note .entry)
+    (walks kept q f (foundOrAbsent (settingIn k (x .book .contents))) (w .rest) (x .memory) (x .book) (x .party) a (x .step=) (note .entered) (note .entry)
     (note .note-is)
     (all-from (IsOverflow (x .memory .root)) (w .rest)
     (λ z h. let o = protected-bounds (x .memory) (x .book) (a .inv) q (a .in-row) (x .party .chain) z (w .protected z h) in record { above = o .0; below = o .1 }))

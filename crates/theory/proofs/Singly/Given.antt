@@ -1,5 +1,5 @@
 -- Files and the yardstick by the sizes given to format; what a file reached at rest holds.
--- Main statements: file-given, performed-given (the sizes given or the root's: the same); reached-holding (at rest the file holds exactly the book's map), reached-map, reached-reads;
+-- Main statements: file-given, performed-given (the sizes given or the root's: the same); reached-holding (at rest the file holds exactly the book's map), reached-map, reached-home, reached-reads;
 -- start-file (format leaves the yardstick's first file).
 use mathlib.Core.Path.{_≡_, refl, sym, ap, _∙_, subst}
 use mathlib.Core.List.{List, []}
@@ -17,20 +17,19 @@ use Rattle.model.specs.Chains.{Chain, chainOf}
 use Rattle.model.specs.Pages.{linkToFirst}
 use Rattle.model.specs.Memory.{Memory, formatted, formattedRoot}
 use Rattle.model.specs.Runs.{Call, events, finalMemory}
-use Rattle.model.specs.Book.{Book, emptyBook, bookAtEnd}
+use Rattle.model.specs.Book.{Book, bookAtEnd}
+use Rattle.model.specs.TakeUp.{openBook}
 use Rattle.model.specs.Progress.{isEntered, underWay}
-use Rattle.theory.specs.PlainMap.{emptyMap}
 use Rattle.theory.specs.Sequential.{File, shortOf, freeIn, homeIn, recordsAt, chainsIn, parted, splitFile, rejoined, mergeFile, findIn, added, insertIn, removed, deleteIn, performedOn, mapIn, startFile, fileOf, ChainsRead}
-use Rattle.theory.specs.Demands.{Sizes, sizesOf, Reached, bookReached, AtRest, fileReached}
+use Rattle.theory.specs.Demands.{Start, mapStart, sizesOf, Reached, bookReached, AtRest, fileReached, atHome}
 use Rattle.model.proofs.Invariant.Ghost.{inChain, size, localLevel}
 use Rattle.model.proofs.Invariant.Statement.{Inv}
 use Rattle.model.proofs.Invariant.Frame.{SameLimits}
 use Rattle.model.proofs.Effects.BuiltChain.{chain-found}
-use Rattle.theory.proofs.Reached.{formatted-inv, reached-inv}
+use Rattle.theory.proofs.Reached.{started-inv, reached-inv}
 use Rattle.theory.proofs.SizesStay.{sizes-same, reached-limits, sized-root}
-use Rattle.theory.proofs.Singly.Files.{extentOf, home, Holding, same-file, holding-same, none-either}
+use Rattle.theory.proofs.Singly.Files.{extentOf, home, Holding, held-home, map-held}
 use Rattle.theory.proofs.Singly.AtRest.{live-holding, file-read}
-use Rattle.theory.proofs.Singly.Maps.{map-held}
 use Rattle.theory.proofs.Singly.Whole.{live-at-rest}
 
 -- ---- The sizes given or the root's
@@ -47,7 +46,7 @@ performed-given z r l f Operation.Delete k = ap (λ (u : Root). performedOn u f 
 
 -- ---- At rest
 
-module _ (s : Sizes) (cs : List Call) (rest : AtRest (bookReached s cs)) where
+module _ (s : Start) (cs : List Call) (rest : AtRest (bookReached s cs)) where
   abbrev m : Memory
   m = Reached s cs
 
@@ -61,14 +60,19 @@ module _ (s : Sizes) (cs : List Call) (rest : AtRest (bookReached s cs)) where
   limits = reached-limits s cs
 
   -- The file holds exactly the book's map.
-  pub reached-holding : Holding (s .originals) (fileReached s cs) (bookReached s cs .contents)
+  pub reached-holding : Holding (sizesOf s .originals) (fileReached s cs) (bookReached s cs .contents)
   reached-holding =
       subst (λ (n : ℕ). Holding n (fileReached s cs) (b .contents)) (limits .originals=)
       (subst (λ (f : File). Holding (m .root .originals) f (b .contents)) (sym (file-given (sizesOf s) m limits ∙ file-read m b i (live-at-rest m b i rest)))
       (live-holding m b i))
 
-  pub reached-map : (k : ℕ) → mapIn (sizesOf s) (fileReached s cs) k ≡ bookReached s cs .contents k
-  reached-map k = map-held (sizesOf s) (fileReached s cs) (b .contents) reached-holding k
+  pub reached-map : mapIn (fileReached s cs) ≡ bookReached s cs .contents
+  reached-map = map-held (sizesOf s .originals) (fileReached s cs) (b .contents) reached-holding
+
+  -- Key by key: the file's map has of a key what the key's home chain has.
+  pub reached-home : (k : ℕ) → settingIn k (mapIn (fileReached s cs)) ≡ atHome s cs k
+  unfolding homeIn
+  reached-home k = ap (settingIn k) reached-map ∙ sym (held-home (sizesOf s .originals) (fileReached s cs) (b .contents) reached-holding k)
 
   abbrev chain-at : ℕ → Chain
   chain-at c = record {
@@ -92,40 +96,15 @@ module _ (s : Sizes) (cs : List Call) (rest : AtRest (bookReached s cs)) where
 
 -- ---- The file that format leaves
 
--- An element of n empty lists is empty.
-none-in : (n c : ℕ) → getD (replicate {A = List Entry} n []) c [] ≡ []
-none-in zero c = refl
-none-in (suc n) zero = refl
-none-in (suc n) (suc c) = none-in n c
-
-start-holding : (r : Root) → 0 < r .originals → Holding (r .originals) (startFile r) emptyMap
-unfolding startFile recordsAt size chainCount span settingIn ascending emptyMap
-start-holding r some = record {
-  as-many = length-replicate (r .originals) [] ∙ omega arith;
-  next-fits = omega arith;
-  ascends = λ c. rw (none-in (r .originals) c) refl;
-  settings = λ c k. rw (none-in (r .originals) c) (sym (none-either (eqb (home (r .originals) (extentOf (startFile r)) k) c)));
-}
-
--- Nobody is under way, and the map is empty.
-pub start-rests : (s : Sizes) → AtRest (bookReached s [])
-unfolding events bookAtEnd emptyBook underWay isEntered
+-- Nobody is under way.
+pub start-rests : (s : Start) → AtRest (bookReached s [])
+unfolding events bookAtEnd openBook underWay isEntered
 start-rests s q = refl
 
-start-empty : (s : Sizes) (k : ℕ) → emptyMap k ≡ bookReached s [] .contents k
-unfolding events bookAtEnd emptyBook emptyMap
-start-empty s k = refl
+pub some-original : (s : Start) → 0 < sizesOf s .originals
+some-original s = omega (arith, started-inv s .limits .some-original)
 
-pub some-original : (s : Sizes) → 0 < s .originals
-unfolding formatted formattedRoot
-some-original s = omega (arith, formatted-inv s .limits .some-original)
-
-pub start-held : (s : Sizes) → Holding (s .originals) (startFile (sizesOf s)) emptyMap
-start-held s = start-holding (sizesOf s) (some-original s)
-
-pub start-file : (s : Sizes) → fileReached s [] ≡ startFile (sizesOf s)
-unfolding startFile fileOf finalMemory formatted formattedRoot
-start-file s =
-    same-file (s .originals) (fileReached s []) (startFile (sizesOf s)) emptyMap
-    (holding-same (s .originals) (fileReached s []) (bookReached s [] .contents) emptyMap (start-empty s) (reached-holding s [] (start-rests s)))
-    (start-held s) refl
+-- The file holds the map.
+pub start-held : (s : Start) → Holding (sizesOf s .originals) (fileReached s []) (mapStart s)
+unfolding events bookAtEnd openBook
+start-held s = reached-holding s [] (start-rests s)

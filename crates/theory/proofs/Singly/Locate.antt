@@ -17,7 +17,9 @@ use Rattle.model.specs.Pages.{pageOf, withPage, levelOf, pageSound, primaryPage
 use Rattle.model.specs.Outcome.{View, moved, withParty}
 use Rattle.model.specs.ScratchPages.{withScratch}
 use Rattle.model.specs.Memory.{Memory}
-use Rattle.model.specs.Book.{Book, Value, Entered, noteFor, noteStep}
+use Rattle.model.specs.declared.Entry.{Entry}
+use Rattle.model.specs.Entries.{settingIn}
+use Rattle.model.specs.Book.{Book, Entered, noteFor, noteStep}
 use Rattle.model.specs.Ready.{viewing}
 use Rattle.theory.specs.Sequential.{File, Finished}
 use Rattle.model.specs.LockRequests.{rootRead, chainLock}
@@ -41,7 +43,7 @@ use Rattle.theory.proofs.Singly.Alone.{Alone, leftAt, bookOn, none-clai
 pub record Noted (c : Book) (q k : ℕ) : Type 0 where
   pub entered : Entered
   pub entry : c .entries q ≡ some entered
-  pub note-is : entered .note ≡ some (foundOrAbsent (c .contents k))
+  pub note-is : entered .note ≡ some (foundOrAbsent (settingIn k (c .contents)))
 
 -- Party q, with operation o, key k and setting x, has come to step n on its key's home chain in the file f; the root is r.
 pub record Arrival (r : Root) (q o k x : ℕ) (f : File) (n : ℕ) : Type 0 where
@@ -117,8 +119,8 @@ module _ (kept : StepsKept) (m : Memory) (b : Book) (q : ℕ) (p : Party) (f : F
         entered = s .after;
         entry = s .entry;
         note-is = s .found (x .busy .same-operation ∙ find)
-            ∙ ap (λ (j : ℕ). some (foundOrAbsent (b .contents j))) (x .busy .same-key)
-            ∙ ap (λ (h : ℕ → Option Value). some (foundOrAbsent (h (p .key)))) (sym (s .contents=));
+            ∙ ap (λ (j : ℕ). some (foundOrAbsent (settingIn j (b .contents)))) (x .busy .same-key)
+            ∙ ap (λ (es : List Entry). some (foundOrAbsent (settingIn (p .key) es))) (sym (s .contents=));
       })
 
   from-six : (k : ℕ) → cond (eqb (p .operation) 1) 9 10 ≡ k → plain k ≡ true

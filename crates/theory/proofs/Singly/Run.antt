@@ -21,7 +21,7 @@ use Rattle.model.specs.Book.{Book, enter}
 use Rattle.theory.specs.PlainMap.{emptyMap}
 use Rattle.theory.specs.Sequential.{File, fileOf, performedOn, mapIn, startFile}
 use Rattle.theory.specs.Singly.{Wanted, partiesFit, stepsOf, callsAlone, repliesOf, repliesAlone, doneBy, callsSingly, repliesSingly, performedAll}
-use Rattle.theory.specs.Demands.{Sizes, sizesOf, start, Reached, bookReached, AtRest, fileReached, yardstick, RunSingly, ListSingly}
+use Rattle.theory.specs.Demands.{Start, mapStart, sizesOf, start, Reached, bookReached, AtRest, fileReached, yardstick, RunSingly, ListSingly}
 use Rattle.model.proofs.Laws.Lists.{and-both, ltb-true}
 use Rattle.model.proofs.Invariant.Statement.{Inv}
 use Rattle.model.proofs.Invariant.Frame.{SameLimits}
@@ -32,11 +32,11 @@ use Rattle.model.proofs.Theorems.AllSteps.{steps-kept}
 use Rattle.theory.proofs.Reached.{reached-inv, final-append}
 use Rattle.theory.proofs.SizesStay.{reached-limits}
 use Rattle.theory.proofs.UnderWay.{idle-unentered}
-use Rattle.theory.proofs.Singly.Files.{Holding}
+use Rattle.theory.proofs.Singly.Files.{Holding, map-held}
 use Rattle.theory.proofs.Singly.AtRest.{live-holding, file-read}
 use Rattle.theory.proofs.Singly.Whole.{idle-at-rest, no-pages-at-rest, live-at-rest, whole-at-rest}
-use Rattle.theory.proofs.Singly.Maps.{map-held, holding-map, AsMap, performed-as-map, all-as-map}
-use Rattle.theory.proofs.Singly.Given.{file-given, performed-given, reached-holding, reached-map, reached-reads, start-rests, some-original, start-held, start-file}
+use Rattle.theory.proofs.Singly.Maps.{holding-map, AsMap, performed-as-map, all-as-map}
+use Rattle.theory.proofs.Singly.Given.{file-given, performed-given, reached-holding, reached-map, reached-home, reached-reads, start-rests, some-original, start-held}
 use Rattle.theory.proofs.Singly.Alone.{Alone, leftBy, Ends, plain, live-plain}
 use Rattle.theory.proofs.Singly.Locate.{locates}
 use Rattle.theory.proofs.Singly.Find.{find-ends}
@@ -109,7 +109,7 @@ run-ends steps m b i rest q in-row Operation.Find k = find-run steps m b i rest 
 run-ends steps m b i rest q in-row (Operation.Insert x) k = insert-run steps m b i rest q in-row k x
 run-ends steps m b i rest q in-row Operation.Delete k = delete-run steps m b i rest q in-row k
 
-module _ (s : Sizes) (cs : List Call) (rest : AtRest (bookReached s cs)) (x : Wanted) (fits : x .party < s .parties) where
+module _ (s : Start) (cs : List Call) (rest : AtRest (bookReached s cs)) (x : Wanted) (fits : x .party < sizesOf s .parties) where
   abbrev m : Memory
   m = Reached s cs
 
@@ -166,10 +166,10 @@ module _ (s : Sizes) (cs : List Call) (rest : AtRest (bookReached s cs)) (x : Wa
       (λ j. ap (λ (t : Memory). partyAt (t .parties) j) memory-is ∙ e .rests j)
 
   -- The file that the yardstick takes holds the map that it holds.
-  as-map-is : AsMap (s .originals) (mapIn (sizesOf s) (fileReached s cs)) (x .operation) (x .key) (yardstick s cs x)
+  as-map-is : AsMap (sizesOf s .originals) (mapIn (fileReached s cs)) (x .operation) (x .key) (yardstick s cs x)
   as-map-is =
-      performed-as-map (sizesOf s) (some-original s) (fileReached s cs) (mapIn (sizesOf s) (fileReached s cs))
-      (holding-map (sizesOf s) (fileReached s cs) (bookReached s cs .contents) (reached-holding s cs rest)) k o
+      performed-as-map (sizesOf s) (some-original s) (fileReached s cs) (mapIn (fileReached s cs))
+      (holding-map (sizesOf s .originals) (fileReached s cs) (bookReached s cs .contents) (reached-holding s cs rest)) k o
 
   -- DEMAND 2, one operation run singly.
   pub run-singly : RunSingly s cs x
@@ -182,20 +182,22 @@ module _ (s : Sizes) (cs : List Call) (rest : AtRest (bookReached s cs)) (x : Wa
     reads-after = reached-reads s then rests-then;
     map = reached-map s cs rest;
     map-after = reached-map s then rests-then;
+    home = reached-home s cs rest;
+    home-after = reached-home s then rests-then;
     as-map = as-map-is .as-map;
-    leaves-map = λ j. ap (λ (f : File). mapIn (sizesOf s) f j) leaves-file ∙ map-held (sizesOf s) (yardstick s cs x .file) _ (as-map-is .holding) j;
+    leaves-map = ap mapIn leaves-file ∙ map-held (sizesOf s .originals) (yardstick s cs x .file) _ (as-map-is .holding);
   }
 
 -- ---- A list of operations
 
 -- What is owed of a list of operations run singly after a list of calls.
-record ListFrom (s : Sizes) (cs : List Call) (xs : List Wanted) : Type 0 where
+record ListFrom (s : Start) (cs : List Call) (xs : List Wanted) : Type 0 where
   pub moves : List ℕ
   pub replies : repliesOf (events (Reached s cs) (callsSingly xs moves)) ≡ repliesSingly (performedAll (sizesOf s) (fileReached s cs) xs .answers) moves
   pub leaves : fileReached s (cs ++ callsSingly xs moves) ≡ performedAll (sizesOf s) (fileReached s cs) xs .file
   pub rests : AtRest (bookReached s (cs ++ callsSingly xs moves))
 
-list-from : (s : Sizes) (cs : List Call) → AtRest (bookReached s cs) → (xs : List Wanted) → partiesFit (s .parties) xs ≡ true → ListFrom s cs xs
+list-from : (s : Start) (cs : List Call) → AtRest (bookReached s cs) → (xs : List Wanted) → partiesFit (sizesOf s .parties) xs ≡ true → ListFrom s cs xs
 unfolding callsSingly repliesSingly performedAll partiesFit events repliesOf
 list-from s cs rest [] f = record {
   moves = [];
@@ -204,8 +206,8 @@ list-from s cs rest [] f = record {
   rests = subst (λ (l : List Call). AtRest (bookReached s l)) (sym (append-nil cs)) rest;
 }
 list-from s cs rest (x ∷ xs) f =
-    let h = and-both (ltb (x .party) (s .parties)) (partiesFit (s .parties) xs) f in
-    let one = run-singly s cs rest x (ltb-true (x .party) (s .parties) (h .0)) in
+    let h = and-both (ltb (x .party) (sizesOf s .parties)) (partiesFit (sizesOf s .parties) xs) f in
+    let one = run-singly s cs rest x (ltb-true (x .party) (sizesOf s .parties) (h .0)) in
     let mine = callsAlone x (one .moves) in
     let more = list-from s (cs ++ mine) (one .rests) xs (h .1) in
     let others = callsSingly xs (more .moves) in
@@ -224,16 +226,14 @@ list-from s cs rest (x ∷ xs) f =
     }
 
 -- DEMAND 2, a list of operations run singly from formatted memory.
-pub list-singly : (s : Sizes) (xs : List Wanted) → partiesFit (s .parties) xs ≡ true → ListSingly s xs
-unfolding finalMemory emptyMap
+pub list-singly : (s : Start) (xs : List Wanted) → partiesFit (sizesOf s .parties) xs ≡ true → ListSingly s xs
+unfolding finalMemory
 list-singly s xs f =
     let all = list-from s [] (start-rests s) xs f in
-    let z = sizesOf s in
     record {
-      starts = start-file s;
       moves = all .moves;
-      replies = all .replies ∙ ap (λ (t : File). repliesSingly (performedAll z t xs .answers) (all .moves)) (start-file s);
-      leaves = all .leaves ∙ ap (λ (t : File). performedAll z t xs .file) (start-file s);
+      replies = all .replies;
+      leaves = all .leaves;
       rests = all .rests;
-      as-map = all-as-map z (some-original s) (startFile z) emptyMap (start-held s) xs;
+      as-map = all-as-map (sizesOf s) (some-original s) (fileReached s []) (mapStart s) (start-held s) xs;
     }

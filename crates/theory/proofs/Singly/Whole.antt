@@ -21,7 +21,8 @@ use Rattle.model.proofs.Invariant.Ghost.{rootExtent, size}
 use Rattle.model.proofs.Invariant.Statement.{restructures, NoPages, Inv, sceneOf}
 use Rattle.theory.proofs.UnderWay.{entered-under, Met, no-party, nothing-begun, under-way, meets}
 use Rattle.theory.proofs.Places.{free-listed, chain-listed, pages-placed}
-use Rattle.theory.proofs.Singly.AtRest.{listed, liveFile, file-read, live-pages, Whole}
+use Rattle.model.proofs.Laws.Together.{listed}
+use Rattle.theory.proofs.Singly.AtRest.{liveFile, file-read, live-pages, Whole}
 
 -- ---- Numbers counted in a list
 

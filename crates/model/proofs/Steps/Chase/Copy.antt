@@ -79,14 +79,14 @@ pub record NotedSix (b c : Book) (q : ℕ) (e : Entered) : Type 0 where
   pub entry : c .entries q ≡ some after
   pub operation= : after .operation ≡ e .operation
   pub key= : after .key ≡ e .key
-  pub found : operationNumber (e .operation) ≡ 1 → after .note ≡ some (foundOrAbsent (b .contents (e .key)))
+  pub found : operationNumber (e .operation) ≡ 1 → after .note ≡ some (foundOrAbsent (settingIn (e .key) (b .contents)))
 
 pub noted-six : (b : Book) (q : ℕ) (e : Entered) → b .entries q ≡ some e → NotedSix b (noteStep b q e 6) q e
 unfolding noteStep notedIfFind noteAtSix changedAt operationNumber
 noted-six b q e h = go (e .operation) refl
   where
     there : Option Value
-    there = b .contents (e .key)
+    there = settingIn (e .key) (b .contents)
 
     -- An insert or a delete: no note.
     none-noted : (o : Operation) → e .operation ≡ o → operationNumber o ≢ 1 → NotedSix b b q e
@@ -254,10 +254,10 @@ module _ {m : Memory} {b : Book} {q : ℕ} (t : Turn m b q 6) where
         (working (noted .after) (busy-home (home 10) 10 (omega arith) (rw o (rw o at (has-step t)))) (early-then (home 10) refl, record { heads = home-heads; exact = lev-is }))
 
     -- To 9, for a find.
-    is-in : b .contents (t .entered .key) ≡ settingIn (me t .key) (entriesOf page ++ entriesOn (m .pages) over)
+    is-in : settingIn (t .entered .key) (b .contents) ≡ settingIn (me t .key) (entriesOf page ++ entriesOn (m .pages) over)
     unfolding entriesOn
     is-in =
-        ap (b .contents) (t .busy .same-key) ∙ t .inv .book-ok .same (me t .key)
+        ap (λ (k : ℕ). settingIn k (b .contents)) (t .busy .same-key) ∙ t .inv .book-ok .same (me t .key)
         ∙ ap (λ (c : ℕ). settingIn (me t .key) (t .inv .ghost .records c))
         (home-is (m .root .originals) (t .inv .ghost .live) (me t .chain) (end .lev) (me t .key) (t .inv .limits .some-original) (omega (arith, t .inv .extents-ok .live-next)) home-heads lev-is)
         ∙ ap (settingIn (me t .key)) (sym (chain-entries (m .root .capacity) (m .pages) (me t .chain) top (t .inv .ghost .records (me t .chain)) over chain-is))

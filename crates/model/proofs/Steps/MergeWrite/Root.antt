@@ -210,7 +210,7 @@ module _ {m : Memory} {b : Book} {q : ℕ} (t : Turn m b q 27) where
     extents = extents-then;
     locks = locks-ok;
     pages = pages-then;
-    book = record { same = t .inv .book-ok .same };
+    book = record { ascends = t .inv .book-ok .ascends; same = t .inv .book-ok .same };
     self = working (t .entered) busy-then (joined-then, moved-back);
     others = keeps;
   }

@@ -410,7 +410,7 @@ module _ {m : Memory} {b : Book} {q : ℕ} (t : Turn m b q 28) where
 
   book-ok-then : BookOk (m .root) ghost-then b
   unfolding home home-then
-  book-ok-then = record { same = λ k. t .inv .book-ok .same k ∙ sym (same-settings k (cmp (home-then k) here)) }
+  book-ok-then = record { ascends = t .inv .book-ok .ascends; same = λ k. t .inv .book-ok .same k ∙ sym (same-settings k (cmp (home-then k) here)) }
 
   -- ---- The party at 29
 

@@ -20,7 +20,7 @@ use Rattle.model.specs.declared.Entry.{Entry}
 use Rattle.model.specs.Entries.{hasKey, ascending, settingIn}
 use Rattle.model.specs.Pages.{pageOf, withPage, scratchPage, primaryPage, linkToFirst, pageSound}
 use Rattle.model.specs.Memory.{Memory, partyAt, viewOf}
-use Rattle.model.specs.Book.{Book, Entered, isIn, changedAt, withEntry, withContent, noted, noteAtEleven, contentAtEleven, noteStep, noteFor}
+use Rattle.model.specs.Book.{Book, Entered, changedAt, withEntry, withContents, noted, noteAtEleven, contentsAtEleven, noteStep, noteFor}
 use Rattle.model.specs.Holds.{sameMode}
 use Rattle.model.specs.LockRequests.{modeOf}
 use Rattle.model.specs.Steps.Rebuild.{splitOwed, mergeOwed, owedBy}
@@ -30,7 +30,7 @@ use Rattle.model.specs.Steps.Dispatch.{hasStep}
 use Rattle.model.specs.Answers.{answerOf}
 use Rattle.model.proofs.Laws.Lists.{Cmp, same, diff, cmp, eqb-same, eqb-diff}
 use Rattle.model.proofs.Laws.Structure.{ChainIs}
-use Rattle.model.proofs.Laws.Changes.{ChangeMade, change-made, keys-kept}
+use Rattle.model.proofs.Laws.Changes.{settingAfter, setting-eleven, ascends-eleven, ChangeMade, change-made, change-ascends, change-settings, keys-kept}
 use Rattle.model.proofs.Invariant.Ghost.{Owner, owner, free, inChain, oldOf, partnerOf, builtBy, newBy, size, localLevel, sameOwner, Ghost}
 use Rattle.model.proofs.Invariant.Owners.{kinds-apart, indices-apart, ownAnew, heldAnew, anew-chain, anew-old, anew-built, anew-other, owned-anew, own-anew-old, own-anew-other, kinds-anew}
 use Rattle.model.proofs.Invariant.Extents.{home-is}
@@ -45,7 +45,7 @@ use Rattle.model.proofs.Effects.Kept.{Kept, row-other, row-chain, Parts
 use Rattle.model.proofs.Effects.OwnRecord.{same-limits, same-sizes}
 use Rattle.model.proofs.Effects.PrimaryPage.{held-alone, length-scratch, built-sound, primary-off, primary-same, primary-long, written-here, written-beside, old-linked, free-beside, read-beside}
 use Rattle.model.proofs.Effects.Moves.{extents-rest}
-use Rattle.model.proofs.Laws.Entries.{has-setting}
+use Rattle.model.proofs.Laws.Entries.{has-same}
 
 -- What a change owes is one of the things that may be owed.
 owed-may : (n before now : ℕ) (es : List Entry) → hasStep n 11 ≡ true → owedFits n (owedBy n before now es) ≡ true
@@ -121,13 +121,13 @@ module _ {m : Memory} {b : Book} {q : ℕ} (t : Turn m b q 11) where
   }
 
   abbrev was-in : Bool
-  was-in = isIn (b .contents (entered .key))
+  was-in = hasKey (entered .key) (b .contents)
 
   abbrev entry-then : Entered
   entry-then = noted entered (noteAtEleven (entered .operation) was-in)
 
   abbrev book-then : Book
-  book-then = withContent (withEntry b q (some entry-then)) (entered .key) (contentAtEleven (entered .operation) (b .contents (entered .key)))
+  book-then = withContents (withEntry b q (some entry-then)) (contentsAtEleven (entered .operation) (entered .key) (b .contents))
 
   abbrev then-scene : Scene
   then-scene = record { root = m .root; parties = set (m .parties) q then-party; pages = pages-then; ghost = ghost-then; entries = book-then .entries }
@@ -229,7 +229,7 @@ module _ {m : Memory} {b : Book} {q : ℕ} (t : Turn m b q 11) where
       }
     where
       ascends-then : (d : ℕ) → d < size (m .root .originals) (t .inv .ghost .live) → Cmp d here → ascending (ghost-then .records d) ≡ true
-      ascends-then d l (same e) = rw (changed-here (t .inv .ghost .records) here after d e) (change .ascends (t .inv .pages-ok .ascends here live-here))
+      ascends-then d l (same e) = rw (changed-here (t .inv .ghost .records) here after d e) (change-ascends change (t .inv .pages-ok .ascends here live-here))
       ascends-then d l (diff n) = rw (changed-elsewhere (t .inv .ghost .records) here after d n) (t .inv .pages-ok .ascends d l)
 
   -- ---- The book
@@ -243,32 +243,36 @@ module _ {m : Memory} {b : Book} {q : ℕ} (t : Turn m b q 11) where
       home-is (m .root .originals) (t .inv .ghost .live) here (me t .lev) (me t .key) (t .inv .limits .some-original) (omega (arith, t .inv .extents-ok .live-next)) (facts .at-home .heads) (facts .at-home .exact)
 
   -- The book has of the operation's key what the chain has.
-  was-there : b .contents (entered .key) ≡ settingIn (me t .key) (t .inv .ghost .records here)
+  was-there : settingIn (entered .key) (b .contents) ≡ settingIn (me t .key) (t .inv .ghost .records here)
   unfolding home
   was-there =
-      ap (b .contents) (t .busy .same-key) ∙ t .inv .book-ok .same (me t .key) ∙ ap (λ (c : ℕ). settingIn (me t .key) (t .inv .ghost .records c)) home-here
+      ap (λ (k : ℕ). settingIn k (b .contents)) (t .busy .same-key) ∙ t .inv .book-ok .same (me t .key) ∙ ap (λ (c : ℕ). settingIn (me t .key) (t .inv .ghost .records c)) home-here
 
   book-ok-then : BookOk (m .root) ghost-then book-then
   unfolding home
-  book-ok-then = record { same = λ k. go k (cmp k (entered .key)) (cmp (home k) here) }
+  book-ok-then = record {
+    ascends = ascends-eleven (entered .operation) (entered .key) (b .contents) (t .inv .book-ok .ascends);
+    same = λ k. setting-eleven (entered .operation) (entered .key) (b .contents) k ∙ go k (cmp k (entered .key)) (cmp (home k) here);
+  }
     where
-      go : (k : ℕ) → Cmp k (entered .key) → Cmp (home k) here → book-then .contents k ≡ settingIn k (ghost-then .records (home k))
+      go : (k : ℕ) → Cmp k (entered .key) → Cmp (home k) here
+          → cond (eqb k (entered .key)) (settingAfter (entered .operation) (settingIn (entered .key) (b .contents))) (settingIn k (b .contents)) ≡ settingIn k (ghost-then .records (home k))
       go k (same e) h =
           let mine : k ≡ me t .key = e ∙ t .busy .same-key in
           let there : home k ≡ here = ap home mine ∙ home-here in
-          rw (changed-here (b .contents) (entered .key) _ k e, changed-here (t .inv .ghost .records) here after (home k) there, change .settings k, eqb-same k (me t .key) mine)
-          (ap (contentAtEleven (entered .operation)) was-there)
+          rw (eqb-same k (entered .key) e, changed-here (t .inv .ghost .records) here after (home k) there, change-settings change k, eqb-same k (me t .key) mine)
+          (ap (settingAfter (entered .operation)) was-there)
       go k (diff n) (same h) =
-          rw (changed-elsewhere (b .contents) (entered .key) _ k n, changed-here (t .inv .ghost .records) here after (home k) h)
+          rw (eqb-diff k (entered .key) n, changed-here (t .inv .ghost .records) here after (home k) h)
           (t .inv .book-ok .same k ∙ ap (λ (c : ℕ). settingIn k (t .inv .ghost .records c)) h
-          ∙ sym (change .settings k ∙ (rw (eqb-diff k (me t .key) (λ e. n (e ∙ sym (t .busy .same-key)))))))
+          ∙ sym (change-settings change k ∙ (rw (eqb-diff k (me t .key) (λ e. n (e ∙ sym (t .busy .same-key)))))))
       go k (diff n) (diff h) =
-          rw (changed-elsewhere (b .contents) (entered .key) _ k n, changed-elsewhere (t .inv .ghost .records) here after (home k) h) (t .inv .book-ok .same k)
+          rw (eqb-diff k (entered .key) n, changed-elsewhere (t .inv .ghost .records) here after (home k) h) (t .inv .book-ok .same k)
 
   -- The note is the answer: the key was in exactly where it was on the chain.
   noted-then : entry-then .note ≡ some (answerOf (me t .answer))
   noted-then =
-      ap some (ap (noteAtEleven (entered .operation)) (ap isIn was-there ∙ has-setting (me t .key) (t .inv .ghost .records here)) ∙ change .noted)
+      ap some (ap (noteAtEleven (entered .operation)) (has-same (entered .key) (me t .key) (b .contents) (t .inv .ghost .records here) was-there) ∙ change .noted)
 
   -- ---- The party at 12
 
