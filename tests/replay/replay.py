@@ -24,6 +24,8 @@ CHECKS = [
     "Withdrawals.withdrawnUnwritten NoPage.noneWrote (Runs.events m calls)",
     "FittingMerges.mergesFit FittingMerges.nothingHad m calls",
     "TakenUp.alwaysTaken (m .root .parties) Book.emptyBook m calls",
+    "CallsBounded.callsBounded (CallsBounded.mostCalls (m .root)) CallsBounded.noneCounted (Runs.events m calls)",
+    "CallsBounded.callsBounded (CallsBounded.mostBySizes (m .root)) CallsBounded.noneCounted (Runs.events m calls)",
 ]
 
 # The fields of a root record and of a party's record, in the order of the words in a file of single calls.

@@ -7,6 +7,7 @@ pub mod LockMoves
 pub mod Statement
 pub mod Frame
 pub mod Facts
+pub mod Ahead
 pub mod Turn
 pub mod Extents
 pub mod Advance

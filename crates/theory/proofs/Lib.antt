@@ -23,6 +23,9 @@ pub mod FittingMerges
 pub mod StepReads
 pub mod Singly
 pub mod Linearization
+pub mod CallsRefused
+pub mod CallsLeft
+pub mod CallsBounded
 pub mod Settings
 pub mod Withdrawals
 pub mod Demands

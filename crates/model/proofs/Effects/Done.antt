@@ -27,7 +27,7 @@ use Rattle.model.proofs.Invariant.Statement.{ExtentsOk, NoPages, restin
 use Rattle.model.proofs.Invariant.Frame.{named, later}
 use Rattle.model.proofs.Invariant.Facts.{no-pages-held}
 use Rattle.model.proofs.Invariant.Turn.{Plain, Turn, before, claimsAt, its-claims, me, note-still, notesAt, owns-no-old, uses-none, usesAt}
-use Rattle.model.proofs.Effects.Kept.{Kept, assemble}
+use Rattle.model.proofs.Effects.Kept.{Kept, Parts, assemble, ahead-stays}
 use Rattle.model.proofs.Effects.ScratchPage.{scratch-same, scratch-parts}
 use Rattle.model.proofs.Effects.GiveUps.{Apart, given-up-rest, held-all, release-all}
 use Rattle.model.proofs.Laws.Answers.{same-answer}
@@ -61,11 +61,10 @@ module _ {m : Memory} {b : Book} {q k : ℕ} (t : Turn m b q k) {a : OperationAn
   still : noteFor b q (b .entries q) (me t .step) ≡ b
   still = note-still t (or-neither (notesAt k) (usesAt k) (x .plain) .0)
 
-  done-inv : Inv (record { root = m .root; parties = set (m .parties) q idle; locks = givenUp cs (viewOf m q) .locks; pages = withPage (m .pages) (scratchPage (m .root) q) zeroPage }) (withEntry b q none)
+  done-parts : Parts m b (t .inv) q (m .root) (givenUp cs (viewOf m q) .locks) (withPage (m .pages) (scratchPage (m .root) q) zeroPage) idle (withEntry b q none) (t .inv .ghost)
   unfolding claims changedAt
-  done-inv =
-      assemble m b (t .inv) q (t .in-row) (m .root) _ _ idle (withEntry b q none) (t .inv .ghost)
-      (scratch-parts t zeroPage length-zeroPage idle (withEntry b q none) (givenUp cs (viewOf m q) .locks)
+  done-parts =
+      scratch-parts t zeroPage length-zeroPage idle (withEntry b q none) (givenUp cs (viewOf m q) .locks)
       (record {
         entries= = λ j n. rw (eqb-diff j q n) refl;
         contents= = refl;
@@ -74,7 +73,10 @@ module _ {m : Memory} {b : Book} {q k : ℕ} (t : Turn m b q k) {a : OperationAn
         extents = x .extents;
         locks = release-all t idle refl cs has (x .apart) (x .fit) claimed-all;
         self = resting refl (rw (eqb-same q q refl) refl) (no-pages-held _ _ q refl (x .no-pages)) (scratch-same m b (t .inv) q (t .in-row) zeroPage length-zeroPage);
-      }))
+      })
+
+  done-inv : Inv (record { root = m .root; parties = set (m .parties) q idle; locks = givenUp cs (viewOf m q) .locks; pages = withPage (m .pages) (scratchPage (m .root) q) zeroPage }) (withEntry b q none)
+  done-inv = assemble m b (t .inv) q (t .in-row) (m .root) _ _ idle (withEntry b q none) (t .inv .ghost) done-parts
 
   pub done-kept : (s : Restructuring) → Kept m b q (done a s (givenUp cs (viewOf m q)))
   unfolding refusalNumber agreesWith afterReply isNote isNoteOf
@@ -84,6 +86,7 @@ module _ {m : Memory} {b : Book} {q k : ℕ} (t : Turn m b q k) {a : OperationAn
         allowed = refl;
         right = rw (still, t .busy .entry, x .noted, same-answer a) refl;
         inv = rw still done-inv;
+        framed = ahead-stays m b (t .inv) q (t .in-row) (m .root) _ _ idle (withEntry b q none) (t .inv .ghost) done-parts;
       })
 
 -- Step 16, 17, 24, 26 or 30: all locks are given up, and the answer is that of the record.

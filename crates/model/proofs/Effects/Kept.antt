@@ -1,7 +1,7 @@
--- What is owed of a step: it is not refused, it agrees with the book, and the invariant holds after it; and how
--- the parts of the invariant are put together again.
+-- What is owed of a step: it is not refused, it agrees with the book, the invariant holds after it, and no other find
+-- has more pages yet to copy; and how the parts of the invariant are put together again.
 -- Main statements: Kept; row-same, row-other, row-chain (the row after one record changed); ExtentsStay and
--- extents-move, ExtentsByOne and extents-by-one, extents-leave; assemble; waits-kept (a waiting call), moved-kept (a
+-- extents-move, ExtentsByOne and extents-by-one, extents-leave; assemble, ahead-stays; waits-kept (a waiting call), moved-kept (a
 -- step that moves).
 use mathlib.Core.Path.{_≡_, refl, sym, ap, _∙_}
 use mathlib.Core.Logic.{_≢_}
@@ -26,6 +26,7 @@ use Rattle.model.proofs.Invariant.Ghost.{Extent, rootExtent, size, Ghos
 use Rattle.model.proofs.Invariant.Claims.{LocksOk, claimed}
 use Rattle.model.proofs.Invariant.Statement.{Limits, restructures, liveFor, lowFor, ExtentsOk, PagesOk, BookOk, NoPages, PartyOk, sceneOf, Inv}
 use Rattle.model.proofs.Invariant.Frame.{SameLimits, SameSizes, Keeps, party-frame, none-kept}
+use Rattle.model.proofs.Invariant.Ahead.{AheadStays, ahead-kept}
 use Rattle.model.proofs.Invariant.Turn.{Turn, restructures-now, restructuresAt, row-long}
 use Rattle.model.proofs.Invariant.Restructurer.{others-rest}
 
@@ -34,6 +35,8 @@ pub record Kept (m : Memory) (b : Book) (q : ℕ) (o : Outcome) : Type 0 where
   pub allowed : refusalNumber (o .answer) ≡ 0
   pub right : agreesWith b q (partyAt (m .parties) q .step) (o .answer) ≡ true
   pub inv : Inv (afterStep m (o .after)) (afterReply b q (partyAt (m .parties) q .step) (o .answer))
+  -- Another party at 9 has as many pages yet to copy.
+  pub framed : AheadStays m q (o .after .root) (o .after .pages)
 
 -- ---- The row of parties after one record changed
 
@@ -201,6 +204,10 @@ module _ (m : Memory) (b : Book) (i : Inv m b) (q : ℕ) (in-row : q < m .root .
     strangers = each-stranger;
   }
 
+  -- What other finds have yet to copy stays.
+  pub ahead-stays : AheadStays m q t ps
+  ahead-stays j n l nine = ahead-kept m b i j l nine _ (x .others j n)
+
 -- ---- A waiting call
 
 pub waits-kept : (m : Memory) (b : Book) (q : ℕ) → Inv m b → Kept m b q (waits (viewOf m q))
@@ -209,6 +216,7 @@ waits-kept m b q i = record {
   allowed = refl;
   right = refl;
   inv = rw (set-getD (m .parties) q idle) i;
+  framed = λ j _ _ _. refl;
 }
 
 -- ---- A step that moves
@@ -222,4 +230,5 @@ moved-kept {m} {b} {c} {q} {k} {r} {ls} {ps} {p} {h} t noted x = record {
   allowed = refl;
   right = refl;
   inv = rw noted (assemble m b (t .inv) q (t .in-row) r ls ps p c h x);
+  framed = ahead-stays m b (t .inv) q (t .in-row) r ls ps p c h x;
 }

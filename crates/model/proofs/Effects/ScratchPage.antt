@@ -23,11 +23,12 @@ use Rattle.model.specs.Answers.{foundOrAbsent}
 use Rattle.model.proofs.Laws.Lists.{eqb-diff, eqb-false, or-neither, first-or-rest}
 use Rattle.model.proofs.Laws.Pages.{Has, length-withPage, page-same, page-other}
 use Rattle.model.proofs.Laws.Structure.{Linked, SameOn, linked-frame, free-frame}
-use Rattle.model.proofs.Invariant.Ghost.{Owner, nobody, free, inChain, oldOf, count}
+use Rattle.model.proofs.Invariant.Ghost.{Owner, nobody, free, oldOf, count}
 use Rattle.model.proofs.Invariant.Owners.{overflow-bounds, member-of-own, kinds-apart, same-from}
-use Rattle.model.proofs.Invariant.Statement.{Scene, NoPages, Protected, in-chain, in-old, Walking, Inv, sceneOf}
+use Rattle.model.proofs.Invariant.Statement.{Scene, NoPages, Protected, Walking, Inv, sceneOf}
 use Rattle.model.proofs.Invariant.Frame.{entries-frame}
 use Rattle.model.proofs.Invariant.Facts.{no-pages-held}
+use Rattle.model.proofs.Invariant.Ahead.{protected-overflow}
 use Rattle.model.proofs.Invariant.Turn.{Turn, before, owns-no-old, row-long}
 use Rattle.model.proofs.Effects.Kept.{Parts}
 use Rattle.model.proofs.Effects.OwnRecord.{same-sizes, protected-row, OwnChange}
@@ -43,8 +44,7 @@ module _ (m : Memory) (b : Book) (i : Inv m b) (q : ℕ) (in-row : q < m .root .
 
   -- A page that a reader may walk is an overflow page.
   pub protected-bounds : (d x : ℕ) → Protected (sceneOf m (i .ghost) b) d x → (m .root .primaries ≤ x) × (x < m .root .primaries + m .root .overflow)
-  protected-bounds d x (in-chain e) = i .pages-ok .owned .inside x (rw e (kinds-apart (inChain d) nobody refl))
-  protected-bounds d x (in-old j e n) = i .pages-ok .owned .inside x (rw e (kinds-apart (oldOf j) nobody refl))
+  protected-bounds d x h = let z = protected-overflow m b i d x h in (z .above, z .below)
 
   -- The scratch page is written with the words w.
   module _ (w : List ℕ) (whole : length w ≡ pageWords) where

@@ -1,5 +1,5 @@
 -- Laws of extents: local levels, what one split more leaves of every chain, and where the hash functions of a key lead.
--- Main statements: level-fits, local-most; local-low, local-high, local-split, local-made, local-rest; advance-grows, raised-grows (every chain stays and no local level falls);
+-- Main statements: level-fits, local-most, local-fits; local-low, local-high, local-split, local-made, local-rest; advance-grows, raised-grows (every chain stays and no local level falls);
 -- outgrown-heads, next-heads, located-heads, chasing-heads (where the hash functions of a key lead), home-is (where they end); key-home, away-absent (a key is on its home
 -- alone); restructurer; root-grows-low, low-grows-live.
 use mathlib.Core.Path.{_≡_, refl, sym, ap, _∙_, subst}
@@ -20,7 +20,7 @@ use Rattle.model.specs.Pages.{mostLevel}
 use Rattle.model.specs.Memory.{Memory, partyAt}
 use Rattle.model.specs.Book.{Book}
 use Rattle.model.proofs.Laws.Lists.{Told, holds, fails, tell, Ord, lt, ge, ord, cond-ind, eqb-true, ltb-true, lt-ltb, le-ltb, le-leb, lt-leb}
-use Rattle.model.proofs.Laws.Addresses.{span-next, hash-lt, hash-next}
+use Rattle.model.proofs.Laws.Addresses.{span-next, span-pos, hash-lt, hash-next}
 use Rattle.model.proofs.Invariant.Ghost.{Extent, extent, rootExtent, size, advance, localLevel, Ghost}
 use Rattle.model.proofs.Invariant.Statement.{restructures, liveFor, lowFor, ExtentsOk, Heads, Chasing, Inv}
 use Rattle.model.proofs.Invariant.Frame.{StaysLive}
@@ -80,6 +80,22 @@ local-most {m} i c =
       local-high (m .root .originals) (i .ghost .live) c,
       level-fits (m .root .originals) (i .ghost .live) (i .limits .some-original) (omega (arith, i .extents-ok .live-fits, i .limits .chains-fit)),
     )
+
+-- Where there is room for p chains, and n doubled r times are p or more, it is at most r: a chain of local level i + 1 has a partner at n × 2^i or above.
+pub local-fits : (n r p : ℕ) (e : Extent) (c : ℕ) → 1 ≤ n → p ≤ span n r → size n e ≤ p → c < size n e → localLevel n e c ≤ r
+local-fits n r p e c some room fits inside = go (ord (e .level) r)
+  where
+    -- No chain has split at the highest level.
+    highest : r ≤ e .level → Ord r (e .level) → localLevel n e c ≤ r
+    highest h (lt l _) =
+        absurd (omega (arith, some, span-grows n (r + 1) (e .level) (omega (arith, l)), span-next n r, span-pos n r some, size-is n e, room, fits))
+    highest h (ge l _) =
+        let k = span-grows n r (e .level) h in
+        omega (arith, l, local-rest n e c (omega (arith, k, size-is n e, room, fits)) (omega (arith, k, size-is n e, room, fits, inside)))
+
+    go : Ord (e .level) r → localLevel n e c ≤ r
+    go (lt h _) = omega (arith, local-high n e c)
+    go (ge h _) = highest h (ord r (e .level))
 
 -- ---- An extent that grows
 

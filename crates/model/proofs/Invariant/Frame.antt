@@ -149,7 +149,7 @@ later c cs i m h = rw (h, or-true (eqb (c .word) i && sameMode (c .mode) m)) ref
 -- ---- The frame of each fact
 
 module _ (s t : Scene) (j : ℕ) (p : Party) (k : Keeps s t j p) where
-  linked-kept : (xs : List ℕ) → SameOn (s .pages) (t .pages) xs → Linked (s .root) (s .pages) xs → Linked (t .root) (t .pages) xs
+  pub linked-kept : (xs : List ℕ) → SameOn (s .pages) (t .pages) xs → Linked (s .root) (s .pages) xs → Linked (t .root) (t .pages) xs
   linked-kept xs a h = linked-sizes (s .root) (t .root) (k .sizes) (t .pages) xs (linked-frame (s .root) (s .pages) (t .pages) xs a h)
 
   built-kept : NothingBuilt s j → NothingBuilt t j
@@ -190,7 +190,7 @@ module _ (s t : Scene) (j : ℕ) (p : Party) (k : Keeps s t j p) where
   }
 
   -- The pages of a walk, one by one.
-  walk-same : p .step ≡ 9 → (xs : List ℕ) → ((x : ℕ) → isAmong x xs ≡ true → Protected s (p .chain) x) → SameOn (s .pages) (t .pages) xs
+  pub walk-same : p .step ≡ 9 → (xs : List ℕ) → ((x : ℕ) → isAmong x xs ≡ true → Protected s (p .chain) x) → SameOn (s .pages) (t .pages) xs
   unfolding isAmong
   walk-same e [] f = tt
   walk-same e (x ∷ xs) f = (k .reading x e (f x (rw (eq-eqb x x refl) refl)) .1, walk-same e xs (λ y h. f y (rw h (or-true (eqb x y)))))

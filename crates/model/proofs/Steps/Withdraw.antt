@@ -38,8 +38,9 @@ use Rattle.model.proofs.Invariant.Owners.{owns-nothing, kinds-apart}
 use Rattle.model.proofs.Invariant.Claims.{claimed}
 use Rattle.model.proofs.Invariant.LockMoves.{locks-root}
 use Rattle.model.proofs.Invariant.Statement.{restructures, NothingOld, Early, resting, Inv}
+use Rattle.model.proofs.Invariant.Ahead.{AheadStays}
 use Rattle.model.proofs.Invariant.Turn.{Turn, before, claimsAt, its-claims, me, uses-none, usesAt, restructuresAt}
-use Rattle.model.proofs.Effects.Kept.{assemble, Parts}
+use Rattle.model.proofs.Effects.Kept.{assemble, ahead-stays, Parts}
 use Rattle.model.proofs.Effects.Moves.{extents-rest}
 use Rattle.model.proofs.Effects.Touch.{own-scratch}
 use Rattle.model.proofs.Effects.Done.{claims-claimed}
@@ -217,6 +218,8 @@ module _ (m : Memory) (b : Book) (q : ℕ) where
 pub record WithdrawKept (m : Memory) (b : Book) (q : ℕ) : Type 0 where
   pub accepted : withdrawn (viewOf m q) .answer ≡ WithdrawAnswer.Withdrawn
   pub inv : Inv (afterStep m (withdrawn (viewOf m q) .after)) (withEntry b q none)
+  -- Another party at 9 has as many pages yet to copy.
+  pub framed : AheadStays m q (withdrawn (viewOf m q) .after .root) (withdrawn (viewOf m q) .after .pages)
 
 module _ {m : Memory} {b : Book} {q k : ℕ} (t : Turn m b q k) (x : Undecided t (claimsAt k (me t))) where
   abbrev builts : List ℕ
@@ -298,6 +301,7 @@ module _ {m : Memory} {b : Book} {q k : ℕ} (t : Turn m b q k) (x : Undecided t
   kept = record {
     accepted = ap (λ (o : Withdrawal). o .answer) goes-ahead;
     inv = rw goes-ahead (assemble m b (t .inv) q (t .in-row) root-then locks-then pages-then idle (withEntry b q none) ghost-then parts-then);
+    framed = rw goes-ahead (ahead-stays m b (t .inv) q (t .in-row) root-then locks-then pages-then idle (withEntry b q none) ghost-then parts-then);
   }
 
 pub withdraw-kept : {m : Memory} {b : Book} {q k : ℕ} (t : Turn m b q k) → isDecided (me t) ≡ false → WithdrawKept m b q

@@ -34,7 +34,7 @@ use Rattle.model.proofs.Invariant.LockMoves.{locks-root}
 use Rattle.model.proofs.Invariant.Statement.{restructures, Scene, NoPages, PartyOk, resting, working, Settled, factsAt, Inv}
 use Rattle.model.proofs.Invariant.Turn.{Turn, claimsAt, me, note-still, uses-none, restructuresAt}
 use Rattle.model.proofs.Invariant.Frame.{restructures-at}
-use Rattle.model.proofs.Effects.Kept.{Kept, assemble, Parts, moved-kept}
+use Rattle.model.proofs.Effects.Kept.{Kept, assemble, ahead-stays, Parts, moved-kept}
 use Rattle.model.proofs.Effects.Moves.{busy-onto, names-old, split-owed, merge-owed, extents-rest}
 use Rattle.model.proofs.Effects.Touch.{own-scratch}
 use Rattle.model.proofs.Effects.Releases.{release-locks, Holds, holds-it, held-one}
@@ -133,11 +133,10 @@ module _ {m : Memory} {b : Book} {q : ℕ} (t : Turn m b q 14) where
       }))
 
   -- Or done: the record and the scratch page are zeroed, the entry goes.
-  finishes : Inv (record { root = root-then; parties = set (m .parties) q idle; locks = locks-then; pages = withPage given (scratchPage (m .root) q) zeroPage }) (withEntry b q none)
+  last-parts : Parts m b (t .inv) q root-then locks-then (withPage given (scratchPage (m .root) q) zeroPage) idle (withEntry b q none) ghost-then
   unfolding restructures changedAt
-  finishes =
-      assemble m b (t .inv) q (t .in-row) root-then locks-then (withPage given (scratchPage (m .root) q) zeroPage) idle (withEntry b q none) ghost-then
-      (given-parts (withPage given (scratchPage (m .root) q) zeroPage) idle (withEntry b q none)
+  last-parts =
+      given-parts (withPage given (scratchPage (m .root) q) zeroPage) idle (withEntry b q none)
       (record {
         long = length-withPage given (scratchPage (m .root) q) zeroPage has-scratch length-zeroPage;
         off = λ x n. page-other given (scratchPage (m .root) q) zeroPage has-scratch length-zeroPage x n;
@@ -146,10 +145,14 @@ module _ {m : Memory} {b : Book} {q : ℕ} (t : Turn m b q 14) where
         entries= = λ j n. rw (eqb-diff j q n) refl;
         contents= = refl;
         self = resting refl (rw (eqb-same q q refl) refl) (no-pages-then _ refl) (page-same given (scratchPage (m .root) q) zeroPage has-scratch length-zeroPage);
-      }))
+      })
     where
       has-scratch : Has given (scratchPage (m .root) q)
       has-scratch = record { fits = omega (arith, given-long t oldKinds olds all-mine, t .inv .pages-many) }
+
+  finishes : Inv (record { root = root-then; parties = set (m .parties) q idle; locks = locks-then; pages = withPage given (scratchPage (m .root) q) zeroPage }) (withEntry b q none)
+  finishes =
+      assemble m b (t .inv) q (t .in-row) root-then locks-then (withPage given (scratchPage (m .root) q) zeroPage) idle (withEntry b q none) ghost-then last-parts
 
   pub step14-kept : Kept m b q (step14 (viewOf m q))
   unfolding step14 oldGivenBack roomToGiveBack pagesGivenBack givenUp withoutHold onward finished refusalNumber agreesWith afterReply isNoteOf isNote hasStep
@@ -163,4 +166,5 @@ module _ {m : Memory} {b : Book} {q : ℕ} (t : Turn m b q 14) where
         allowed = refl;
         right = rw (note-still t refl, t .busy .entry, t .facts .leaving .noted, same-answer (answerOf (me t .answer))) refl;
         inv = rw (note-still t refl) finishes;
+        framed = ahead-stays m b (t .inv) q (t .in-row) root-then locks-then (withPage given (scratchPage (m .root) q) zeroPage) idle (withEntry b q none) ghost-then last-parts;
       })))
