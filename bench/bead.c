@@ -43,6 +43,8 @@ struct answer map_perform(uint32_t operation, uint32_t key, uint32_t setting)
     return answer;
 }
 
+int map_take_up(void) { return bead_take_up(LENT) == BEAD_OK; }
+
 /* One call a party, round and round, until all operations are done. */
 uint32_t map_in_turn(const struct operation *list, uint32_t many, uint32_t turns)
 {

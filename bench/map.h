@@ -32,4 +32,7 @@ struct answer map_perform(uint32_t operation, uint32_t key, uint32_t setting);
  * Weak, since only a contender that has parties defines it. */
 __attribute__((weak)) uint32_t map_in_turn(const struct operation *list, uint32_t many, uint32_t parties);
 
+/* Takes the map up as a saved file: whether it passes. Weak, since only the index can be taken up. */
+__attribute__((weak)) int map_take_up(void);
+
 #endif

@@ -2,12 +2,14 @@
  * allocates nothing and makes every test of the refusal table, so it is the measure of what the library costs: a
  * contender of bench/run and bench/count. tests/comparison compares it with the library, reply and every word.
  *
- *   port/memory.h  mixed keys, pages, chains, the free list
- *   port/locks.h   replies, lock words, Table I
- *   port/steps.h   the steps
+ *   port/memory.h   mixed keys, pages, chains, the free list
+ *   port/locks.h    replies, lock words, Table I
+ *   port/steps.h    the steps
+ *   port/take_up.h  what a saved file must be
  *
  * A step that rebuilds a chain gathers its records in a buffer, changes them there and writes pages of fixed size. */
 #include "port/steps.h"
+#include "port/take_up.h"
 
 /* What every call is lent. */
 #define LENT \
@@ -223,4 +225,16 @@ uint32_t bead_withdraw(LENT, uint32_t q)
         return BEAD_DAMAGE;
     zero_party(r, pages, me, q);
     return BEAD_OK;
+}
+
+/* ---- Take-up */
+
+uint32_t bead_take_up(const root *r, const party *parties, size_t party_count, const uint32_t *locks, size_t lock_words,
+                      const uint32_t *pages, size_t page_words)
+{
+    uint32_t refusal = fit(r, LENGTHS);
+    if (refusal)
+        return refusal;
+    int at_rest = all_zero(&parties->operation, r->parties * sizeof *parties / 4) && all_zero(locks, lock_words);
+    return at_rest && root_sound(r) && pages_saved(r, pages) ? BEAD_OK : BEAD_UNSAVED_REFUSED;
 }

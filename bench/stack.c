@@ -25,25 +25,31 @@ enum { PAGE_LEVEL, PAGE_COUNT, PAGE_LINK, PAGE_RECORDS };
     struct bead_root *root, struct bead_party *party_row, size_t parties, uint32_t *locks, size_t lock_words, \
         uint32_t *pages, size_t page_words
 
+#define LOOKED_AT \
+    const struct bead_root *root, const struct bead_party *party_row, size_t parties, const uint32_t *locks, \
+        size_t lock_words, const uint32_t *pages, size_t page_words
+
 /* The calls: the library's, and those that do nothing. */
 struct calls {
     uint32_t (*format)(PARAMETERS, uint32_t n, uint32_t b, uint32_t p, uint32_t v, uint32_t q);
     uint32_t (*begin)(PARAMETERS, uint32_t party, uint32_t operation, uint32_t key, uint32_t setting);
     struct bead_reply (*step)(PARAMETERS, uint32_t party);
     uint32_t (*withdraw)(PARAMETERS, uint32_t party);
+    uint32_t (*take_up)(LOOKED_AT);
 };
 
 static uint32_t no_format(PARAMETERS, uint32_t n, uint32_t b, uint32_t p, uint32_t v, uint32_t q) { return 0; }
 static uint32_t no_begin(PARAMETERS, uint32_t party, uint32_t operation, uint32_t key, uint32_t setting) { return 0; }
 static struct bead_reply no_step(PARAMETERS, uint32_t party) { return (struct bead_reply){0}; }
 static uint32_t no_withdraw(PARAMETERS, uint32_t party) { return 0; }
+static uint32_t no_take_up(LOOKED_AT) { return 0; }
 
-static const struct calls library = {bead_format, bead_begin, bead_step, bead_withdraw};
-static const struct calls empty = {no_format, no_begin, no_step, no_withdraw};
+static const struct calls library = {bead_format, bead_begin, bead_step, bead_withdraw, bead_take_up};
+static const struct calls empty = {no_format, no_begin, no_step, no_withdraw, no_take_up};
 
 /* ---- One call on a stack of its own */
 
-enum call { STEP, FORMAT, BEGIN, WITHDRAW };
+enum call { STEP, FORMAT, BEGIN, WITHDRAW, TAKE_UP };
 
 /* The memory lent to a call, the call, and its reply. */
 static struct file {
@@ -69,6 +75,7 @@ static void perform(void)
     case FORMAT: reply.refusal = called->format(LENT, N, B, P, V, Q); break;
     case BEGIN: reply.refusal = called->begin(LENT, PARTY, BEAD_INSERT, 7, 5); break;
     case WITHDRAW: reply.refusal = called->withdraw(LENT, PARTY); break;
+    case TAKE_UP: reply.refusal = called->take_up(LENT); break;
     }
 }
 
@@ -221,6 +228,17 @@ static void craft(const uint32_t *way, uint32_t step, uint32_t overflow)
         lent.locks[i] = 1u << PARTY | (PARTY + 1) << 16 | (PARTY + 1) << 21;
 }
 
+/* A file at rest, of one chain with so many overflow pages. */
+static void craft_saved(const uint32_t *way, uint32_t overflow)
+{
+    memset(&lent, 0, sizeof lent);
+    lent.root = (struct bead_root){N, B, P, V, Q, 0, 0, 0, 0};
+    put_chain(way, 0, P + 1, overflow);
+    page_at(0)[PAGE_LEVEL] = 0;
+    if (overflow < V)
+        put_free(P + 1 + overflow);
+}
+
 /* ---- Measuring */
 
 static size_t max(size_t a, size_t b) { return a > b ? a : b; }
@@ -232,7 +250,10 @@ static size_t most(const char *name, uint32_t step, uint32_t overflow)
     uint32_t way[WAYS] = {0}, performed = 0;
     size_t found = 0;
     do {
-        craft(way, step, overflow);
+        if (call == TAKE_UP)
+            craft_saved(way, overflow);
+        else
+            craft(way, step, overflow);
         if (call == BEGIN)
             lent.parties[PARTY].operation = BEAD_IDLE;
         found = max(found, bytes_of(&library));
@@ -269,6 +290,8 @@ int main(void)
     print("begin", 1, 1);
     call = WITHDRAW;
     print("withdraw", 1, 11);
+    call = TAKE_UP;
+    print("take-up", 1, 1);
     call = STEP;
     for (uint32_t step = 1; step <= LAST_STEP; step++) {
         snprintf(name, sizeof name, "step %u", (unsigned)step);

@@ -16,7 +16,7 @@
  * inserts is of the key that was inserted LAG inserts before, which is done by then, also with sixteen parties. */
 enum { KEYS = 4369, FEW_KEYS = 10, WAVE = 1250, LAG = 20, MOST_KEYS = 16384, MOST_OPERATIONS = 10000 };
 
-enum kind { LOAD, FIND, DELETE, MIXED, WAVES, CHANGES };
+enum kind { LOAD, FIND, DELETE, MIXED, WAVES, CHANGES, TAKE_UP };
 
 /* A row: its kind, how many keys are there before it, which of its operations are counted (those before them are performed), and how many parties perform them. */
 struct row {
@@ -28,7 +28,7 @@ struct row {
 static const struct row rows[] = {
     {"load", LOAD, 0, 500, 1250, 1},         {"find", FIND, KEYS, 1000, 3000, 1},   {"insert", LOAD, KEYS / 2, 500, 2000, 1},
     {"delete", DELETE, KEYS, 500, 2000, 1}, {"mixed", MIXED, KEYS, 1000, 4000, 1}, {"waves", WAVES, WAVE, 0, 2 * WAVE, 1},
-    {"sixteen in turn", MIXED, KEYS, 1000, 4000, 16},
+    {"sixteen in turn", MIXED, KEYS, 1000, 4000, 16}, {"take-up", TAKE_UP, KEYS, 0, 20, 1},
 };
 #define END(list) ((list) + sizeof(list) / sizeof *(list))
 
@@ -87,6 +87,8 @@ static struct answer expected(uint32_t operation, uint32_t place, uint32_t setti
 /* Lists a row's operations from the first to before the last: how many. The settings that they bring all differ, and none is 0. */
 static uint32_t plan(const struct row *row, uint32_t first, uint32_t last)
 {
+    if (row->kind == TAKE_UP) /* the same each time */
+        return last - first;
     for (uint32_t i = first, place; i < last; i++) {
         uint32_t operation = choose(row, i, &place);
         list[i - first] = (struct operation){operation, key(place), i + 1, expected(operation, place, i + 1)};
@@ -102,9 +104,22 @@ static uint32_t perform_alone(uint32_t many)
     return i;
 }
 
+static void take_up(const struct row *row, uint32_t many)
+{
+    for (uint32_t i = 0; i < many; i++)
+        if (!map_take_up()) {
+            fprintf(stderr, "%s: row %s: the file is not taken up\n", map_name(), row->name);
+            exit(1);
+        }
+}
+
 /* Performs what is listed. */
 static void perform(const struct row *row, uint32_t many)
 {
+    if (row->kind == TAKE_UP) {
+        take_up(row, many);
+        return;
+    }
     uint32_t agreed = row->parties == 1 ? perform_alone(many) : map_in_turn(list, many, row->parties);
     if (agreed == many)
         return;
@@ -125,8 +140,11 @@ static uint32_t prepare(const struct row *row)
     return plan(row, row->first, row->last);
 }
 
-/* Whether the contender has as many parties as a row asks for. */
-static int able(const struct row *row) { return row->parties == 1 || map_in_turn != NULL; }
+/* Whether the contender has as many parties as a row asks for, and can be taken up where it asks for that. */
+static int able(const struct row *row)
+{
+    return (row->parties == 1 || map_in_turn != NULL) && (row->kind != TAKE_UP || map_take_up != NULL);
+}
 
 /* The processor time of this program, in nanoseconds. */
 static double now(void)

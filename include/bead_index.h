@@ -1,16 +1,17 @@
-/* The bead index for C and C++: the four calls, the memory that they are lent, and the numbers that they answer.
+/* The bead index for C and C++: the five calls, the memory that they are lent, and the numbers that they answer.
  *
  * A file of records, each a 32-bit key and a 32-bit setting, shared by up to sixteen parties under Ellis's locks.
  * bead_format makes an empty file, bead_begin starts a find, an insert or a delete for a party, and bead_step performs
  * one step of it: seven steps or more an operation, of which the last answers BEAD_DONE. The caller picks whose step is
- * next. bead_withdraw takes an operation back that is no longer wanted, where it has decided nothing yet. An insert
- * brings a key with its setting, and leaves a key that is in with the setting that it has; a find answers the setting
- * of its key.
+ * next. bead_withdraw takes an operation back that is no longer wanted, where it has decided nothing yet. bead_take_up
+ * tests words that were saved, so that a program that starts again goes on with its file. An insert brings a key with
+ * its setting, and leaves a key that is in with the setting that it has; a find answers the setting of its key.
  *
  * All memory is the caller's: a root record, a row of party's records, a row of lock words and a row of page words,
  * lent anew to every call. The library keeps nothing, allocates nothing and calls nobody. What each call leaves in
  * every lent word is proved, for all words that the memory may have held: docs/SPECIFICATION.md has the rules,
- * examples/first.c is a first program.
+ * examples/first.c is a first program. What is said below of a file that only these calls have altered holds from the
+ * bead_format that made it, or from a bead_take_up that answered BEAD_OK.
  *
  * What the caller sees to, since no call can: each pointer leads to as many records or words as its length says,
  * aligned as its type asks, and is not null; the four parts do not overlap; and nobody else reads or writes them
@@ -101,11 +102,12 @@ enum bead_refusal {
     BEAD_NO_OPERATION = 255,  /* bead_begin of none of the three operations; not in the table */
     BEAD_SIZE_REFUSED = 2,    /* a size outside its limits: of those given to bead_format, else of the root record's */
     BEAD_LENGTH_REFUSED = 1,  /* a length other than Q records, P + 1 lock words or 16 * (P + V + Q) page words */
+    BEAD_UNSAVED_REFUSED = 8, /* bead_take_up of words that are no file at rest */
     BEAD_PARTY_REFUSED = 3,   /* a party's number Q or above */
     BEAD_BUSY_REFUSED = 4,    /* bead_begin for a party that is not idle */
     BEAD_IDLE_REFUSED = 5,    /* bead_step or bead_withdraw for an idle party */
     BEAD_DECIDED_REFUSED = 7, /* bead_withdraw of an operation that has taken its decisive step */
-    BEAD_DAMAGE = 6           /* a damaged number: never where only these calls wrote since bead_format */
+    BEAD_DAMAGE = 6           /* a damaged number: never in a file that only these calls have altered */
 };
 
 /* What a step came to. */
@@ -184,7 +186,7 @@ uint32_t bead_begin(struct bead_root *root, struct bead_party *party_row, size_t
                     size_t lock_words, uint32_t *pages, size_t page_words, uint32_t party, uint32_t operation,
                     uint32_t key, uint32_t setting);
 
-/* Performs one step of a party's operation. Where only these calls wrote since bead_format, of all parties with an
+/* Performs one step of a party's operation. In a file that only these calls have altered, of all parties with an
  * operation under way at least one would not wait.
  * The reply's refusal is BEAD_OK or, tested in this order:
  *   BEAD_SIZE_REFUSED    a size in the root record is outside its limits: the memory was never formatted
@@ -196,10 +198,10 @@ struct bead_reply bead_step(struct bead_root *root, struct bead_party *party_row
                             size_t lock_words, uint32_t *pages, size_t page_words, uint32_t party);
 
 /* Withdraws a party's operation: takes back its bead_begin. The locks that it holds are given up, the pages that it
- * has built are free again, and the party is idle, with no answer. No key is altered, and no setting. Where only these
- * calls wrote since bead_format, and none of them was another party's since the bead_begin, every lent word is what it
- * was before that. An operation that has taken its decisive step cannot be withdrawn, and is stepped to its end: a
- * find whose step number is 9, an insert or a delete whose step number is 12 or above.
+ * has built are free again, and the party is idle, with no answer. No key is altered, and no setting. In a file that
+ * only these calls have altered, and with no other party's call since the bead_begin, every lent word is what it was
+ * before that. An operation that has taken its decisive step cannot be withdrawn, and is stepped to its end: a find
+ * whose step number is 9, an insert or a delete whose step number is 12 or above.
  * Answers BEAD_OK, or refuses, tested in this order:
  *   BEAD_SIZE_REFUSED     a size in the root record is outside its limits: the memory was never formatted
  *   BEAD_LENGTH_REFUSED   a length is not the one that the root record asks for
@@ -209,6 +211,22 @@ struct bead_reply bead_step(struct bead_root *root, struct bead_party *party_row
  *   BEAD_DAMAGE           a number that the withdraw needs is damaged */
 uint32_t bead_withdraw(struct bead_root *root, struct bead_party *party_row, size_t parties, uint32_t *locks,
                        size_t lock_words, uint32_t *pages, size_t page_words, uint32_t party);
+
+/* Tests words that were saved: whether they are a file at rest, as these calls leave one when no operation is under
+ * way. It alters nothing. Words that pass may stand where formatted memory stood, and all that is proved of a formatted
+ * file holds from there, its keys and settings being those at the start. A file at rest that only these calls have
+ * altered always passes.
+ * Answers BEAD_OK, or refuses, tested in this order:
+ *   BEAD_SIZE_REFUSED     a size in the root record is outside its limits (always, where the byte order is another's)
+ *   BEAD_LENGTH_REFUSED   a length is not the one that the root record asks for
+ *   BEAD_UNSAVED_REFUSED  an operation is under way, or a word is not as these calls leave it
+ * What BEAD_UNSAVED_REFUSED asks of a program that starts again: words that were copied between two calls are sound,
+ * with operations under way. So make a copy of them and settle that: withdraw every party's operation, and step those
+ * that are decided to their end, in turn; then take the copy up. Where that is refused, or a call was cut in its
+ * middle, go back to the file that was saved last. Save to a new file and rename it, so that there is always a whole
+ * one (examples/restart.c). */
+uint32_t bead_take_up(const struct bead_root *root, const struct bead_party *party_row, size_t parties,
+                      const uint32_t *locks, size_t lock_words, const uint32_t *pages, size_t page_words);
 
 #ifdef __cplusplus
 }

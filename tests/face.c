@@ -1,7 +1,7 @@
 /* The C face of the index, tested through include/bead_index.h: every refusal in the table's order with every lent word
  * as it was, every outcome, answer and restructuring by its name, each field of both records in its place, operations
- * withdrawn with every lent word as before their begin, and words beside the lent rows that no call touches. C11, and
- * C++ as well. Prints one line, or each check that fails. */
+ * withdrawn with every lent word as before their begin, files taken up at rest and refused elsewhere, and words beside
+ * the lent rows that no call touches. C11, and C++ as well. Prints one line, or each check that fails. */
 #include <stdio.h>
 #include <string.h>
 
@@ -79,7 +79,7 @@ static int unaltered(void) { return memcmp(&before, &file, sizeof file) == 0; }
 /* The setting that a key is begun with. */
 #define SETTING(key) (~(key))
 
-/* The four calls; each sees to the guards, and that a refusal or a wait alters nothing. */
+/* The five calls; each sees to the guards, and that a refusal, a wait or a take-up alters nothing. */
 static uint32_t format(uint32_t n, uint32_t b, uint32_t p, uint32_t v, uint32_t q)
 {
     remember();
@@ -116,6 +116,14 @@ static uint32_t withdraw(uint32_t party)
     uint32_t refusal = bead_withdraw(LENT, party);
     CHECK(kept_inside());
     CHECK(refusal == BEAD_OK || unaltered());
+    return refusal;
+}
+
+static uint32_t take_up(void)
+{
+    remember();
+    uint32_t refusal = bead_take_up(LENT);
+    CHECK(unaltered());
     return refusal;
 }
 
@@ -162,6 +170,7 @@ static uint32_t format_refusal(void) { return format(2, 3, 8, 8, 4); }
 static uint32_t begin_refusal(void) { return begin(0, BEAD_FIND, 7); }
 static uint32_t step_refusal(void) { return step(0).refusal; }
 static uint32_t withdraw_refusal(void) { return withdraw(0); }
+static uint32_t take_up_refusal(void) { return take_up(); }
 
 /* Format: limits, each size, each length, and sizes before lengths. */
 static void test_format(void)
@@ -262,6 +271,64 @@ static void test_withdraw(void)
     CHECK(withdraw(3) == BEAD_DECIDED_REFUSED);
 }
 
+/* Take-up: sizes before lengths, and both before what the words are. */
+static void test_take_up(void)
+{
+    start(8, 8, 4);
+    parties--;
+    CHECK(take_up() == BEAD_SIZE_REFUSED);
+    parties++;
+    CHECK(format(2, 3, 8, 8, 4) == BEAD_OK);
+    CHECK(take_up() == BEAD_OK);
+    file.parties[3].setting = 1;
+    test_lengths(take_up_refusal);
+    file.root.capacity = 0;
+    CHECK(take_up() == BEAD_SIZE_REFUSED);
+    file.root.capacity = 3;
+    CHECK(take_up() == BEAD_UNSAVED_REFUSED);
+    file.parties[3].setting = 0;
+    CHECK(take_up() == BEAD_OK);
+}
+
+/* A word put in another's place is refused 8; afterwards the file is at rest again. */
+static void test_unsaved(uint32_t *place, uint32_t word)
+{
+    uint32_t sound = *place;
+    *place = word;
+    CHECK(sound != word && take_up() == BEAD_UNSAVED_REFUSED);
+    *place = sound;
+}
+
+/* A file at rest is taken up and gone on with; with an operation under way, or a word altered, it is not. Key 5 is on
+ * the page of chain 0, keys 4 and 7 on the two of chain 1, so any word but their settings tells. */
+static void test_taken_up(void)
+{
+    enum { SETTING_OF_5 = 4, SETTING_OF_4 = BEAD_PAGE_WORDS + 4, SETTING_OF_7 = 4 * BEAD_PAGE_WORDS + 4 };
+    make(1, 1, 4, 4, 2);
+    CHECK(ends(BEAD_INSERT, 4, BEAD_INSERTED, BEAD_NO_RESTRUCTURING));
+    CHECK(ends(BEAD_INSERT, 5, BEAD_INSERTED, BEAD_SPLIT));
+    CHECK(take_up() == BEAD_OK);
+    CHECK(begin(1, BEAD_INSERT, 7) == BEAD_OK);
+    do
+        CHECK(take_up() == BEAD_UNSAVED_REFUSED);
+    while (step(1).outcome == BEAD_MOVED);
+    CHECK(take_up() == BEAD_OK);
+    test_unsaved(&file.root.level, 0);
+    test_unsaved(&file.root.next, file.root.next + 1);
+    test_unsaved(&file.root.head, 0);
+    test_unsaved(&file.root.free, file.root.free - 1);
+    test_unsaved(&file.parties[1].key, 7);
+    test_unsaved(&file.locks[4], UINT32_C(1) << 31);
+    for (size_t i = 0; i < page_row; i++)
+        if (i != SETTING_OF_5 && i != SETTING_OF_4 && i != SETTING_OF_7)
+            test_unsaved(&file.pages[i], file.pages[i] ^ UINT32_C(1) << 31);
+    file.pages[SETTING_OF_5] ^= 1;
+    CHECK(take_up() == BEAD_OK);
+    CHECK(begin(0, BEAD_FIND, 5) == BEAD_OK);
+    CHECK(step_until(0, 0).setting == (SETTING(5u) ^ 1));
+    CHECK(ends(BEAD_FIND, 7, BEAD_FOUND, BEAD_NO_RESTRUCTURING));
+}
+
 /* A party's operation, begun and stepped up to a step number, is withdrawn; every word is as before its begin. */
 static void test_taken_back(uint32_t operation, uint32_t key, uint32_t number)
 {
@@ -350,7 +417,8 @@ static void test_damage(void)
     CHECK(step(0).refusal == BEAD_DAMAGE);
 }
 
-/* Every answer and every restructuring; a merge is skipped at N chains, and where the records of both chains do not fit. */
+/* Every answer and every restructuring; a merge is skipped at N chains, and where the records of both chains do not
+ * fit. */
 static void test_answers(void)
 {
     make(1, 1, 2, 4, 1);
@@ -428,6 +496,8 @@ int main(void)
     test_begin();
     test_step();
     test_withdraw();
+    test_take_up();
+    test_taken_up();
     test_withdrawn();
     test_damage();
     test_answers();

@@ -34,7 +34,7 @@ def main():
     for name in strange:
         print(f"numbers.py: BEAD_{name} of the header stands in no source", file=sys.stderr)
     lacking = [f"BEAD_{name}" for name in known if name.endswith("_REFUSED") and name not in named]
-    lacking += [call for call in re.findall(r'extern "C" fn (\w+)', source) if not re.search(rf"^[^/* ].* {call}\(struct", header, re.M)]
+    lacking += [call for call in re.findall(r'extern "C" fn (\w+)', source) if not re.search(rf"^[^/* ].* {call}\((?:const )?struct", header, re.M)]
     for name in lacking:
         print(f"numbers.py: the header lacks {name}", file=sys.stderr)
     print('#include "bead_index.h"')

@@ -9,34 +9,45 @@ use std::slice::ChunksExact;
 use std::vec;
 
 /// The highest level of a file: 256 chains from one.
-const MOST_LEVEL: u32 = 8;
+pub(crate) const MOST_LEVEL: u32 = 8;
 
-/// The words that a record takes on a page: its key, then its setting.
+/// The place of a page's first record, and the words that a record takes: its key, then its setting.
+const FIRST_RECORD: usize = 3;
 const RECORD_WORDS: usize = 2;
 
 /// One page of a chain.
 #[derive(Clone, Copy)]
-struct Page<'a> {
-    words: &'a [u32],
+pub(crate) struct Page<'a> {
+    pub words: &'a [u32],
 }
 
 impl<'a> Page<'a> {
-    fn level(self) -> u32 {
+    pub fn level(self) -> u32 {
         self.words[0]
     }
 
-    fn count(self) -> u32 {
+    pub fn count(self) -> u32 {
         self.words[1]
     }
 
     /// The number of the next page plus one, 0 for none.
-    fn link(self) -> u32 {
+    pub fn link(self) -> u32 {
         self.words[2]
     }
 
     /// The records, each as two words, where the count is sound.
-    fn records(self) -> ChunksExact<'a, u32> {
-        self.words[3..3 + RECORD_WORDS * self.count() as usize].chunks_exact(RECORD_WORDS)
+    pub fn records(self) -> ChunksExact<'a, u32> {
+        self.words[FIRST_RECORD..self.end()].chunks_exact(RECORD_WORDS)
+    }
+
+    /// The words behind the records, where the count is sound.
+    pub fn behind(self) -> &'a [u32] {
+        &self.words[self.end()..]
+    }
+
+    /// The place behind the last record.
+    fn end(self) -> usize {
+        FIRST_RECORD + RECORD_WORDS * self.count() as usize
     }
 }
 
@@ -55,7 +66,7 @@ impl<'a> Parts<'a> {
     }
 
     /// A party that has an operation under way.
-    fn busy_party(self) -> Option<u32> {
+    pub(crate) fn busy_party(self) -> Option<u32> {
         (0..)
             .zip(self.parties)
             .find(|(_, record)| record.operation != 0)
@@ -84,7 +95,7 @@ impl<'a> Parts<'a> {
     }
 
     /// The page of a number below the number of pages.
-    fn page(self, number: u32) -> Page<'a> {
+    pub(crate) fn page(self, number: u32) -> Page<'a> {
         let start = PAGE_WORDS * number as usize;
         Page {
             words: &self.pages[start..start + PAGE_WORDS],

@@ -1,9 +1,10 @@
-//! Why a call was refused, and why an operation could not be run to its end.
+//! Why a call was refused, why an operation could not be run to its end, and why a file could not be saved or loaded.
 
 use crate::answers::unknown;
 use crate::wait::Wait;
 use std::error;
 use std::fmt;
+use std::io;
 
 /// Why a call was refused: the causes of the specification's table, with its numbers. A refused call alters nothing.
 ///
@@ -25,6 +26,10 @@ pub enum Refusal {
     Size = 2,
     /// The memory lent is longer or shorter than the sizes ask for.
     Length = 1,
+    /// Words are taken up that are no file at rest: an operation is under way, or a word is not as the library leaves
+    /// it. Words between two calls are sound: open a copy of them, [`settle`](crate::File::settle) it and take it up.
+    /// Where that is refused, or a call was cut in its middle, go back to the file that was saved last.
+    Unsaved = 8,
     /// The party's number is not below the number of parties.
     Party = 3,
     /// An operation is begun for a party that has one under way.
@@ -55,6 +60,7 @@ impl Refusal {
             5 => Refusal::Idle,
             6 => Refusal::Damage,
             7 => Refusal::Decided,
+            8 => Refusal::Unsaved,
             _ => unknown("refusal", number),
         })
     }
@@ -65,6 +71,7 @@ impl fmt::Display for Refusal {
         let cause = match self {
             Refusal::Size => "a size is outside its limits",
             Refusal::Length => "the memory lent has another length than the sizes ask for",
+            Refusal::Unsaved => "the words are no file at rest",
             Refusal::Party => "there is no such party",
             Refusal::Busy => "the party's last operation is not done",
             Refusal::Idle => "the party has no operation under way",
@@ -129,13 +136,59 @@ impl From<Refusal> for Error {
     }
 }
 
+/// Why a file could not be saved or loaded.
+#[derive(Debug)]
+#[non_exhaustive]
+pub enum FileError {
+    /// The output could not be written, or the input not be read.
+    Io(io::Error),
+    /// The file is not at rest, or what was read cannot be taken up.
+    Index(Error),
+}
+
+impl fmt::Display for FileError {
+    fn fmt(&self, out: &mut fmt::Formatter<'_>) -> fmt::Result {
+        match self {
+            FileError::Io(error) => error.fmt(out),
+            FileError::Index(error) => error.fmt(out),
+        }
+    }
+}
+
+impl error::Error for FileError {
+    fn source(&self) -> Option<&(dyn error::Error + 'static)> {
+        match self {
+            FileError::Io(error) => Some(error),
+            FileError::Index(error) => Some(error),
+        }
+    }
+}
+
+impl From<io::Error> for FileError {
+    fn from(error: io::Error) -> Self {
+        FileError::Io(error)
+    }
+}
+
+impl From<Error> for FileError {
+    fn from(error: Error) -> Self {
+        FileError::Index(error)
+    }
+}
+
+impl From<Refusal> for FileError {
+    fn from(refusal: Refusal) -> Self {
+        FileError::Index(refusal.into())
+    }
+}
+
 #[cfg(test)]
 mod tests {
     use super::*;
 
     #[test]
     fn refusals_have_the_numbers_of_the_table() {
-        for number in 1..=7 {
+        for number in 1..=8 {
             assert_eq!(Refusal::check(number).unwrap_err().number(), number);
         }
         assert_eq!(Refusal::check(0), Ok(()));

@@ -2,7 +2,7 @@
 
 use crate::answers::{unknown, Answer, Operation, Outcome, Restructuring};
 use crate::error::Refusal;
-use crate::memory::{sizes_of, Lent, Memory, Owned, Room};
+use crate::memory::{Lent, Memory, Owned, Room, Words};
 use crate::sizes::Sizes;
 use crate::sys;
 
@@ -10,7 +10,8 @@ use crate::sys;
 ///
 /// [`find`](File::find), [`insert`](File::insert) and [`delete`](File::delete) run an operation to its end.
 /// [`begin`](File::begin) and [`step`](File::step) take one step at a time, for parties in any order, and
-/// [`withdraw`](File::withdraw) takes back an operation that is no longer wanted.
+/// [`withdraw`](File::withdraw) takes back an operation that is no longer wanted. [`save`](File::save) and
+/// [`load`](File::load) keep it between two runs of a program.
 #[derive(Clone)]
 pub struct File<M = Owned> {
     pub(crate) memory: M,
@@ -26,7 +27,7 @@ pub struct File<M = Owned> {
 /// let mut memory = vec![0; sizes.words()];
 /// FileRef::format(&mut memory, sizes)?.insert(7, 40)?;
 ///
-/// let mut file = FileRef::open(&mut memory)?; // the words are the file
+/// let mut file = FileRef::take_up(&mut memory)?; // the words are the file
 /// assert_eq!(file.find(7)?, Some(40));
 /// # Ok(())
 /// # }
@@ -46,16 +47,18 @@ impl File {
         File::from_words(words)
     }
 
-    /// The file that these words are, as [`words`](File::words) gave them. Operations may be under way in it.
+    /// The file that these words are, as [`words`](File::words) gave them between two calls. Operations may be under
+    /// way in it, and go on. A file that was saved at rest is [taken up](File::take_up), which tests all its words.
     ///
     /// ```
-    /// use bead_index::{File, Sizes};
+    /// use bead_index::{Answer, File, Operation, Sizes};
     ///
     /// # fn main() -> Result<(), bead_index::Error> {
     /// let mut file = File::new(Sizes::new())?;
-    /// file.insert(7, 40)?;
-    /// let saved = file.words().to_vec();
-    /// assert_eq!(File::from_words(saved)?.find(7)?, Some(40));
+    /// file.begin(3, Operation::insert(7, 40))?;
+    /// let _ = file.step(3)?;
+    /// let mut copy = File::from_words(file.words().to_vec())?;
+    /// assert_eq!(copy.finish(3)?, Answer::Inserted);
     /// # Ok(())
     /// # }
     /// ```
@@ -68,7 +71,7 @@ impl File {
         })
     }
 
-    /// All words of the file, to be saved: in the order that [`Sizes::words`] says.
+    /// All words of the file, in the order that [`Sizes::words`] says.
     #[must_use]
     pub fn words(&self) -> &[u32] {
         self.memory.words()
@@ -91,15 +94,16 @@ impl<'a> FileRef<'a> {
         FileRef::format_parts(Lent::of_words(words, &sizes)?, sizes)
     }
 
-    /// The file that these words are.
+    /// The file that these words are between two calls, such as a mapped file that another process works on too.
+    /// Operations may be under way in it. A file that was saved at rest is [taken up](FileRef::take_up), which tests
+    /// all its words; this tests their sizes and number alone.
     ///
     /// # Errors
     /// [`Refusal::Size`] where the words were never formatted, and [`Refusal::Length`]. Words that are damaged
     /// otherwise are found out when they are needed.
     pub fn open(words: &'a mut [u32]) -> Result<Self, Refusal> {
-        let sizes = sizes_of(words)?;
         Ok(File {
-            memory: Lent::of_words(words, &sizes)?,
+            memory: words.into_memory()?,
         })
     }
 

@@ -53,6 +53,13 @@
 //! [`FileRef`] is the same over memory that the caller owns, such as a mapped file. Nothing is kept elsewhere: the
 //! words of a file are the file.
 //!
+//! # Saved files
+//!
+//! A file at rest is [saved](File::save) and [loaded](File::load), or [taken up](File::take_up) from its words: the
+//! library tests every word, takes up nothing that is unsound, and always takes up what it left at rest. What is taken
+//! up goes on as a file that was made. Words between two calls, in which operations are under way, are
+//! [opened](FileRef::open); [settled](File::settle), they are at rest. [`File::flaw`] says why words are not taken up.
+//!
 //! # Threads
 //!
 //! One call at a time: parties that are threads share the file under a mutex, and lock it for a step.
@@ -75,9 +82,9 @@
 //! # What is proved, and what is not
 //!
 //! The library that this crate links is proved: what each call leaves in every word, and what that means for all
-//! parties together. This crate is plain Rust over it. Its calls ([`File::begin`], [`File::step`], [`File::withdraw`]
-//! and making a file) pass words on and turn numbers into names; what reads the words itself ([`File::wait`],
-//! [`File::records`], `Debug`) is tested.
+//! parties together. This crate is plain Rust over it. Its calls ([`File::begin`], [`File::step`], [`File::withdraw`],
+//! making a file and taking one up) pass words on and turn numbers into names; what reads the words itself
+//! ([`File::wait`], [`File::records`], [`File::flaw`], `Debug`) is tested.
 //!
 //! # Stack
 //!
@@ -92,18 +99,22 @@ mod answers;
 mod chains;
 mod error;
 mod file;
+mod flaw;
 mod memory;
+mod mixing;
 mod reading;
 mod running;
+mod saving;
 mod sizes;
 mod sys;
 mod wait;
 
 pub use answers::{Answer, Kind, Operation, Outcome, Restructuring, UnderWay};
 pub use chains::Records;
-pub use error::{Error, Refusal};
+pub use error::{Error, FileError, Refusal};
 pub use file::{File, FileRef};
-pub use memory::{Lent, Memory, Owned, PartyRecord, RootRecord};
+pub use flaw::{Flaw, PageFlaw, RootFlaw};
+pub use memory::{Lent, Memory, Owned, PartyRecord, RootRecord, Words};
 pub use sizes::Sizes;
 pub use sys::words_of_bytes;
 pub use wait::{Lock, Mode, Wait};

@@ -176,6 +176,43 @@ pub(crate) fn sizes_of(words: &[u32]) -> Result<Sizes, Refusal> {
     Ok(root.sizes())
 }
 
+/// What a file is taken up from: a vector, which the file then owns, or words that the caller lends.
+pub trait Words {
+    /// What the file keeps them in.
+    type Memory: Memory;
+
+    /// The words as a file's memory, of the length that their root record asks for.
+    ///
+    /// # Errors
+    /// [`Refusal::Size`] and [`Refusal::Length`].
+    fn into_memory(self) -> Result<Self::Memory, Refusal>;
+}
+
+impl Words for Vec<u32> {
+    type Memory = Owned;
+
+    fn into_memory(self) -> Result<Owned, Refusal> {
+        Owned::of_words(self)
+    }
+}
+
+impl<'a> Words for &'a mut [u32] {
+    type Memory = Lent<'a>;
+
+    fn into_memory(self) -> Result<Lent<'a>, Refusal> {
+        let sizes = sizes_of(self)?;
+        Lent::of_words(self, &sizes)
+    }
+}
+
+impl<'a> Words for &'a mut Vec<u32> {
+    type Memory = Lent<'a>;
+
+    fn into_memory(self) -> Result<Lent<'a>, Refusal> {
+        self.as_mut_slice().into_memory()
+    }
+}
+
 /// What a [`File`](crate::File) keeps its words in: [`Owned`] or [`Lent`].
 pub trait Memory: Room {}
 

@@ -6,7 +6,7 @@ use crate::file::File;
 use crate::memory::Memory;
 
 /// More steps than any operation takes, besides those that walk along overflow pages.
-const MOST_STEPS: u32 = 64;
+pub(crate) const MOST_STEPS: u32 = 64;
 
 /// Operations run to their end.
 impl<M: Memory> File<M> {

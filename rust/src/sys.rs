@@ -2,7 +2,7 @@
 
 #![allow(unsafe_code)]
 
-use crate::memory::{Lent, PartyRecord, RootRecord};
+use crate::memory::{Lent, Parts, PartyRecord, RootRecord};
 use crate::sizes::Sizes;
 use std::mem::{align_of, size_of};
 
@@ -66,6 +66,16 @@ extern "C" {
         pages: *mut u32,
         page_words: usize,
         party: u32,
+    ) -> u32;
+
+    fn bead_take_up(
+        root: *const RootRecord,
+        party_row: *const PartyRecord,
+        parties: usize,
+        locks: *const u32,
+        lock_words: usize,
+        pages: *const u32,
+        page_words: usize,
     ) -> u32;
 }
 
@@ -169,6 +179,28 @@ pub(crate) fn withdraw(lent: Lent<'_>, party: u32) -> u32 {
     }
 }
 
+/// Tests whether the memory is a file at rest: 0, or the number of the refusal.
+pub(crate) fn take_up(parts: Parts<'_>) -> u32 {
+    let Parts {
+        root,
+        parties,
+        locks,
+        pages,
+    } = parts;
+    // SAFETY: each part is lent for reading, goes with its own length, and is not written.
+    unsafe {
+        bead_take_up(
+            root,
+            parties.as_ptr(),
+            parties.len(),
+            locks.as_ptr(),
+            locks.len(),
+            pages.as_ptr(),
+            pages.len(),
+        )
+    }
+}
+
 /// A record that is words and nothing else.
 ///
 /// # Safety
@@ -197,6 +229,19 @@ pub(crate) fn records_mut<R: Record>(words: &mut [u32]) -> &mut [R] {
     assert!(size_of::<R>() == R::WORDS * size_of::<u32>() && align_of::<R>() == align_of::<u32>());
     // SAFETY: as in `records`; the words are lent for writing to nobody else, and any record makes words.
     unsafe { std::slice::from_raw_parts_mut(words.as_mut_ptr().cast(), words.len() / R::WORDS) }
+}
+
+/// The words that records are.
+fn words<R: Record>(records: &[R]) -> &[u32] {
+    assert!(size_of::<R>() == R::WORDS * size_of::<u32>() && align_of::<R>() == align_of::<u32>());
+    // SAFETY: so many words are all bytes of the records, aligned as these are, and any record makes words.
+    unsafe { std::slice::from_raw_parts(records.as_ptr().cast(), records.len() * R::WORDS) }
+}
+
+/// All words of a file, part by part in their order.
+pub(crate) fn all_words(parts: Parts<'_>) -> [&[u32]; 4] {
+    let root = words(std::slice::from_ref(parts.root));
+    [root, words(parts.parties), parts.locks, parts.pages]
 }
 
 /// The words that bytes are, such as those of a mapped file: none where the bytes do not start at a word's address or
@@ -241,6 +286,7 @@ mod tests {
         );
         records_mut::<RootRecord>(&mut words)[1].free = 99;
         assert_eq!(words[17], 99);
+        assert_eq!(super::words(records::<PartyRecord>(&words)), words);
     }
 
     #[test]

@@ -6,7 +6,7 @@ use std::process::Command;
 use std::{env, fs};
 
 /// The calls; the C port's are c_port_format and so on.
-const CALLS: [&str; 4] = ["format", "begin", "step", "withdraw"];
+const CALLS: [&str; 5] = ["format", "begin", "step", "withdraw", "take_up"];
 const BENCH: &str = "../../bench";
 
 fn main() {

@@ -13,7 +13,11 @@ PATTERNS = {
     "begin": re.compile(rb"\(begin " + NUMBER + rb" \((?:(find|delete) " + NUMBER + rb"|(insert) " + NUMBER + rb" " + NUMBER + rb")\)\)"),
     "step": re.compile(rb"\(step " + NUMBER + rb"\)"),
     "withdraw": re.compile(rb"\(withdraw " + NUMBER + rb"\)"),
+    "takeUp": re.compile(rb"\(take-up\)"),
 }
+# The kinds of form that print another word than their name, and those that name no party.
+WORDS = {"takeUp": "take-up"}
+NO_PARTY = ("format", "takeUp")
 PRINTED = rb"(0|[1-9][0-9]{0,9})"
 REFUSED = re.compile(rb"\(refused " + PRINTED + rb"\)")
 FOUND = re.compile(rb"\(done \(found " + PRINTED + rb"\) none\)")
@@ -39,8 +43,8 @@ REPLIES = {
     "begin": {"ok": "BeginAnswer.Begun"},
     "step": {"waiting": "StepAnswer.Waiting", "moved": "StepAnswer.Moved", **DONE},
     "withdraw": {"ok": "WithdrawAnswer.Withdrawn"},
+    "takeUp": {"ok": "TakeUpAnswer.TakenUp"},
 }
-ANSWER_TYPES = {"format": "FormatAnswer", "begin": "BeginAnswer", "step": "StepAnswer", "withdraw": "WithdrawAnswer"}
 
 
 # A form that was read: its kind, its numbers in order, and the operation of a begin: party, key and, of an insert, the setting.
@@ -54,9 +58,14 @@ class Form:
     def operation_term(self):
         return f"({OPERATIONS[self.operation]}{''.join(f' {setting}' for setting in self.numbers[2:])})"
 
-    # How every reply to the form begins: the call, then the party without leading zeros.
+    # How the kind stands in a longer name: TakeUp.
+    def title(self):
+        return self.kind[0].upper() + self.kind[1:]
+
+    # How every reply to the form begins: the call, then the party without leading zeros where one is named.
     def heading(self):
-        return "(format " if self.kind == "format" else f"({self.kind} {self.numbers[0]} "
+        party = "" if self.kind in NO_PARTY else f"{self.numbers[0]} "
+        return f"({WORDS.get(self.kind, self.kind)} {party}"
 
     # The words of page memory that a format within the limits of P, V and Q asks for, else 0.
     def page_words(self):
@@ -81,7 +90,7 @@ def read_form(line):
             words = [word.decode() for word in match.groups() if word is not None]
             numbers = [int(word) for word in words if word not in OPERATIONS]
             operation = next((word for word in words if word in OPERATIONS), "")
-            return Form(kind, numbers, operation) if max(numbers) <= LARGEST_NUMBER else None
+            return Form(kind, numbers, operation) if max(numbers, default=0) <= LARGEST_NUMBER else None
     return None
 
 
@@ -93,7 +102,7 @@ def read_reply(form, line):
     said = line[len(heading):-1]
     refused = REFUSED.fullmatch(said)
     if refused:
-        return f"{ANSWER_TYPES[form.kind]}.Refused {int(refused.group(1))}"
+        return f"{form.title()}Answer.Refused {int(refused.group(1))}"
     found = FOUND.fullmatch(said)
     if found:
         return f"StepAnswer.Done (OperationAnswer.Found {int(found.group(1))}) Restructuring.None" if form.kind == "step" else None

@@ -7,14 +7,14 @@ import shutil
 import subprocess
 from dataclasses import dataclass
 
-from forms import UNREAD, lines_of, read_form, read_reply
+from forms import NO_PARTY, UNREAD, lines_of, read_form, read_reply
 
 # Words of page memory times calls: a transcript above it is left to the compiled program. The checker stops at 50,000,000 steps a claim, which about 5,000,000 of
 # these use up; the bound also keeps a transcript to seconds.
 BOUND = 500_000
 
 # Tests of a run that must be true of every stretch of begins, steps and withdraws after a format: `m` is the memory that the format left, `calls` the stretch.
-# A test is passed over where the definitions do not have its names.
+# A test is passed over where the definitions do not have its names; those without a module stand in HARNESS.
 CHECKS = [
     "Book.bookAgrees Book.emptyBook (Runs.events m calls)",
     "Links.linksFresh Links.clockStart m calls",
@@ -24,6 +24,8 @@ CHECKS = [
     "Withdrawals.withdrawnUnwritten NoPage.noneWrote (Runs.events m calls)",
     "FittingMerges.mergesFit FittingMerges.nothingHad m calls",
     "TakenUp.alwaysTaken (m .root .parties) Book.emptyBook m calls",
+    "mapAscends Book.emptyBook m calls",
+    "mapSaved Book.emptyBook m calls",
     "CallsBounded.callsBounded (CallsBounded.mostCalls (m .root)) CallsBounded.noneCounted (Runs.events m calls)",
     "CallsBounded.callsBounded (CallsBounded.mostBySizes (m .root)) CallsBounded.noneCounted (Runs.events m calls)",
 ]
@@ -35,24 +37,28 @@ PARTY_FIELDS = "operation key step lev chain other old owed answer setting".spli
 HEADER = """\
 use mathlib.Core.Path.{_≡_, refl}
 use mathlib.Core.List.{List, [], _∷_}
-use mathlib.Core.Bool.{Bool, true, false}
+use mathlib.Core.Bool.{Bool, true, false, cond, _&&_}
 use Prim.Native.Nat.{ℕ, _+_, _*_}
 use lib.ListN.{replicate}
+use lib.Dec.{eqb}
 """
-MODULES = ["Sizes", "Records", "Mixing", "Memory", "Calls", "Runs"]
-TYPES = ["Root", "Party", "FormatAnswer", "BeginAnswer", "StepAnswer", "WithdrawAnswer"]
-ENUMS = ["Operation", "OperationAnswer", "Restructuring", "FormatAnswer", "BeginAnswer", "StepAnswer", "WithdrawAnswer"]
+MODULES = ["Sizes", "Records", "Mixing", "Memory", "Calls", "TakeUp", "Runs", "Entries", "Book", "Progress"]
+ANSWER_TYPES = ["FormatAnswer", "BeginAnswer", "StepAnswer", "WithdrawAnswer", "TakeUpAnswer"]
+TYPES = ["Root", "Party", "Entry", *ANSWER_TYPES]
+ENUMS = ["Operation", "OperationAnswer", "Restructuring", *ANSWER_TYPES]
 
 HARNESS = """
 data Form : Type 0 where
   format : ℕ → ℕ → ℕ → ℕ → ℕ → Form
   call : Runs.Call → Form
+  takeUp : Form
 
 data Reply : Type 0 where
   toFormat : FormatAnswer → Reply
   toBegin : BeginAnswer → Reply
   toStep : StepAnswer → Reply
   toWithdraw : WithdrawAnswer → Reply
+  toTakeUp : TakeUpAnswer → Reply
 
 abbrev memory : Root → List Party → List ℕ → List ℕ → Memory.Memory
 memory r ps ls ws = record { root = r; parties = ps; locks = ls; pages = ws }
@@ -80,6 +86,29 @@ replies m (format n b p v q ∷ fs) = (let c = Calls.formatCall (lent m n b p v 
 replies m (call (Runs.beginFor q o k) ∷ fs) = (let c = Calls.beginCall m q o k in toBegin (c .answer) ∷ replies (c .memory) fs)
 replies m (call (Runs.stepFor q) ∷ fs) = (let c = Calls.stepCall m q in toStep (c .answer) ∷ replies (c .memory) fs)
 replies m (call (Runs.withdrawFor q) ∷ fs) = (let c = Calls.withdrawCall m q in toWithdraw (c .answer) ∷ replies (c .memory) fs)
+replies m (takeUp ∷ fs) = (let c = TakeUp.takeUpCall m in toTakeUp (c .answer) ∷ replies (c .memory) fs)
+
+-- The book's map ascends, before every call and after the last.
+abbrev mapAscends : Book.Book → Memory.Memory → List Runs.Call → Bool
+mapAscends b m [] = Entries.ascending (b .contents)
+mapAscends b m (c ∷ cs) =
+    Entries.ascending (b .contents) && mapAscends (Progress.bookAfterCall b m c) (Runs.afterCall m c) cs
+
+abbrev sameRecords : List Entry → List Entry → Bool
+sameRecords [] [] = true
+sameRecords [] (e ∷ es) = false
+sameRecords (d ∷ ds) [] = false
+sameRecords (d ∷ ds) (e ∷ es) = eqb (d .key) (e .key) && (eqb (d .setting) (e .setting) && sameRecords ds es)
+
+-- Where nobody is under way, the records of the file are the book's map; likewise.
+abbrev savedNow : Book.Book → Memory.Memory → Bool
+savedNow b m =
+    let busy = Progress.someBelow (m .root .parties) (Progress.underWay b) in
+    cond busy true (sameRecords (TakeUp.recordsSaved m) (b .contents))
+
+abbrev mapSaved : Book.Book → Memory.Memory → List Runs.Call → Bool
+mapSaved b m [] = savedNow b m
+mapSaved b m (c ∷ cs) = savedNow b m && mapSaved (Progress.bookAfterCall b m c) (Runs.afterCall m c) cs
 """
 
 
@@ -101,14 +130,17 @@ def run_call(form):
 
 
 def form_term(form):
-    return f"format {spaced(form.numbers)}" if form.kind == "format" else f"call ({run_call(form)})"
+    if form.kind == "format":
+        return f"format {spaced(form.numbers)}"
+    return form.kind if form.kind == "takeUp" else f"call ({run_call(form)})"
 
 
 # The call that a form makes on the memory named.
 def call_on(form, memory):
     if form.kind == "begin":
         return f"Calls.beginCall {memory} {form.numbers[0]} {form.operation_term()} {form.numbers[1]}"
-    return f"Calls.{form.kind}Call {memory} {spaced(form.numbers)}"
+    module = "TakeUp" if form.kind == "takeUp" else "Calls"
+    return f"{module}.{form.kind}Call {memory} {spaced(form.numbers)}"
 
 
 def memory_term(memory):
@@ -149,7 +181,7 @@ class Replies:
     def text(self, name, count):
         items = self.items[:count]
         forms = listed(form_term(form) for _, form, _ in items)
-        answers = listed(f"to{form.kind.capitalize()} ({answer})" for _, form, answer in items)
+        answers = listed(f"to{form.title()} ({answer})" for _, form, answer in items)
         given = defined(f"forms-{name}", "List Form", forms) + defined(f"right-{name}", "List Reply", answers)
         return given + claimed(name, f"replies blank forms-{name}", f"right-{name}")
 
@@ -183,7 +215,8 @@ class SingleCall:
     def text(self, name, count):
         before = f"before-{name}"
         after = f"({self.after})" if self.after else before
-        right = defined(f"right-{name}", f"Calls.Called {self.form.kind.capitalize()}Answer", f"Calls.called ({self.answer}) {after}")
+        answered = f"Calls.called ({self.answer}) {after}"
+        right = defined(f"right-{name}", f"Calls.Called {self.form.title()}Answer", answered)
         return defined(before, "Memory.Memory", self.before) + right + claimed(name, call_on(self.form, before), f"right-{name}")
 
 
@@ -213,12 +246,13 @@ def work(items):
 
 
 # The stretches of a transcript: each format that was answered ok, and the calls up to the next such, if there are any.
+# A take-up is a look between two calls.
 def stretches(items):
     found = []
     for line, form, answer in items:
         if answer == "FormatAnswer.Formatted":
             found.append((form, []))
-        elif form.kind != "format" and found:
+        elif form.kind not in NO_PARTY and found:
             found[-1][1].append((line, form))
     return [(form, calls) for form, calls in found if calls]
 

@@ -111,6 +111,9 @@ class Boolean:
     def value(self, x):
         return f'vbool {x}'
 
+    def has(self, x):
+        return f'Is {self.row} {x} ({self.value(x)} ∷ [])'
+
     def typed(self, x, fact):
         return f'(bool-lawful 𝓤 H A W .typed {x} _ {fact} .0)'
 
@@ -200,7 +203,7 @@ class Callee:
         self.said, self.variables = said, list(variables)
         self.lent = [p for p in params if p.lent]
         self.contract = ''.join(part.capitalize() for part in alias.split('-')) + 'C'
-        self.symbol = f'#{crate}·{function.replace("_", "-")}'
+        self.symbol = f'#{crate.replace("_", "-")}·{function.replace("_", "-")}'
         self.known = f'known-{alias}'
         self.lifetimes = tuple_of([p.κ for p in self.lent])
 

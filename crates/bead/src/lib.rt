@@ -6,7 +6,9 @@
 ghost use mathlib.Core.Path.{_≡_};
 ghost use Rattle.model.specs.Answers.{answerNumber, settingFound, restructuringNumber, beginRefusal, withdrawRefusal, formatRefusal};
 ghost use Rattle.model.specs.Calls.{called, formatCall, stepCall, withdrawCall};
+ghost use Rattle.model.specs.TakeUp.{takeUpCall};
 ghost use Rattle.calls.specs.Lent.{lent};
+ghost use Rattle.index.specs.Answered.{takeUpRefusal};
 ghost use Rattle.bead.specs.Numbers.{sizesOf, operationOf, isOperation, replyOf, numbered, beginNumbered};
 use model::ABSENT;
 use model::BeginAnswer;
@@ -25,6 +27,7 @@ use model::Party;
 use model::Restructuring;
 use model::Root;
 use model::StepAnswer;
+use model::TakeUpAnswer;
 use model::WithdrawAnswer;
 
 // What bead_begin answers to a number that is no operation's.
@@ -270,4 +273,23 @@ pub extern "C" fn bead_withdraw(
 {
     let answer = index::withdraw(root, parties, locks, pages, q);
     withdraw_number(answer)
+}
+
+// The number of take-up's refusal, or 0.
+fn take_up_number(answer: TakeUpAnswer) -> u32
+    ensures { λ r. ⌜ r ≡ takeUpRefusal answer ⌝ }
+{
+    match answer {
+        TakeUpAnswer::TakenUp => 0,
+        TakeUpAnswer::Refused(n) => n,
+    }
+}
+
+// Take up a saved file: the number of the refusal, or 0.
+#[no_mangle]
+pub extern "C" fn bead_take_up(root: &Root, parties: &[Party], locks: &[u32], pages: &[u32]) -> u32
+    ensures { λ r. ⌜ called r (lent (now (root .entry)) (now (parties .entry)) (now (locks .entry)) (now (pages .entry))) ≡ numbered takeUpRefusal (takeUpCall (lent (now (root .entry)) (now (parties .entry)) (now (locks .entry)) (now (pages .entry)))) ⌝ }
+{
+    let answer = index::take_up(root, parties, locks, pages);
+    take_up_number(answer)
 }

@@ -1,9 +1,11 @@
-// The four calls over values (document 01, "What it covers" and "Refused calls"; document 02, change 2): the root and
-// one party's record by value, the lock words and the page words lent.
-// The refusal table's tests are made here, in its order; damage that only one step can meet is refused by that step. There is nothing that a caller must see to: the contracts hold for all words and all lengths.
+// The five calls over values (document 01, "What it covers" and "Refused calls"; document 02, changes 2 and 6): the root
+// and one party's record by value, the lock words and the page words lent.
+// The refusal table's tests are made here, in its order; damage that only one step can meet is refused by that step.
+// There is nothing that a caller must see to: the contracts hold for all words and all lengths.
 // Main statements: format, begin, step and withdraw leave what the model's formatCall, beginCall, stepCall and
 // withdrawCall leave, whatever the other parties' records are; step_past and withdraw_past leave what stepCall and
-// withdrawCall do past the row's end.
+// withdrawCall do past the row's end; take_up answers as takeUpCall does, for every row of records that is zero or not
+// as its caller says, and take_up_cause is the cause that it goes by.
 
 ghost use mathlib.Core.Path.{_≡_};
 ghost use mathlib.Core.List.{List};
@@ -11,6 +13,8 @@ ghost use Prim.Native.Nat.{ℕ, _<_, _≤_};
 ghost use lib.ListN.{length, set};
 ghost use Rattle.model.specs.declared.Party.{Party};
 ghost use Rattle.model.specs.Memory.{partyAt};
+ghost use Rattle.model.specs.Refusals.{firstCause};
+ghost use Rattle.model.specs.TakeUp.{allIdle, takeUpRows, takeUpCall};
 ghost use Rattle.model.specs.Calls.{called, formatCall, beginCall, stepCall, withdrawCall};
 ghost use Rattle.records.specs.Words.{rootWords, partyWords, rootIn, partyIn};
 ghost use Rattle.calls.specs.Lent.{lent, leftByFormat, leftByBegin, leftByStep, leftByWithdraw};
@@ -23,9 +27,12 @@ use model::Party;
 use model::Root;
 use model::StepAnswer;
 use model::Stepped;
+use model::TakeUpAnswer;
+use model::UNSAVED_REFUSED;
 use model::WithdrawAnswer;
 
-// What format leaves beside the lent words. Where the answer is formatted, every party's record is the zero record; else no record is altered.
+// What format leaves beside the lent words. Where the answer is formatted, every party's record is the zero record; else
+// no record is altered.
 pub struct Formatted {
     pub root: Root,
     pub answer: FormatAnswer,
@@ -68,7 +75,8 @@ pub fn format(
     }
 }
 
-// Begin an operation for party q, one of `parties`, whose record is `party`; past the row's end no record is looked at.
+// Begin an operation for party q, one of `parties`, whose record is `party`; past the row's end no record is looked
+// at.
 pub fn begin(
     root: Root,
     party: Party,
@@ -137,7 +145,8 @@ pub fn step(
     }
 }
 
-// A step for party q past the end of a row of `parties`: refused by a cause that looks at no record, and nothing is altered.
+// A step for party q past the end of a row of `parties`: refused by a cause that looks at no record, and nothing is
+// altered.
 pub fn step_past(root: Root, parties: usize, locks: usize, pages: usize, q: u32) -> StepAnswer
     ensures { λ a. ⌜ ((row : List Party) (ls ps : List ℕ) → length row ≡ parties → length ls ≡ locks → length ps ≡ pages → parties ≤ q → called a (lent root row ls ps) ≡ stepCall (lent root row ls ps) q) ⌝ }
 {
@@ -197,4 +206,31 @@ pub fn withdraw_past(
     ensures { λ a. ⌜ ((row : List Party) (ls ps : List ℕ) → length row ≡ parties → length ls ≡ locks → length ps ≡ pages → parties ≤ q → called a (lent root row ls ps) ≡ withdrawCall (lent root row ls ps) q) ⌝ }
 {
     WithdrawAnswer::Refused(refusals::place_cause(root, parties, locks, pages, q))
+}
+
+// The cause by which a take-up is refused, 0 for none, of a file with a row of `parties` records; `idle` says whether all
+// of them are zero. No word is written.
+pub fn take_up_cause(root: Root, idle: bool, parties: usize, locks: &[u32], pages: &[u32]) -> u32
+    ensures { λ r. ⌜ ((row : List Party) → length row ≡ parties → allIdle row ≡ idle → r ≡ firstCause (takeUpRows (lent root row (now (locks .entry)) (now (pages .entry))))) ⌝ }
+{
+    let cause = refusals::take_up_cause(root, idle, parties, locks.len(), pages.len());
+    if cause != NO_CAUSE {
+        return cause;
+    }
+    if take_up::words_saved(root, locks, pages) {
+        NO_CAUSE
+    } else {
+        UNSAVED_REFUSED
+    }
+}
+
+// Take-up of such a file: it is tested, and nothing is altered.
+pub fn take_up(root: Root, idle: bool, parties: usize, locks: &[u32], pages: &[u32]) -> TakeUpAnswer
+    ensures { λ r. ⌜ ((row : List Party) → length row ≡ parties → allIdle row ≡ idle → called r (lent root row (now (locks .entry)) (now (pages .entry))) ≡ takeUpCall (lent root row (now (locks .entry)) (now (pages .entry)))) ⌝ }
+{
+    let cause = take_up_cause(root, idle, parties, locks, pages);
+    if cause != NO_CAUSE {
+        return TakeUpAnswer::Refused(cause);
+    }
+    TakeUpAnswer::TakenUp
 }

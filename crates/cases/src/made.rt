@@ -12,6 +12,7 @@ use model::Operation;
 use model::Party;
 use model::Root;
 use model::StepAnswer;
+use model::TakeUpAnswer;
 use model::WithdrawAnswer;
 
 // What came of a call: the refusal, and how many words of all that is held and lent are altered.
@@ -39,6 +40,7 @@ pub fn came_of(call: Call, s: Scene) -> Came {
         Call::Begin => begun(s, &locks, &pages),
         Call::Step => stepped(s, &mut locks, &mut pages),
         Call::Withdraw => withdrawn(s, &mut locks, &mut pages),
+        Call::TakeUp => taken_up(s, &mut locks, &mut pages),
     }
 }
 
@@ -102,6 +104,46 @@ fn withdrawn(s: Scene, locks: &mut [u32], pages: &mut [u32]) -> Came {
     }
 }
 
+// A file at rest, as format leaves it with b at most 6: then the root record has the b of the case, and where the records
+// of the case do not rest, the row has them.
+fn at_rest(s: Scene, locks: &mut [u32], pages: &mut [u32]) -> Held {
+    let given = s.held;
+    let b = given.root.capacity;
+    let mut sizes = sizes_of(given.root);
+    sizes.capacity = least(b as usize, model::MOST_RECORDS as usize) as u32;
+    let l = least(sizes.primaries as usize + 1, locks.len());
+    let p = sizes.primaries as usize + sizes.overflow as usize + sizes.parties as usize;
+    let g = least(16 * p, pages.len());
+    let made = held::format(given, &mut locks[0..l], &mut pages[0..g], sizes);
+    let file = made.held;
+    let mut root = file.root;
+    root.capacity = b;
+    let mut row = given.row;
+    if s.rests {
+        let zero = file.row;
+        row = zero;
+    }
+    Held { root, row }
+}
+
+// The words are compared with those of a second file, made in the same way.
+fn taken_up(s: Scene, locks: &mut [u32], pages: &mut [u32]) -> Came {
+    let mut former_locks = [WORD; LOCK_ROOM];
+    let mut former_pages = [WORD; PAGE_ROOM];
+    at_rest(s, &mut former_locks, &mut former_pages);
+    let file = at_rest(s, locks, pages);
+    let l = least(s.lock_words, locks.len());
+    let g = least(s.page_words, pages.len());
+    let answer = held::take_up(file, &locks[0..l], &pages[0..g]);
+    Came {
+        refusal: take_up_refusal(answer),
+        altered: add(
+            differing(&former_locks, locks),
+            differing(&former_pages, pages),
+        ),
+    }
+}
+
 // So many words are lent; never more than there are.
 fn least(a: usize, b: usize) -> usize
     ensures { λ r. ⌜ r ≤ b ⌝ }
@@ -152,6 +194,13 @@ fn withdraw_refusal(answer: WithdrawAnswer) -> u32 {
     }
 }
 
+fn take_up_refusal(answer: TakeUpAnswer) -> u32 {
+    match answer {
+        TakeUpAnswer::Refused(number) => number,
+        TakeUpAnswer::TakenUp => ACCEPTED,
+    }
+}
+
 // How many words are altered, lent or not.
 fn altered(before: Held, after: Held, locks: &[u32], pages: &[u32]) -> u32 {
     let held = add(
@@ -192,7 +241,7 @@ fn altered_party(before: Party, after: Party) -> u32 {
     )
 }
 
-// How many words of a record differ.
+// How many words of two rows differ.
 fn differing(a: &[u32], b: &[u32]) -> u32 {
     let mut n: u32 = 0;
     let mut i: usize = 0;

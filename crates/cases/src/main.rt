@@ -195,6 +195,16 @@ fn earlier_causes_of_withdraw(first: Tally) -> Tally {
     t
 }
 
+// Take-up has 8, "tested after 2 and 1"; without a cause a file at rest is taken up.
+fn causes_of_take_up(first: Tally) -> Tally {
+    let mut t = first;
+    t = met(t, Call::TakeUp, 0, 0, ACCEPTED);
+    t = met(t, Call::TakeUp, 8, 0, 8);
+    t = met(t, Call::TakeUp, 2, 8, 2);
+    t = met(t, Call::TakeUp, 1, 8, 1);
+    t
+}
+
 // ---- All of it
 
 fn cases_of_all(first: Tally, call: Call) -> Tally {
@@ -212,6 +222,7 @@ fn main() {
     t = cases_of_all(t, Call::Begin);
     t = cases_of_all(t, Call::Step);
     t = cases_of_all(t, Call::Withdraw);
+    t = cases_of_all(t, Call::TakeUp);
     t = parties(t, Call::Begin);
     t = parties(t, Call::Step);
     t = parties(t, Call::Withdraw);
@@ -223,6 +234,7 @@ fn main() {
     t = later_causes_of_step(t);
     t = causes_of_withdraw(t);
     t = earlier_causes_of_withdraw(t);
+    t = causes_of_take_up(t);
     say_number(b"", t.cases);
     say_number(b" cases, ", t.wrong);
     say(b" wrong\n");

@@ -1,5 +1,6 @@
 // What is written of a case, and the count of cases.
-// Main function: judged, which makes the call, writes what the case is, what came and whether it is as it should be, and counts.
+// Main function: judged, which makes the call, writes what the case is, what came and whether it is as it should be, and
+// counts.
 
 use crate::made::ACCEPTED;
 use crate::made::Came;
@@ -38,6 +39,7 @@ fn say_call(call: Call) {
         Call::Begin => say(b"begin, "),
         Call::Step => say(b"step, "),
         Call::Withdraw => say(b"withdraw, "),
+        Call::TakeUp => say(b"take-up, "),
     }
 }
 
@@ -50,13 +52,24 @@ fn say_came(came: Came) {
     say_number(b", words altered ", came.altered);
 }
 
-// The answer is the one expected; a refused call alters nothing, and an accepted one something.
-fn is_right(came: Came, expected: u32) -> bool {
+// Whether a call that is accepted alters something: take-up tests the file, and alters nothing.
+fn alters(call: Call) -> bool {
+    match call {
+        Call::Format => true,
+        Call::Begin => true,
+        Call::Step => true,
+        Call::Withdraw => true,
+        Call::TakeUp => false,
+    }
+}
+
+// The answer is the one expected; a refused call alters nothing, and an accepted one something where its call does.
+fn is_right(call: Call, came: Came, expected: u32) -> bool {
     if came.refusal != expected {
         return false;
     }
     if expected == ACCEPTED {
-        return came.altered != 0;
+        return (came.altered != 0) == alters(call);
     }
     came.altered == 0
 }
@@ -68,8 +81,8 @@ fn counted(t: Tally, wrong: u32) -> Tally {
     }
 }
 
-fn compared(t: Tally, came: Came, expected: u32) -> Tally {
-    if is_right(came, expected) {
+fn compared(t: Tally, call: Call, came: Came, expected: u32) -> Tally {
+    if is_right(call, came, expected) {
         say(b", as it should be\n");
         return counted(t, 0);
     }
@@ -89,5 +102,5 @@ pub fn judged(
     say_case(call, text, numbers);
     let came = crate::made::came_of(call, s);
     say_came(came);
-    compared(t, came, expected)
+    compared(t, call, came, expected)
 }

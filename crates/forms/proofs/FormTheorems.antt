@@ -1,4 +1,5 @@
--- Forms: a line is read exactly where the grammar derives it, as the one form that it is; reading what was printed gives the form again.
+-- Forms: a line is read exactly where the grammar derives it, as the one form that it is; reading what was printed gives
+-- the form again.
 -- Main statements: form-read, read-form; one-form; unread-form; printed-form-read, printed-form-there; form-short.
 use mathlib.Core.Path.{_≡_, refl, _∙_, subst}
 use mathlib.Core.Bool.{false}
@@ -19,11 +20,11 @@ use Rattle.forms.specs.declared.Form.{Form}
 use Rattle.forms.specs.declared.Form.the-variants as Form
 use Rattle.forms.specs.declared.FormRead.{FormRead}
 use Rattle.forms.specs.declared.FormRead.the-variants as FormRead
-use Rattle.forms.specs.Forms.{stepForm, withdrawForm, formatForm, findForm, insertForm, deleteForm, beginForm, formPattern, sizeNumbers, operationNumbers, formNumbers, FormLine, formText}
-use Rattle.forms.specs.Reading.{asStep, asBegin, asInsert, asWithdraw, asFormat, readFormat, readWithdraw, readBegin, readForm}
+use Rattle.forms.specs.Forms.{stepForm, withdrawForm, takeUpForm, formatForm, findForm, insertForm, deleteForm, beginForm, formPattern, sizeNumbers, operationNumbers, formNumbers, FormLine, formText}
+use Rattle.forms.specs.Reading.{asStep, asBegin, asInsert, asWithdraw, asFormat, asTakeUp, readTakeUp, readFormat, readWithdraw, readBegin, readForm}
 use Rattle.forms.specs.Printing.{longestForm, given}
 use Rattle.forms.proofs.Puts.{is-given, put-there}
-use Rattle.forms.proofs.Table.{alike, take-row, skip-row, row-sound, one-number, two-numbers, three-numbers, five-numbers}
+use Rattle.forms.proofs.Table.{alike, take-row, skip-row, row-sound, no-number, one-number, two-numbers, three-numbers, five-numbers}
 
 -- ---- The patterns
 
@@ -34,6 +35,10 @@ plain-step = record { parted = refl; held = lit≤ tt }
 plain-withdraw : Plain withdrawForm
 unfolding plain holes isDigit
 plain-withdraw = record { parted = refl; held = lit≤ tt }
+
+plain-take-up : Plain takeUpForm
+unfolding plain holes isDigit
+plain-take-up = record { parted = refl; held = lit≤ tt }
 
 plain-format : Plain formatForm
 unfolding plain holes isDigit
@@ -86,12 +91,21 @@ unfolding readWithdraw readFormat alike padded sizeNumbers
 format-read s line d =
     past-begin plain-format d refl refl refl refl ∙ skip-row withdrawForm asWithdraw _ plain-format plain-withdraw refl d ∙ take-row asFormat _ plain-format d
 
+take-up-read : (line : List ℕ) → Derives takeUpForm [] line → readForm line ≡ FormRead.Read Form.TakeUp
+unfolding readWithdraw readFormat readTakeUp alike padded
+take-up-read line d =
+    past-begin plain-take-up d refl refl refl refl
+    ∙ skip-row withdrawForm asWithdraw _ plain-take-up plain-withdraw refl d
+    ∙ skip-row formatForm asFormat _ plain-take-up plain-format refl d
+    ∙ take-row asTakeUp _ plain-take-up d
+
 pub form-read : (f : Form) (line : List ℕ) → FormLine f line → readForm line ≡ FormRead.Read f
 unfolding FormLine formPattern formNumbers readForm padded
 form-read (Form.Format s) line d = format-read s line d
 form-read (Form.Begin q o k) line d = begin-read q o k line d
 form-read (Form.Step q) line d = take-row asStep _ plain-step d
 form-read (Form.Withdraw q) line d = withdraw-read q line d
+form-read Form.TakeUp line d = take-up-read line d
 
 -- ---- A line that is read is derived by the grammar
 
@@ -116,12 +130,18 @@ delete-row : (f : Form) (line ns : List ℕ) → length ns ≡ 2 → Derives del
 unfolding formPattern formNumbers operationNumbers
 delete-row f line ns long d e = row-form f (Form.Begin (getD (padded ns) 0 0) Operation.Delete (getD (padded ns) 1 0)) ns line (two-numbers ns long) d e
 
+take-up-row : (f : Form) (line : List ℕ) → readTakeUp line ≡ FormRead.Read f → FormLine f line
+unfolding readTakeUp formPattern formNumbers holes
+take-up-row f line =
+    row-sound takeUpForm line asTakeUp FormRead.Unread (λ ns long d e. row-form f Form.TakeUp ns line (no-number ns long) d e)
+    (λ e. absurd (let z : _≡_ {A = ℕ} 0 1 = cc in omega arith))
+
 format-row : (f : Form) (line : List ℕ) → readFormat line ≡ FormRead.Read f → FormLine f line
 unfolding readFormat formPattern formNumbers sizeNumbers holes
 format-row f line =
-    row-sound formatForm line asFormat FormRead.Unread
+    row-sound formatForm line asFormat (readTakeUp line)
     (λ ns long d e. row-form f (Form.Format (record { originals = getD (padded ns) 0 0; capacity = getD (padded ns) 1 0; primaries = getD (padded ns) 2 0; overflow = getD (padded ns) 3 0; parties = getD (padded ns) 4 0 })) ns line (five-numbers ns long) d e)
-    (λ e. absurd (let z : _≡_ {A = ℕ} 0 1 = cc in omega arith))
+    (take-up-row f line)
 
 withdraw-row : (f : Form) (line : List ℕ) → readWithdraw line ≡ FormRead.Read f → FormLine f line
 unfolding readWithdraw formPattern formNumbers holes
@@ -164,6 +184,7 @@ form-holes (Form.Begin q (Operation.Insert x) k) = refl
 form-holes (Form.Begin q Operation.Delete k) = refl
 form-holes (Form.Step q) = refl
 form-holes (Form.Withdraw q) = refl
+form-holes Form.TakeUp = refl
 
 pub printed-form-read : (f : Form) → FormFits f → readForm (formText f) ≡ FormRead.Read f
 unfolding FormFits FormLine formText
@@ -179,6 +200,7 @@ form-short (Form.Begin q (Operation.Insert x) k) = omega (arith, filled-short in
 form-short (Form.Begin q Operation.Delete k) = omega (arith, filled-short deleteForm (formNumbers (Form.Begin q Operation.Delete k)))
 form-short (Form.Step q) = omega (arith, filled-short stepForm (formNumbers (Form.Step q)))
 form-short (Form.Withdraw q) = omega (arith, filled-short withdrawForm (formNumbers (Form.Withdraw q)))
+form-short Form.TakeUp = omega (arith, filled-short takeUpForm (formNumbers Form.TakeUp))
 
 -- A form that is printed stands at its place and is read again from there.
 pub printed-form-there : (f : Form) (out : List ℕ) (at : ℕ) → FormFits f → at + longestForm ≤ length out

@@ -1,5 +1,7 @@
--- Replies: a line is read exactly where the grammar derives it, as the one reply that it is; reading what was printed gives the reply again.
--- Main statements: reply-read, read-reply; one-reply; unread-reply; printed-reply-read, printed-reply-there; reply-short.
+-- Replies: a line is read exactly where the grammar derives it, as the one reply that it is; reading what was printed
+-- gives the reply again.
+-- Main statements: reply-read, read-reply; one-reply; unread-reply; printed-reply-read, printed-reply-there;
+-- reply-short.
 use mathlib.Core.Path.{_≡_, refl, sym, ap, _∙_, subst, subst₂}
 use mathlib.Core.Bool.{true, false}
 use mathlib.Core.List.{List, [], _∷_, _++_, append-nil}
@@ -16,6 +18,8 @@ use Rattle.model.specs.declared.OperationAnswer.{OperationAnswer}
 use Rattle.model.specs.declared.Restructuring.{Restructuring}
 use Rattle.model.specs.declared.StepAnswer.{StepAnswer}
 use Rattle.model.specs.declared.StepAnswer.the-variants as StepAnswer
+use Rattle.model.specs.declared.TakeUpAnswer.{TakeUpAnswer}
+use Rattle.model.specs.declared.TakeUpAnswer.the-variants as TakeUpAnswer
 use Rattle.model.specs.declared.WithdrawAnswer.{WithdrawAnswer}
 use Rattle.model.specs.declared.WithdrawAnswer.the-variants as WithdrawAnswer
 use Rattle.patterns.specs.Numbers.{isDigit}
@@ -37,6 +41,8 @@ use Rattle.forms.specs.Replies.{
   beginRefused,
   withdrawOk,
   withdrawRefused,
+  takeUpOk,
+  takeUpRefused,
   stepMoved,
   stepWaiting,
   stepRefused,
@@ -48,17 +54,19 @@ use Rattle.forms.specs.Replies.{
   formatPattern,
   beginPattern,
   withdrawPattern,
+  takeUpPattern,
   stepPattern,
   replyPattern,
   formatNumbers,
   beginNumbers,
   withdrawNumbers,
+  takeUpNumbers,
   stepNumbers,
   replyNumbers,
   ReplyLine,
   replyText,
 }
-use Rattle.forms.specs.Reading.{AnswerAt, none, at, readAnswer, readRestructuring, doneAs, doneFrom, doneAfter, readDone, readStepReply, readWithdrawReply, readBeginReply, readReply}
+use Rattle.forms.specs.Reading.{AnswerAt, none, at, readAnswer, readRestructuring, doneAs, doneFrom, doneAfter, readDone, readStepReply, readTakeUpReply, readWithdrawReply, readBeginReply, readReply}
 use Rattle.forms.specs.Printing.{longestReply, given}
 use Rattle.forms.proofs.Puts.{is-given, put-there}
 use Rattle.forms.proofs.Table.{alike, take-row, skip-row, row-sound, no-number, one-number, two-numbers}
@@ -99,6 +107,11 @@ unfolding withdrawPattern plain holes isDigit
 plain-withdraw WithdrawAnswer.Withdrawn = record { parted = refl; held = lit≤ tt }
 plain-withdraw (WithdrawAnswer.Refused n) = record { parted = refl; held = lit≤ tt }
 
+plain-take-up : (a : TakeUpAnswer) → Plain (takeUpPattern a)
+unfolding takeUpPattern plain holes isDigit
+plain-take-up TakeUpAnswer.TakenUp = record { parted = refl; held = lit≤ tt }
+plain-take-up (TakeUpAnswer.Refused n) = record { parted = refl; held = lit≤ tt }
+
 plain-head : plain false stepDone ≡ true
 unfolding plain isDigit
 plain-head = refl
@@ -138,6 +151,14 @@ plain-withdrawRefused : Plain withdrawRefused
 unfolding withdrawPattern
 plain-withdrawRefused = plain-withdraw (WithdrawAnswer.Refused 0)
 
+plain-takeUpOk : Plain takeUpOk
+unfolding takeUpPattern
+plain-takeUpOk = plain-take-up TakeUpAnswer.TakenUp
+
+plain-takeUpRefused : Plain takeUpRefused
+unfolding takeUpPattern
+plain-takeUpRefused = plain-take-up (TakeUpAnswer.Refused 0)
+
 plain-moved : Plain stepMoved
 unfolding stepPattern
 plain-moved = plain-step StepAnswer.Moved
@@ -162,9 +183,13 @@ module _ {p ns line : List ℕ} (h : Plain p) (d : Derives p ns line) where
   unfolding readBeginReply
   past-begin o r = skip-row beginOk _ _ h plain-beginOk o d ∙ skip-row beginRefused _ _ h plain-beginRefused r d
 
-  past-withdraw : alike p withdrawOk ≡ false → alike p withdrawRefused ≡ false → readWithdrawReply line ≡ readStepReply line
+  past-withdraw : alike p withdrawOk ≡ false → alike p withdrawRefused ≡ false → readWithdrawReply line ≡ readTakeUpReply line
   unfolding readWithdrawReply
   past-withdraw o r = skip-row withdrawOk _ _ h plain-withdrawOk o d ∙ skip-row withdrawRefused _ _ h plain-withdrawRefused r d
+
+  past-take-up : alike p takeUpOk ≡ false → alike p takeUpRefused ≡ false → readTakeUpReply line ≡ readStepReply line
+  unfolding readTakeUpReply
+  past-take-up o r = skip-row takeUpOk _ _ h plain-takeUpOk o d ∙ skip-row takeUpRefused _ _ h plain-takeUpRefused r d
 
   past-step : alike p stepMoved ≡ false → alike p stepWaiting ≡ false → alike p stepRefused ≡ false → readStepReply line ≡ readDone line
   unfolding readStepReply
@@ -225,21 +250,40 @@ withdraw-read q (WithdrawAnswer.Refused n) line d =
     ∙ skip-row withdrawOk _ _ plain-withdrawRefused plain-withdrawOk refl d
     ∙ take-row _ _ plain-withdrawRefused d
 
+take-up-read : (a : TakeUpAnswer) (line : List ℕ) → Derives (takeUpPattern a) (takeUpNumbers a) line → readReply line ≡ ReplyRead.Read (Reply.TakeUp a)
+unfolding readTakeUpReply takeUpPattern takeUpNumbers alike padded
+take-up-read TakeUpAnswer.TakenUp line d =
+    past-format plain-takeUpOk d refl refl refl
+    ∙ past-begin plain-takeUpOk d refl refl
+    ∙ past-withdraw plain-takeUpOk d refl refl
+    ∙ take-row _ _ plain-takeUpOk d
+take-up-read (TakeUpAnswer.Refused n) line d =
+    past-format plain-takeUpRefused d refl refl refl
+    ∙ past-begin plain-takeUpRefused d refl refl
+    ∙ past-withdraw plain-takeUpRefused d refl refl
+    ∙ skip-row takeUpOk _ _ plain-takeUpRefused plain-takeUpOk refl d
+    ∙ take-row _ _ plain-takeUpRefused d
+
+-- The rows of every other call are skipped.
+past-others : (a : StepAnswer) {ns line : List ℕ} → Derives (stepPattern a) ns line → readReply line ≡ readStepReply line
+unfolding stepPattern alike
+past-others StepAnswer.Waiting d = past-format plain-waiting d refl refl refl ∙ past-begin plain-waiting d refl refl ∙ past-withdraw plain-waiting d refl refl ∙ past-take-up plain-waiting d refl refl
+past-others StepAnswer.Moved d = past-format plain-moved d refl refl refl ∙ past-begin plain-moved d refl refl ∙ past-withdraw plain-moved d refl refl ∙ past-take-up plain-moved d refl refl
+past-others (StepAnswer.Refused n) d = past-format plain-refused d refl refl refl ∙ past-begin plain-refused d refl refl ∙ past-withdraw plain-refused d refl refl ∙ past-take-up plain-refused d refl refl
+past-others (StepAnswer.Done a r) d =
+    let p = plain-step (StepAnswer.Done a r) in
+    past-format p d refl refl refl ∙ past-begin p d refl refl ∙ past-withdraw p d refl refl ∙ past-take-up p d refl refl
+
 step-read : (q : ℕ) (a : StepAnswer) (line : List ℕ) → Derives (stepPattern a) (q ∷ stepNumbers a) line → readReply line ≡ ReplyRead.Read (Reply.Step q a)
 unfolding readStepReply stepPattern stepNumbers alike padded
-step-read q StepAnswer.Moved line d = past-format plain-moved d refl refl refl ∙ past-begin plain-moved d refl refl ∙ past-withdraw plain-moved d refl refl ∙ take-row _ _ plain-moved d
-step-read q StepAnswer.Waiting line d =
-    past-format plain-waiting d refl refl refl ∙ past-begin plain-waiting d refl refl ∙ past-withdraw plain-waiting d refl refl ∙ skip-row stepMoved _ _ plain-waiting plain-moved refl d ∙ take-row _ _ plain-waiting d
+step-read q StepAnswer.Moved line d = past-others StepAnswer.Moved d ∙ take-row _ _ plain-moved d
+step-read q StepAnswer.Waiting line d = past-others StepAnswer.Waiting d ∙ skip-row stepMoved _ _ plain-waiting plain-moved refl d ∙ take-row _ _ plain-waiting d
 step-read q (StepAnswer.Refused n) line d =
-    past-format plain-refused d refl refl refl
-    ∙ past-begin plain-refused d refl refl
-    ∙ past-withdraw plain-refused d refl refl
+    past-others (StepAnswer.Refused n) d
     ∙ skip-row stepMoved _ _ plain-refused plain-moved refl d
     ∙ skip-row stepWaiting _ _ plain-refused plain-waiting refl d
     ∙ take-row _ _ plain-refused d
-step-read q (StepAnswer.Done a r) line d =
-    let p = plain-step (StepAnswer.Done a r) in
-    past-format p d refl refl refl ∙ past-begin p d refl refl ∙ past-withdraw p d refl refl ∙ past-step p d refl refl refl ∙ done-read q a r line d
+step-read q (StepAnswer.Done a r) line d = past-others (StepAnswer.Done a r) d ∙ past-step (plain-step (StepAnswer.Done a r)) d refl refl refl ∙ done-read q a r line d
 
 pub reply-read : (r : Reply) (line : List ℕ) → ReplyLine r line → readReply line ≡ ReplyRead.Read r
 unfolding ReplyLine replyPattern replyNumbers readReply
@@ -248,6 +292,7 @@ reply-read (Reply.Format a) line d = format-read a line d
 reply-read (Reply.Begin q a) line d = begin-read q a line d
 reply-read (Reply.Step q a) line d = step-read q a line d
 reply-read (Reply.Withdraw q a) line d = withdraw-read q a line d
+reply-read (Reply.TakeUp a) line d = take-up-read a line d
 
 -- ---- A line that is read is derived by the grammar
 
@@ -300,11 +345,17 @@ step-sound r line =
     (row-sound stepWaiting line _ _ (λ ns long d e. row-reply r (Reply.Step (getD (padded ns) 0 0) StepAnswer.Waiting) ns line (one-number ns long) d e)
     (row-sound stepRefused line _ _ (λ ns long d e. row-reply r (Reply.Step (getD (padded ns) 0 0) (StepAnswer.Refused (getD (padded ns) 1 0))) ns line (two-numbers ns long) d e) (done-sound r line)))
 
+take-up-sound : (r : Reply) (line : List ℕ) → readTakeUpReply line ≡ ReplyRead.Read r → ReplyLine r line
+unfolding readTakeUpReply replyPattern replyNumbers takeUpPattern takeUpNumbers holes
+take-up-sound r line =
+    row-sound takeUpOk line _ _ (λ ns long d e. row-reply r (Reply.TakeUp TakeUpAnswer.TakenUp) ns line (no-number ns long) d e)
+    (row-sound takeUpRefused line _ _ (λ ns long d e. row-reply r (Reply.TakeUp (TakeUpAnswer.Refused (getD (padded ns) 0 0))) ns line (one-number ns long) d e) (step-sound r line))
+
 withdraw-sound : (r : Reply) (line : List ℕ) → readWithdrawReply line ≡ ReplyRead.Read r → ReplyLine r line
 unfolding readWithdrawReply replyPattern replyNumbers withdrawPattern withdrawNumbers holes
 withdraw-sound r line =
     row-sound withdrawOk line _ _ (λ ns long d e. row-reply r (Reply.Withdraw (getD (padded ns) 0 0) WithdrawAnswer.Withdrawn) ns line (one-number ns long) d e)
-    (row-sound withdrawRefused line _ _ (λ ns long d e. row-reply r (Reply.Withdraw (getD (padded ns) 0 0) (WithdrawAnswer.Refused (getD (padded ns) 1 0))) ns line (two-numbers ns long) d e) (step-sound r line))
+    (row-sound withdrawRefused line _ _ (λ ns long d e. row-reply r (Reply.Withdraw (getD (padded ns) 0 0) (WithdrawAnswer.Refused (getD (padded ns) 1 0))) ns line (two-numbers ns long) d e) (take-up-sound r line))
 
 begin-sound : (r : Reply) (line : List ℕ) → readBeginReply line ≡ ReplyRead.Read r → ReplyLine r line
 unfolding readBeginReply replyPattern replyNumbers beginPattern beginNumbers holes
@@ -340,7 +391,7 @@ unfoldable pub ReplyFits : Reply → Type 0
 ReplyFits r = Small (replyNumbers r)
 
 reply-holes : (r : Reply) → length (replyNumbers r) ≡ holes (replyPattern r)
-unfolding replyNumbers replyPattern formatNumbers formatPattern beginNumbers beginPattern withdrawNumbers withdrawPattern stepNumbers stepPattern holes
+unfolding replyNumbers replyPattern formatNumbers formatPattern beginNumbers beginPattern withdrawNumbers withdrawPattern takeUpNumbers takeUpPattern stepNumbers stepPattern holes
 reply-holes Reply.Unread = refl
 reply-holes (Reply.Format FormatAnswer.Formatted) = refl
 reply-holes (Reply.Format (FormatAnswer.Refused n)) = refl
@@ -352,6 +403,8 @@ reply-holes (Reply.Step q (StepAnswer.Done a r)) = omega (arith, tail-holes a r)
 reply-holes (Reply.Step q (StepAnswer.Refused n)) = refl
 reply-holes (Reply.Withdraw q WithdrawAnswer.Withdrawn) = refl
 reply-holes (Reply.Withdraw q (WithdrawAnswer.Refused n)) = refl
+reply-holes (Reply.TakeUp TakeUpAnswer.TakenUp) = refl
+reply-holes (Reply.TakeUp (TakeUpAnswer.Refused n)) = refl
 
 pub printed-reply-read : (r : Reply) → ReplyFits r → readReply (replyText r) ≡ ReplyRead.Read r
 unfolding ReplyFits ReplyLine replyText
@@ -368,7 +421,7 @@ done-short q a r =
     omega (arith, ap length (done-text q a r), whole, words, filled-short stepDone ns, answer-short a, restructuring-short r)
 
 pub reply-short : (r : Reply) → length (replyText r) ≤ longestReply
-unfolding replyText replyPattern formatPattern beginPattern withdrawPattern stepPattern longest
+unfolding replyText replyPattern formatPattern beginPattern withdrawPattern takeUpPattern stepPattern longest
 reply-short Reply.Unread = omega (arith, filled-short unreadReply (replyNumbers Reply.Unread))
 reply-short (Reply.Format FormatAnswer.Formatted) = omega (arith, filled-short formatOk (replyNumbers (Reply.Format FormatAnswer.Formatted)))
 reply-short (Reply.Format (FormatAnswer.Refused n)) = omega (arith, filled-short formatRefused (replyNumbers (Reply.Format (FormatAnswer.Refused n))))
@@ -380,6 +433,8 @@ reply-short (Reply.Step q (StepAnswer.Done a r)) = done-short q a r
 reply-short (Reply.Step q (StepAnswer.Refused n)) = omega (arith, filled-short stepRefused (replyNumbers (Reply.Step q (StepAnswer.Refused n))))
 reply-short (Reply.Withdraw q WithdrawAnswer.Withdrawn) = omega (arith, filled-short withdrawOk (replyNumbers (Reply.Withdraw q WithdrawAnswer.Withdrawn)))
 reply-short (Reply.Withdraw q (WithdrawAnswer.Refused n)) = omega (arith, filled-short withdrawRefused (replyNumbers (Reply.Withdraw q (WithdrawAnswer.Refused n))))
+reply-short (Reply.TakeUp TakeUpAnswer.TakenUp) = omega (arith, filled-short takeUpOk (replyNumbers (Reply.TakeUp TakeUpAnswer.TakenUp)))
+reply-short (Reply.TakeUp (TakeUpAnswer.Refused n)) = omega (arith, filled-short takeUpRefused (replyNumbers (Reply.TakeUp (TakeUpAnswer.Refused n))))
 
 -- A reply that is printed stands at its place and is read again from there.
 pub printed-reply-there : (r : Reply) (out : List ℕ) (place : ℕ) → ReplyFits r → place + longestReply ≤ length out

@@ -1,5 +1,7 @@
--- The forms that turns reads (document 01, "The turns program"; document 02, change 2): each has a pattern and the numbers in it.
--- Main definitions: formPattern and formNumbers, a row for each form; FormLine (the lines that the grammar derives for a form); formText (as it is printed).
+-- The forms that turns reads (document 01, "The turns program"; document 02, changes 2 and 6): each has a pattern and the
+-- numbers in it.
+-- Main definitions: formPattern and formNumbers, a row for each form; FormLine (the lines that the grammar derives for a
+-- form); formText (as it is printed).
 use mathlib.Core.List.{List, [], _∷_}
 use Prim.Native.Nat.{ℕ}
 use Rattle.model.specs.declared.FileSizes.{FileSizes}
@@ -16,6 +18,9 @@ stepForm = bytes "(step #)"
 
 abbrev pub withdrawForm : List ℕ
 withdrawForm = bytes "(withdraw #)"
+
+abbrev pub takeUpForm : List ℕ
+takeUpForm = bytes "(take-up)"
 
 abbrev pub formatForm : List ℕ
 formatForm = bytes "(format # # # # #)"
@@ -39,6 +44,7 @@ formPattern (Form.Format s) = formatForm
 formPattern (Form.Begin q o k) = beginForm o
 formPattern (Form.Step q) = stepForm
 formPattern (Form.Withdraw q) = withdrawForm
+formPattern Form.TakeUp = takeUpForm
 
 -- "(format N b P V Q)".
 unfoldable pub sizeNumbers : FileSizes → List ℕ
@@ -55,6 +61,7 @@ formNumbers (Form.Format s) = sizeNumbers s
 formNumbers (Form.Begin q o k) = q ∷ operationNumbers o k
 formNumbers (Form.Step q) = q ∷ []
 formNumbers (Form.Withdraw q) = q ∷ []
+formNumbers Form.TakeUp = []
 
 -- The lines that are this form: numbers of one to ten digits, single spaces, nothing before or after.
 unfoldable pub FormLine : Form → List ℕ → Type 0

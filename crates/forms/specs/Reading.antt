@@ -12,6 +12,7 @@ use Rattle.model.specs.declared.OperationAnswer.the-variants as OperationAnswer
 use Rattle.model.specs.declared.Restructuring.{Restructuring}
 use Rattle.model.specs.declared.Restructuring.the-variants as Restructuring
 use Rattle.model.specs.declared.StepAnswer.the-variants as StepAnswer
+use Rattle.model.specs.declared.TakeUpAnswer.the-variants as TakeUpAnswer
 use Rattle.model.specs.declared.WithdrawAnswer.the-variants as WithdrawAnswer
 use Rattle.patterns.specs.Patterns.{Matching, no, yes, matchFrom, toEnd, padded}
 use Rattle.forms.specs.declared.Form.{Form}
@@ -26,8 +27,8 @@ use Rattle.forms.specs.declared.AnswerRead.{AnswerRead}
 use Rattle.forms.specs.declared.AnswerRead.the-variants as AnswerRead
 use Rattle.forms.specs.declared.RestructuringRead.{RestructuringRead}
 use Rattle.forms.specs.declared.RestructuringRead.the-variants as RestructuringRead
-use Rattle.forms.specs.Forms.{stepForm, withdrawForm, formatForm, findForm, insertForm, deleteForm}
-use Rattle.forms.specs.Replies.{unreadReply, formatOk, formatRefused, beginOk, beginRefused, withdrawOk, withdrawRefused, stepMoved, stepWaiting, stepRefused, stepDone, foundAnswer, answerPattern, restructuringText}
+use Rattle.forms.specs.Forms.{stepForm, withdrawForm, takeUpForm, formatForm, findForm, insertForm, deleteForm}
+use Rattle.forms.specs.Replies.{unreadReply, formatOk, formatRefused, beginOk, beginRefused, withdrawOk, withdrawRefused, takeUpOk, takeUpRefused, stepMoved, stepWaiting, stepRefused, stepDone, foundAnswer, answerPattern, restructuringText}
 
 -- What the numbers found make, where there is a match, or else another thing.
 unfoldable pub orElse : {A : Type 0} → Matching → (List ℕ → A) → A → A
@@ -62,8 +63,14 @@ asFormat ns =
       parties = getD ns 4 0;
     }))
 
+abbrev pub asTakeUp : List ℕ → FormRead
+asTakeUp ns = FormRead.Read Form.TakeUp
+
+unfoldable pub readTakeUp : List ℕ → FormRead
+readTakeUp line = orElse (wholly takeUpForm line) asTakeUp FormRead.Unread
+
 unfoldable pub readFormat : List ℕ → FormRead
-readFormat line = orElse (wholly formatForm line) asFormat FormRead.Unread
+readFormat line = orElse (wholly formatForm line) asFormat (readTakeUp line)
 
 unfoldable pub readWithdraw : List ℕ → FormRead
 readWithdraw line = orElse (wholly withdrawForm line) asWithdraw (readFormat line)
@@ -141,10 +148,15 @@ readStepReply line =
     (orElse (wholly stepWaiting line) (λ ns. ReplyRead.Read (Reply.Step (getD ns 0 0) StepAnswer.Waiting))
     (orElse (wholly stepRefused line) (λ ns. ReplyRead.Read (Reply.Step (getD ns 0 0) (StepAnswer.Refused (getD ns 1 0)))) (readDone line)))
 
+unfoldable pub readTakeUpReply : List ℕ → ReplyRead
+readTakeUpReply line =
+    orElse (wholly takeUpOk line) (λ ns. ReplyRead.Read (Reply.TakeUp TakeUpAnswer.TakenUp))
+    (orElse (wholly takeUpRefused line) (λ ns. ReplyRead.Read (Reply.TakeUp (TakeUpAnswer.Refused (getD ns 0 0)))) (readStepReply line))
+
 unfoldable pub readWithdrawReply : List ℕ → ReplyRead
 readWithdrawReply line =
     orElse (wholly withdrawOk line) (λ ns. ReplyRead.Read (Reply.Withdraw (getD ns 0 0) WithdrawAnswer.Withdrawn))
-    (orElse (wholly withdrawRefused line) (λ ns. ReplyRead.Read (Reply.Withdraw (getD ns 0 0) (WithdrawAnswer.Refused (getD ns 1 0)))) (readStepReply line))
+    (orElse (wholly withdrawRefused line) (λ ns. ReplyRead.Read (Reply.Withdraw (getD ns 0 0) (WithdrawAnswer.Refused (getD ns 1 0)))) (readTakeUpReply line))
 
 unfoldable pub readBeginReply : List ℕ → ReplyRead
 readBeginReply line =

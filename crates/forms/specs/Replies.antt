@@ -1,6 +1,7 @@
--- The replies that turns prints (document 01, "The turns program"; document 02, change 2): each has a pattern and the numbers in it.
--- Main definitions: replyPattern and replyNumbers, a row for each reply; a step that is done has a row for its answer and one for the restructuring;
--- ReplyLine, replyText.
+-- The replies that turns prints (document 01, "The turns program"; document 02, changes 2 and 6): each has a pattern and
+-- the numbers in it.
+-- Main definitions: replyPattern and replyNumbers, a row for each reply; a step that is done has a row for its answer and
+-- one for the restructuring; ReplyLine, replyText.
 use mathlib.Core.List.{List, [], _∷_, _++_}
 use Prim.Native.Nat.{ℕ}
 use Rattle.model.specs.declared.BeginAnswer.{BeginAnswer}
@@ -13,6 +14,8 @@ use Rattle.model.specs.declared.Restructuring.{Restructuring}
 use Rattle.model.specs.declared.Restructuring.the-variants as Restructuring
 use Rattle.model.specs.declared.StepAnswer.{StepAnswer}
 use Rattle.model.specs.declared.StepAnswer.the-variants as StepAnswer
+use Rattle.model.specs.declared.TakeUpAnswer.{TakeUpAnswer}
+use Rattle.model.specs.declared.TakeUpAnswer.the-variants as TakeUpAnswer
 use Rattle.model.specs.declared.WithdrawAnswer.{WithdrawAnswer}
 use Rattle.model.specs.declared.WithdrawAnswer.the-variants as WithdrawAnswer
 use Rattle.patterns.specs.Texts.{bytes}
@@ -43,6 +46,12 @@ withdrawOk = bytes "(withdraw # ok)"
 
 abbrev pub withdrawRefused : List ℕ
 withdrawRefused = bytes "(withdraw # (refused #))"
+
+abbrev pub takeUpOk : List ℕ
+takeUpOk = bytes "(take-up ok)"
+
+abbrev pub takeUpRefused : List ℕ
+takeUpRefused = bytes "(take-up (refused #))"
 
 abbrev pub stepMoved : List ℕ
 stepMoved = bytes "(step # moved)"
@@ -89,6 +98,10 @@ unfoldable pub withdrawPattern : WithdrawAnswer → List ℕ
 withdrawPattern WithdrawAnswer.Withdrawn = withdrawOk
 withdrawPattern (WithdrawAnswer.Refused n) = withdrawRefused
 
+unfoldable pub takeUpPattern : TakeUpAnswer → List ℕ
+takeUpPattern TakeUpAnswer.TakenUp = takeUpOk
+takeUpPattern (TakeUpAnswer.Refused n) = takeUpRefused
+
 unfoldable pub stepPattern : StepAnswer → List ℕ
 stepPattern StepAnswer.Waiting = stepWaiting
 stepPattern StepAnswer.Moved = stepMoved
@@ -101,6 +114,7 @@ replyPattern (Reply.Format a) = formatPattern a
 replyPattern (Reply.Begin q a) = beginPattern a
 replyPattern (Reply.Step q a) = stepPattern a
 replyPattern (Reply.Withdraw q a) = withdrawPattern a
+replyPattern (Reply.TakeUp a) = takeUpPattern a
 
 unfoldable pub formatNumbers : FormatAnswer → List ℕ
 formatNumbers FormatAnswer.Formatted = []
@@ -113,6 +127,10 @@ beginNumbers (BeginAnswer.Refused n) = n ∷ []
 unfoldable pub withdrawNumbers : WithdrawAnswer → List ℕ
 withdrawNumbers WithdrawAnswer.Withdrawn = []
 withdrawNumbers (WithdrawAnswer.Refused n) = n ∷ []
+
+unfoldable pub takeUpNumbers : TakeUpAnswer → List ℕ
+takeUpNumbers TakeUpAnswer.TakenUp = []
+takeUpNumbers (TakeUpAnswer.Refused n) = n ∷ []
 
 -- Found has its setting.
 unfoldable pub answerNumbers : OperationAnswer → List ℕ
@@ -135,6 +153,7 @@ replyNumbers (Reply.Format a) = formatNumbers a
 replyNumbers (Reply.Begin q a) = q ∷ beginNumbers a
 replyNumbers (Reply.Step q a) = q ∷ stepNumbers a
 replyNumbers (Reply.Withdraw q a) = q ∷ withdrawNumbers a
+replyNumbers (Reply.TakeUp a) = takeUpNumbers a
 
 -- An answer as it is printed, with the space behind it.
 unfoldable pub answerText : OperationAnswer → List ℕ

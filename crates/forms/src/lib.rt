@@ -1,7 +1,8 @@
-// The forms of the program turns (document 01, "The turns program"; document 02, change 2): the six that it reads and
-// the replies that it prints, each read and printed by its pattern.
-// Main statements: read_form and read_reply are readForm and readReply; print_form and print_reply write the text of a form and of a reply. That a line is
-// read exactly where the grammar derives it, and that what is printed is read again: proofs/FormTheorems.antt and proofs/ReplyTheorems.antt.
+// The forms of the program turns (document 01, "The turns program"; document 02, changes 2 and 6): the seven that it
+// reads and the replies that it prints, each read and printed by its pattern.
+// Main statements: read_form and read_reply are readForm and readReply; print_form and print_reply write the text of a
+// form and of a reply. That a line is read exactly where the grammar derives it, and that what is printed is read again:
+// proofs/FormTheorems.antt and proofs/ReplyTheorems.antt.
 
 ghost use mathlib.Core.Path.{_≡_};
 ghost use mathlib.Core.Bool.{cond};
@@ -13,7 +14,7 @@ ghost use lib.Dec.{leb};
 ghost use Rattle.patterns.specs.Patterns.{matched};
 ghost use Rattle.forms.specs.Forms.{stepForm, formText};
 ghost use Rattle.forms.specs.Replies.{replyText, answerText, restructuringText};
-ghost use Rattle.forms.specs.Reading.{wholly, readForm, readBegin, readWithdraw, readFormat, readReply, readBeginReply, readWithdrawReply, readStepReply, readDone, readAnswer, answerRead, readRestructuring};
+ghost use Rattle.forms.specs.Reading.{wholly, readForm, readBegin, readWithdraw, readFormat, readTakeUp, readReply, readBeginReply, readWithdrawReply, readTakeUpReply, readStepReply, readDone, readAnswer, answerRead, readRestructuring};
 ghost use Rattle.forms.specs.Printing.{longestForm, longestReply, given};
 use model::BeginAnswer;
 use model::FileSizes;
@@ -22,6 +23,7 @@ use model::Operation;
 use model::OperationAnswer;
 use model::Restructuring;
 use model::StepAnswer;
+use model::TakeUpAnswer;
 use model::WithdrawAnswer;
 use patterns::Match;
 use patterns::Number;
@@ -31,12 +33,14 @@ pub const LONGEST_FORM: usize = 63;
 
 pub const LONGEST_REPLY: usize = 57;
 
-// A form that turns reads: the party's number stands first; a begin has its operation, an insert with its setting, and the key.
+// A form that turns reads: the party's number stands first; a begin has its operation, an insert with its setting, and
+// the key.
 pub enum Form {
     Format(FileSizes),
     Begin(u32, Operation, u32),
     Step(u32),
     Withdraw(u32),
+    TakeUp,
 }
 
 // What turns prints for a line.
@@ -46,6 +50,7 @@ pub enum Reply {
     Begin(u32, BeginAnswer),
     Step(u32, StepAnswer),
     Withdraw(u32, WithdrawAnswer),
+    TakeUp(TakeUpAnswer),
 }
 
 // What a line says.
@@ -160,6 +165,17 @@ fn read_format(line: &[u8]) -> FormRead
             parties: n[4],
         }));
     }
+    read_take_up(line)
+}
+
+// The form of a line that is no call for a party and no format.
+fn read_take_up(line: &[u8]) -> FormRead
+    ensures { λ r. ⌜ r ≡ readTakeUp (now (line .entry)) ⌝ }
+{
+    let m = patterns::match_rest(b"(take-up)", line, 0);
+    if m.matched {
+        return FormRead::Read(Form::TakeUp);
+    }
     FormRead::Unread
 }
 
@@ -213,6 +229,21 @@ fn read_withdraw_reply(line: &[u8]) -> ReplyRead
     if m.matched {
         let n = m.numbers;
         return ReplyRead::Read(Reply::Withdraw(n[0], WithdrawAnswer::Refused(n[1])));
+    }
+    read_take_up_reply(line)
+}
+
+fn read_take_up_reply(line: &[u8]) -> ReplyRead
+    ensures { λ r. ⌜ r ≡ readTakeUpReply (now (line .entry)) ⌝ }
+{
+    let m = patterns::match_rest(b"(take-up ok)", line, 0);
+    if m.matched {
+        return ReplyRead::Read(Reply::TakeUp(TakeUpAnswer::TakenUp));
+    }
+    let m = patterns::match_rest(b"(take-up (refused #))", line, 0);
+    if m.matched {
+        let n = m.numbers;
+        return ReplyRead::Read(Reply::TakeUp(TakeUpAnswer::Refused(n[0])));
     }
     read_step_reply(line)
 }
@@ -345,6 +376,7 @@ fn put_form(form: Form, out: &mut [u8], at: usize) -> usize
             out,
             at,
         ),
+        Form::TakeUp => patterns::fill(b"(take-up)", [0, 0, 0, 0, 0], out, at),
     }
 }
 
@@ -387,6 +419,7 @@ fn put_reply(reply: Reply, out: &mut [u8], at: usize) -> usize
         Reply::Begin(q, answer) => put_begin_reply(q, answer, out, at),
         Reply::Step(q, answer) => put_step_reply(q, answer, out, at),
         Reply::Withdraw(q, answer) => put_withdraw_reply(q, answer, out, at),
+        Reply::TakeUp(answer) => put_take_up_reply(answer, out, at),
     }
 }
 
@@ -432,6 +465,22 @@ fn put_withdraw_reply(q: u32, answer: WithdrawAnswer, out: &mut [u8], at: usize)
         WithdrawAnswer::Refused(n) => patterns::fill(
             b"(withdraw # (refused #))",
             [q, n, 0, 0, 0],
+            out,
+            at,
+        ),
+    }
+}
+
+fn put_take_up_reply(answer: TakeUpAnswer, out: &mut [u8], at: usize) -> usize
+    requires { ⌜ at + longestReply ≤ length (now out) ⌝ }
+    ensures { λ r. ⌜ r ≡ at + length (replyText (Reply.TakeUp answer)) ⌝ }
+    ensures { λ _. ⌜ now (out .exit) ≡ sets (now (out .entry)) at (replyText (Reply.TakeUp answer)) ⌝ }
+{
+    match answer {
+        TakeUpAnswer::TakenUp => patterns::fill(b"(take-up ok)", [0, 0, 0, 0, 0], out, at),
+        TakeUpAnswer::Refused(n) => patterns::fill(
+            b"(take-up (refused #))",
+            [n, 0, 0, 0, 0],
             out,
             at,
         ),

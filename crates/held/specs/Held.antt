@@ -1,6 +1,6 @@
 -- The file held by value: which memory a call is lent, and what is held after it.
--- Main definitions: recordsLent, memoryOf; heldFormat, heldBegin, heldStep, heldWithdraw: each gives the answer, all
--- that is held and all lent words afterwards.
+-- Main definitions: recordsLent, memoryOf; heldFormat, heldBegin, heldStep, heldWithdraw, heldTakeUp: each gives the
+-- answer, all that is held and all lent words afterwards.
 use mathlib.Core.List.{List, _++_}
 use Prim.Native.Nat.{ℕ, min}
 use lib.ListN.{take, drop}
@@ -9,9 +9,11 @@ use Rattle.model.specs.declared.FileSizes.{FileSizes}
 use Rattle.model.specs.declared.FormatAnswer.{FormatAnswer}
 use Rattle.model.specs.declared.BeginAnswer.{BeginAnswer}
 use Rattle.model.specs.declared.StepAnswer.{StepAnswer}
+use Rattle.model.specs.declared.TakeUpAnswer.{TakeUpAnswer}
 use Rattle.model.specs.declared.WithdrawAnswer.{WithdrawAnswer}
 use Rattle.model.specs.Memory.{Memory}
 use Rattle.model.specs.Calls.{Called, called, formatCall, beginCall, stepCall, withdrawCall}
+use Rattle.model.specs.TakeUp.{takeUpCall}
 use Rattle.calls.specs.Lent.{lent}
 use Rattle.held.specs.declared.Held.{Held}
 
@@ -54,3 +56,9 @@ abbrev pub heldWithdraw : Memory → ℕ → Called WithdrawAnswer
 heldWithdraw m q =
     let n = recordsLent (m .root .parties) in
     withRest n m (withdrawCall (firstOf n m) q)
+
+-- Take the file up.
+abbrev pub heldTakeUp : Memory → Called TakeUpAnswer
+heldTakeUp m =
+    let n = recordsLent (m .root .parties) in
+    withRest n m (takeUpCall (firstOf n m))

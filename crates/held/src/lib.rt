@@ -2,16 +2,17 @@
 // The calls of `calls` are handed the root, the party's record, which is one of the first Q of the row, and the words
 // that the caller lends; what comes back is written where it stood, and the records past Q stay.
 // Main statements: each call answers, and leaves in all that is held and in every lent word, what the model's
-// formatCall, beginCall, stepCall and withdrawCall say of the memory lent (specs/Held.antt); there is nothing that a
-// caller must see to.
+// formatCall, beginCall, stepCall, withdrawCall and takeUpCall say of the memory lent (specs/Held.antt); there is
+// nothing that a caller must see to.
 
 ghost use mathlib.Core.Path.{_≡_};
 ghost use mathlib.Core.List.{_++_};
 ghost use Prim.Native.Nat.{_≤_};
-ghost use lib.ListN.{drop, replicate};
+ghost use lib.ListN.{take, drop, replicate};
 ghost use Rattle.model.specs.Records.{idle};
 ghost use Rattle.model.specs.Calls.{called};
-ghost use Rattle.held.specs.Held.{recordsLent, memoryOf, heldFormat, heldBegin, heldStep, heldWithdraw};
+ghost use Rattle.model.specs.TakeUp.{allIdle};
+ghost use Rattle.held.specs.Held.{recordsLent, memoryOf, heldFormat, heldBegin, heldStep, heldWithdraw, heldTakeUp};
 use model::BeginAnswer;
 use model::FileSizes;
 use model::FormatAnswer;
@@ -20,6 +21,7 @@ use model::Operation;
 use model::Party;
 use model::Root;
 use model::StepAnswer;
+use model::TakeUpAnswer;
 use model::WithdrawAnswer;
 
 // The root record, and a row with room for the records of the most parties there may be.
@@ -180,4 +182,31 @@ pub fn withdraw(held: Held, locks: &mut [u32], pages: &mut [u32], q: u32) -> Hel
         held: Held { root, row },
         answer,
     }
+}
+
+// Whether the first n records of the row are zero.
+fn all_idle(row: [Party; 16], n: usize) -> bool
+    requires { ⌜ n ≤ 16 ⌝ }
+    ensures { λ r. ⌜ r ≡ allIdle (take n row) ⌝ }
+{
+    let mut idle = true;
+    let mut i = 0;
+    while i < n {
+        let party = row[i];
+        let zero = records::is_zero(party);
+        idle = idle & zero;
+        i += 1;
+    }
+    idle
+}
+
+// Take the file up: it is tested, and nothing is altered.
+pub fn take_up(held: Held, locks: &[u32], pages: &[u32]) -> TakeUpAnswer
+    ensures { λ r. ⌜ called r (memoryOf held (now (locks .entry)) (now (pages .entry))) ≡ heldTakeUp (memoryOf held (now (locks .entry)) (now (pages .entry))) ⌝ }
+{
+    let root = held.root;
+    let row = held.row;
+    let n = records_lent(root.parties);
+    let idle = all_idle(row, n);
+    calls::take_up(root, idle, n, locks, pages)
 }

@@ -21,6 +21,8 @@ use Rattle.model.specs.declared.Stepped.{Stepped}
 use Rattle.model.specs.Records as Records
 use Rattle.model.specs.Memory.{Memory, partyAt}
 use Rattle.model.specs.Calls.{Called, called, formatCall, beginCall, stepCall, withdrawCall}
+use Rattle.model.specs.declared.TakeUpAnswer.{TakeUpAnswer}
+use Rattle.model.specs.TakeUp.{allIdle, takeUpCall}
 use Rattle.calls.specs.declared.Formatted.{Formatted}
 use Rattle.calls.specs.declared.Begun.{Begun}
 use Rattle.calls.specs.declared.Withdrawn.{Withdrawn}
@@ -133,3 +135,13 @@ module _ (r : Root) (ps : List Party) (ls gs : List ℕ) where
 
     pub withdraw-past : (a : WithdrawAnswer) → length ps ≤ q → PastWithdrawSaid r (length ps) (length ls) (length gs) q a → called a (lent r ps ls gs) ≡ withdrawCall (lent r ps ls gs) q
     withdraw-past a past said = said ps ls gs refl refl refl past
+
+-- ---- Take-up
+
+-- Take-up of a row of `parties` records, of which t says whether all are zero.
+abbrev pub TakenSaid : Root → Bool → ℕ → List ℕ → List ℕ → TakeUpAnswer → Type 0
+TakenSaid r t parties ls gs x = (row : List Party) → length row ≡ parties → allIdle row ≡ t → called x (lent r row ls gs) ≡ takeUpCall (lent r row ls gs)
+
+pub taken-up : (r : Root) (ps : List Party) (ls gs : List ℕ) (t : Bool) (x : TakeUpAnswer) → t ≡ allIdle ps → TakenSaid r t (length ps) ls gs x
+    → called x (lent r ps ls gs) ≡ takeUpCall (lent r ps ls gs)
+taken-up r ps ls gs t x told said = said ps refl (sym told)

@@ -11,6 +11,7 @@ ghost use mathlib.Core.Path.{_≡_};
 ghost use lib.ListN.{length, replicate, set};
 ghost use Rattle.model.specs.Memory.{partyAt};
 ghost use Rattle.model.specs.Calls.{called, formatCall, beginCall, stepCall, withdrawCall};
+ghost use Rattle.model.specs.TakeUp.{allIdle, takeUpCall};
 ghost use Rattle.calls.specs.Lent.{lent};
 ghost use Rattle.index.specs.Answered.{isFormatted, isBegun};
 ghost use Rattle.index.specs.Marks.{markOf, rootBy, partyBy};
@@ -21,6 +22,7 @@ use model::Operation;
 use model::Party;
 use model::Root;
 use model::StepAnswer;
+use model::TakeUpAnswer;
 use model::WithdrawAnswer;
 
 // Every record of the row becomes `p`.
@@ -243,4 +245,26 @@ pub fn withdraw(
     } else {
         return calls::withdraw_past(former, parties.len(), locks.len(), pages.len(), q);
     }
+}
+
+// Whether every record of the row is zero.
+fn all_idle(parties: &[Party]) -> bool
+    ensures { λ r. ⌜ r ≡ allIdle (now (parties .entry)) ⌝ }
+{
+    let mut idle = true;
+    let mut i: usize = 0;
+    while i < parties.len() {
+        idle = idle & records::is_zero(parties[i]);
+        i += 1;
+    }
+    idle
+}
+
+// Take up a saved file: it is tested, and nothing is altered.
+pub fn take_up(root: &Root, parties: &[Party], locks: &[u32], pages: &[u32]) -> TakeUpAnswer
+    ensures { λ r. ⌜ called r (lent (now (root .entry)) (now (parties .entry)) (now (locks .entry)) (now (pages .entry))) ≡ takeUpCall (lent (now (root .entry)) (now (parties .entry)) (now (locks .entry)) (now (pages .entry))) ⌝ }
+{
+    let former = *root;
+    let idle = all_idle(parties);
+    calls::take_up(former, idle, parties.len(), locks, pages)
 }

@@ -44,6 +44,7 @@ form-line-short (Form.Begin q (Operation.Insert x) k) line d = omega (arith, der
 form-line-short (Form.Begin q Operation.Delete k) line d = omega (arith, derived-short d)
 form-line-short (Form.Step q) line d = omega (arith, derived-short d)
 form-line-short (Form.Withdraw q) line d = omega (arith, derived-short d)
+form-line-short Form.TakeUp line d = omega (arith, derived-short d)
 
 pub long-unread : (line : List ℕ) → longestForm < length line → readForm line ≡ FormRead.Unread
 long-unread line h = go (readForm line) refl

@@ -9,7 +9,7 @@ use Rattle.model.specs.Records.{rootSized}
 use Rattle.model.specs.Memory.{Memory}
 use Rattle.model.specs.Calls.{Called, called}
 use Rattle.calls.specs.Lent.{lent}
-use Rattle.held.specs.Held.{heldFormat, heldBegin, heldStep, heldWithdraw}
+use Rattle.held.specs.Held.{heldFormat, heldBegin, heldStep, heldWithdraw, heldTakeUp}
 use Rattle.forms.specs.declared.Form.{Form}
 use Rattle.forms.specs.declared.Form.the-variants as Form
 use Rattle.forms.specs.declared.FormRead.{FormRead}
@@ -32,6 +32,7 @@ performed (Form.Format z) m = withWords (rootSized z) m (λ a. Reply.Format a) (
 performed (Form.Begin q o k) m = withWords (m .root) m (λ a. Reply.Begin q a) (heldBegin (wordsFor (m .root) m) q o k)
 performed (Form.Step q) m = withWords (m .root) m (λ a. Reply.Step q a) (heldStep (wordsFor (m .root) m) q)
 performed (Form.Withdraw q) m = withWords (m .root) m (λ a. Reply.Withdraw q a) (heldWithdraw (wordsFor (m .root) m) q)
+performed Form.TakeUp m = withWords (m .root) m (λ a. Reply.TakeUp a) (heldTakeUp (wordsFor (m .root) m))
 
 -- What a line says, performed; a line that is no form alters nothing.
 unfoldable pub answeredAs : FormRead → Memory → Called Reply

@@ -142,6 +142,23 @@ fn withdraw(q: u32, held: Held, locks: &mut [u32], pages: &mut [u32]) -> Perform
     }
 }
 
+// A take-up: nothing is altered.
+fn take_up(held: Held, locks: &[u32], pages: &[u32]) -> Performed
+    ensures { λ r. ⌜ called (r .reply) (memoryOf (r .held) (now (locks .entry)) (now (pages .entry))) ≡ performed Form.TakeUp (memoryOf held (now (locks .entry)) (now (pages .entry))) ⌝ }
+{
+    let root = held.root;
+    let l = words_lent(lock_words(root.primaries), locks.len());
+    let g = words_lent(
+        page_words(root.primaries, root.overflow, root.parties),
+        pages.len(),
+    );
+    let answer = held::take_up(held, &locks[0..l], &pages[0..g]);
+    Performed {
+        held,
+        reply: Reply::TakeUp(answer),
+    }
+}
+
 // The call that a form names.
 fn perform(form: Form, held: Held, locks: &mut [u32], pages: &mut [u32]) -> Performed
     ensures { λ r. ⌜ called (r .reply) (memoryOf (r .held) (now (locks .exit)) (now (pages .exit))) ≡ performed form (memoryOf held (now (locks .entry)) (now (pages .entry))) ⌝ }
@@ -151,6 +168,7 @@ fn perform(form: Form, held: Held, locks: &mut [u32], pages: &mut [u32]) -> Perf
         Form::Begin(q, operation, key) => begin(q, operation, key, held, locks, pages),
         Form::Step(q) => step(q, held, locks, pages),
         Form::Withdraw(q) => withdraw(q, held, locks, pages),
+        Form::TakeUp => take_up(held, locks, pages),
     }
 }
 

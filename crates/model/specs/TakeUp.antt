@@ -1,6 +1,7 @@
 -- Take-up (document 02, change 6): "Take-up tests a saved file."
--- Main definitions: the conditions by name, each a test over the memory: partiesRest, locksClear, scratchClear, rootSound, chainsSaved, beyondClear, freeSaved, pagesOnce; isSaved (all of
--- them), takeUpRows and takeUpCall; recordsSaved (the records of a file, keys ascending) and savedBook (the book at the start).
+-- Main definitions: the conditions by name, each a test over the memory: partiesRest, locksClear, scratchClear,
+-- rootSound, chainsSaved, beyondClear, freeSaved, pagesOnce; isSaved (all of them), takeUpRows and takeUpCall;
+-- recordsSaved (the records of a file, keys ascending) and savedBook (the book at the start).
 use mathlib.Core.Bool.{Bool, true, false, cond, not, _&&_, _||_}
 use mathlib.Core.List.{List, [], _∷_, _++_}
 use mathlib.Core.Option.{none}
@@ -50,10 +51,12 @@ unfoldable pub isZeroRecord : Party → Bool
 isZeroRecord p =
     allZero (p .operation ∷ p .key ∷ p .step ∷ p .lev ∷ p .chain ∷ p .other ∷ p .old ∷ p .owed ∷ p .answer ∷ p .setting ∷ [])
 
+-- Whether every record of a row is.
 unfoldable pub allIdle : List Party → Bool
 allIdle [] = true
 allIdle (p ∷ ps) = isZeroRecord p && allIdle ps
 
+-- The conditions: party records, then lock words, then the Q scratch pages.
 unfoldable pub partiesRest : Memory → Bool
 partiesRest m = allIdle (m .parties)
 
@@ -65,7 +68,8 @@ scratchClear m = zeroPages (m .pages) (m .root .parties) (scratchPage (m .root) 
 
 -- ---- Chains
 
--- "The local levels are level+1 on the first next chains and on those from N × 2^level to n − 1, level on those between."
+-- "The local levels are level+1 on the first next chains and on those from N × 2^level to n − 1, level on those
+-- between."
 unfoldable pub levelAt : Root → ℕ → ℕ
 levelAt r c = cond (ltb c (r .next) || leb (span (r .originals) (r .level)) c) (r .level + 1) (r .level)
 
@@ -74,18 +78,21 @@ unfoldable pub allHome : ℕ → ℕ → ℕ → List Entry → Bool
 allHome n i c [] = true
 allHome n i c (e ∷ es) = eqb (hash n i (keyOf e)) c && allHome n i c es
 
--- "pages are filled ... as document 01 says": the pages xs hold exactly these records, b a page, each linked to the next. Word for word: unused words and word 15 are zero, and word 0 is the level
--- given on the first page, 0 on the others.
+-- "pages are filled ... as document 01 says": the pages xs hold exactly these records, b a page, each linked to the
+-- next. Word for word: unused words and word 15 are zero, and word 0 is the level given on the first page, 0 on the
+-- others.
 unfoldable pub packed : ℕ → List ℕ → ℕ → List ℕ → List Entry → Bool
 packed b ps level [] es = isEmpty es
 packed b ps level (x ∷ xs) es = sameWords (pageOf ps x) (filledPage level (take b es) (linkToFirst xs)) && packed b ps 0 xs (drop b es)
 
--- A chain that reads as sound, so with "keys strictly ascending": its records at home, its pages filled at its local level, and no page more than they need.
+-- A chain that reads as sound, so with "keys strictly ascending": its records at home, its pages filled at its local
+-- level, and no page more than they need.
 unfoldable pub chainFits : Root → List ℕ → ℕ → Chain → Bool
 chainFits r ps c d =
     allHome (r .originals) (levelAt r c) c (d .entries)
     && packed (r .capacity) ps (levelAt r c) (primaryPage c ∷ d .pages) (d .entries) && eqb (length (d .pages)) (pagesFor (r .capacity) (d .entries))
 
+-- A chain that does not read as sound fits nowhere.
 unfoldable pub fitsIfSound : Root → List ℕ → ℕ → Checked Chain → Bool
 fitsIfSound r ps c damaged = false
 fitsIfSound r ps c (sound d) = chainFits r ps c d
@@ -95,6 +102,7 @@ unfoldable pub chainsFit : Root → List ℕ → ℕ → ℕ → Bool
 chainsFit r ps zero c = true
 chainsFit r ps (suc n) c = fitsIfSound r ps c (chainOf r ps c) && chainsFit r ps n (c + 1)
 
+-- All chains of the file.
 unfoldable pub chainsSaved : Memory → Bool
 chainsSaved m = chainsFit (m .root) (m .pages) (countOfChains (m .root)) 0
 
@@ -114,6 +122,7 @@ unfoldable pub freeIfSound : List ℕ → Checked Taken → Bool
 freeIfSound ps damaged = false
 freeIfSound ps (sound t) = eqb (t .head) 0 && allFree ps (t .pages)
 
+-- The free list of the file.
 unfoldable pub freeSaved : Memory → Bool
 freeSaved m = freeIfSound (m .pages) (pagesTaken (m .root) (m .pages) (m .root .free))
 
@@ -128,6 +137,7 @@ pagesOnce m = eachOnce (freeList m ++ chainedFrom m (countOfChains (m .root)) 0)
 
 -- ---- The whole test
 
+-- Every condition of take-up.
 unfoldable pub isSaved : Memory → Bool
 isSaved m =
     partiesRest m && locksClear m && scratchClear m && rootSound (m .root) && chainsSaved m && beyondClear m && freeSaved m && pagesOnce m
@@ -138,9 +148,15 @@ isSaved m =
 abbrev pub unsavedRefusal : ℕ
 unsavedRefusal = 8
 
-unfoldable pub takeUpRows : Memory → List Row
-takeUpRows m = sizeRow (m .root) ∷ (lengthRow (m .root) m ∷ (row (not (isSaved m)) unsavedRefusal ∷ []))
+-- The row of a file that is saved or not.
+abbrev pub unsavedRow : Bool → Row
+unsavedRow saved = row (not saved) unsavedRefusal
 
+-- Sizes, lengths, then the conditions.
+unfoldable pub takeUpRows : Memory → List Row
+takeUpRows m = sizeRow (m .root) ∷ (lengthRow (m .root) m ∷ (unsavedRow (isSaved m) ∷ []))
+
+-- The answer, by the first cause met; 0 is none.
 unfoldable pub takeUpAnswer : ℕ → TakeUpAnswer
 takeUpAnswer c = cond (eqb c 0) TakeUpAnswer.TakenUp (TakeUpAnswer.Refused c)
 
@@ -158,5 +174,6 @@ recordsSaved m = joinedAll (chainsFrom (m .root) (m .pages) (countOfChains (m .r
 unfoldable pub openBook : List Entry → Book
 openBook es = record { contents = es; entries = λ q. none }
 
+-- The book of a file that was taken up.
 abbrev pub savedBook : Memory → Book
 savedBook m = openBook (recordsSaved m)

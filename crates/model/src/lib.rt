@@ -87,6 +87,9 @@ pub const DECIDED_REFUSED: u32 = 7;
 
 pub const DAMAGE: u32 = 6;
 
+// "8 when a condition fails, tested after 2 and 1": take-up alone meets it (document 02, change 6).
+pub const UNSAVED_REFUSED: u32 = 8;
+
 // ---- Records
 
 // The root record (document 01, "The lent memory"). Document 01 calls the first five N, b, P, V and Q.

@@ -1,12 +1,15 @@
-// The root record and a party's record (document 01, "The lent memory"): as format and begin write them whole, and as the core's own words.
-// The core works on a copy of each record, nine words of a root and ten of a party, in the documents' order; here the words have their names.
-// Main statements: each function equals the model's definition of the same thing, for every word given; root_of and party_of are rootIn and partyIn,
-// and words_of_root and words_of_party undo them; at_step changes one word.
+// The root record and a party's record (document 01, "The lent memory"): as format and begin write them whole, as
+// take-up looks at them, and as the core's own words.
+// The core works on a copy of each record, nine words of a root and ten of a party, in the documents' order; here the
+// words have their names.
+// Main statements: each function equals the model's definition of the same thing, for every word given; root_of and
+// party_of are rootIn and partyIn, and words_of_root and words_of_party undo them; at_step changes one word.
 ghost use mathlib.Core.Path.{_≡_};
 ghost use lib.ListN.{length};
 ghost use Rattle.model.specs.Records as Records;
 ghost use Rattle.model.specs.Records.{rootSized, atStep};
 ghost use Rattle.model.specs.Answers.{operationNumber, settingGiven};
+ghost use Rattle.model.specs.TakeUp.{isZeroRecord};
 ghost use Rattle.records.specs.Words.{rootWords, partyWords, rootIn, partyIn};
 use model::DELETE;
 use model::FIND;
@@ -79,6 +82,14 @@ pub fn idle() -> Party
         answer: 0,
         setting: 0,
     }
+}
+
+// Whether a party's record is zero, every word of it.
+pub fn is_zero(p: Party) -> bool
+    ensures { λ r. ⌜ r ≡ isZeroRecord p ⌝ }
+{
+    let first = (p.operation == 0) & (p.key == 0) & (p.step == 0) & (p.lev == 0) & (p.chain == 0);
+    first & (p.other == 0) & (p.old == 0) & (p.owed == 0) & (p.answer == 0) & (p.setting == 0)
 }
 
 // The number of an operation in a party's record.

@@ -1,27 +1,29 @@
 -- The causes against the model's rows, and what holds of a call that meets none.
--- Main statements: format-cause-is, begin-cause-is, step-cause-is, withdraw-cause-is (for every memory, with its
--- lengths); past-row-refused (past the row's end no record is looked at); place-of-begin, place-of-step,
+-- Main statements: format-cause-is, begin-cause-is, step-cause-is, withdraw-cause-is, take-up-cause-is (for every memory,
+-- with its lengths); past-row-refused (past the row's end no record is looked at); place-of-begin, place-of-step,
 -- place-of-withdraw, row-length, number-below (the party's record stands in the row); ready and withdraw-ready (what
--- the code of a step and of a withdraw may take for granted).
+-- the code of a step and of a withdraw may take for granted); file-of-take-up and take-up-ready (the same of take-up).
 use mathlib.Core.Path.{_≡_, refl, sym, _∙_}
 use mathlib.Core.Logic.{_≢_}
-use mathlib.Core.Bool.{false}
-use mathlib.Core.List.{List, [], _∷_}
+use mathlib.Core.Bool.{Bool, true, false}
+use mathlib.Core.List.{List, [], _∷_, _++_}
 use Prim.Native.Nat.{ℕ, _≤_, _<_}
 use native.Mathlib.Omega.{arith}
 use lib.ListN.{length, replicate, length-replicate, getD-replicate}
 use borrow.Author.Tests.{leb-false, eqb-true, not-false}
 use Rattle.model.specs.declared.Root.{Root}
 use Rattle.model.specs.declared.Party.{Party}
+use Rattle.model.specs.Sizes.{withinLimits, lockWords, allPageWords}
 use Rattle.model.specs.Records.{idle}
 use Rattle.model.specs.Memory.{Memory, partyAt}
 use Rattle.model.specs.Refusals.{firstCause, lengthsFit, busyRow, idleRow, decidedRow, damageRow, formatRows, beginRows, stepRows, withdrawRows}
 use Rattle.model.specs.Ready.{Ready, viewing}
+use Rattle.model.specs.TakeUp.{isSaved, unsavedRow, takeUpRows}
 use Rattle.model.proofs.Laws.Lists.{All}
 use Rattle.model.proofs.Laws.Booleans.{and-left, and-right}
 use Rattle.model.proofs.Theorems.Gate as Gate
 use Rattle.model.proofs.Steps.Withdraw.{undecided-early}
-use Rattle.refusals.specs.Causes.{lengthsAre, placeRows, formatCause, placeCause, beginCause, stepCause, withdrawCause}
+use Rattle.refusals.specs.Causes.{lengthsAre, fileRows, placeRows, formatCause, placeCause, beginCause, stepCause, withdrawCause, takeUpCause}
 use Rattle.refusals.proofs.Causes.{none-earlier}
 
 -- ---- The model's rows
@@ -30,6 +32,10 @@ module _ (m : Memory) where
   pub format-cause-is : (r : Root) → formatCause r (length (m .parties)) (length (m .locks)) (length (m .pages)) ≡ firstCause (formatRows r m)
   unfolding formatCause formatRows lengthsAre lengthsFit
   format-cause-is r = refl
+
+  pub take-up-cause-is : takeUpCause (m .root) (isSaved m) (length (m .parties)) (length (m .locks)) (length (m .pages)) ≡ firstCause (takeUpRows m)
+  unfolding takeUpCause takeUpRows lengthsAre lengthsFit
+  take-up-cause-is = refl
 
   module _ (q : ℕ) where
     pub begin-cause-is :
@@ -104,3 +110,21 @@ withdraw-ready r p parties q ls ps none =
     let accepted : firstCause (withdrawRows m q) ≡ 0 = sym (withdraw-cause-is m q) ∙ rw (here, long) none in
     let view = rw here at (Gate.withdraw-ready m q accepted) in
     (view, undecided-early p (view .step-fits) (rw here at (Gate.undecided m q accepted)) .0)
+
+-- Sizes and lengths are those of the file, one by one, and it is said to be saved.
+module _ (r : Root) (saved : Bool) (parties locks pages : ℕ) (passed : takeUpCause r saved parties locks pages ≡ 0) where
+  pub file-of-take-up : formatCause r parties locks pages ≡ 0
+  unfolding takeUpCause formatCause
+  file-of-take-up = none-earlier (fileRows r parties locks pages) (unsavedRow saved ∷ []) passed
+
+  pub take-up-ready : (withinLimits r ≡ true) × (parties ≡ r .parties) × (locks ≡ lockWords r) × (pages ≡ allPageWords r) × (saved ≡ true)
+  unfolding takeUpCause lengthsAre
+  take-up-ready =
+      let met = Gate.none-met (fileRows r parties locks pages ++ (unsavedRow saved ∷ [])) (omega arith) passed in
+      let are = not-false (lengthsAre r parties locks pages) (met .1 .0) in (
+        not-false (withinLimits r) (met .0),
+        eqb-true parties (r .parties) (search (and-left, and-right)),
+        eqb-true locks (lockWords r) (search (and-left, and-right)),
+        eqb-true pages (allPageWords r) (search (and-left, and-right)),
+        not-false saved (met .1 .1 .0),
+      )

@@ -1,8 +1,11 @@
--- The first cause, row by row: an earlier cause stands whatever rows follow, and where there is none the rows that follow decide.
--- Main statements: earlier-stands, none-earlier, later-decides (of any rows); size-refused, length-refused, file-passed; file-stands, party-refused, place-passed;
--- place-stands-at-begin, busy-refused, begin-passed; place-stands-at-step, idle-refused, damage-refused, step-passed;
--- place-stands-at-withdraw, nothing-to-withdraw, decided-refused, damage-refused-at-withdraw, withdraw-passed.
-use mathlib.Core.Path.{_≡_, refl, _∙_}
+-- The first cause, row by row: an earlier cause stands whatever rows follow, and where there is none the rows that
+-- follow decide.
+-- Main statements: earlier-stands, none-earlier, later-decides (of any rows); size-refused, length-refused, file-passed;
+-- file-stands, party-refused, place-passed; place-stands-at-begin, busy-refused, begin-passed; place-stands-at-step,
+-- idle-refused, damage-refused, step-passed; place-stands-at-withdraw, nothing-to-withdraw, decided-refused,
+-- damage-refused-at-withdraw, withdraw-passed; file-stands-at-take-up, unsaved-refused, take-up-passed, early-stands (a
+-- cause found before the words are looked at).
+use mathlib.Core.Path.{_≡_, refl, sym, _∙_}
 use mathlib.Core.Logic.{_≢_}
 use mathlib.Core.Bool.{Bool, true, false}
 use mathlib.Core.List.{List, [], _∷_, _++_}
@@ -14,9 +17,10 @@ use Rattle.model.specs.declared.Party.{Party}
 use Rattle.model.specs.Sizes.{withinLimits}
 use Rattle.model.specs.Refusals.{Row, firstCause, recordSound, partyRow, busyRow, idleRow, decidedRow, damageRow}
 use Rattle.model.specs.Withdraw.{isDecided}
+use Rattle.model.specs.TakeUp.{unsavedRow}
 use Rattle.model.proofs.Laws.Lists.{All, Cmp, cmp, same, diff}
 use Rattle.model.proofs.Theorems.Gate.{none-met}
-use Rattle.refusals.specs.Causes.{lengthsAre, fileRows, placeRows, formatCause, placeCause, beginCause, stepCause, withdrawCause}
+use Rattle.refusals.specs.Causes.{lengthsAre, fileRows, placeRows, formatCause, placeCause, beginCause, stepCause, withdrawCause, takeUpCause}
 
 -- ---- Any rows
 
@@ -146,3 +150,36 @@ module _ (r : Root) (p : Party) (parties locks pages q : ℕ) where
     pub withdraw-passed : p .operation ≢ 0 → isDecided p ≡ false → recordSound r p ≡ true → 0 ≡ withdrawCause r p parties locks pages q
     unfolding firstCause
     withdraw-passed h d s = rw (ne-eqb (p .operation) 0 h, d, s) at past-place-at-withdraw
+
+-- ---- Take-up, by whether the file is saved
+
+module _ (r : Root) (parties locks pages : ℕ) where
+  pub file-stands-at-take-up : (saved : Bool) → formatCause r parties locks pages ≢ 0 → formatCause r parties locks pages ≡ takeUpCause r saved parties locks pages
+  unfolding formatCause takeUpCause
+  file-stands-at-take-up saved h = earlier-stands (fileRows r parties locks pages) (unsavedRow saved ∷ []) h
+
+  module _ (passed : formatCause r parties locks pages ≡ 0) where
+    past-file-at-take-up : (saved : Bool) → firstCause (unsavedRow saved ∷ []) ≡ takeUpCause r saved parties locks pages
+    unfolding formatCause takeUpCause
+    past-file-at-take-up saved = later-decides (fileRows r parties locks pages) (unsavedRow saved ∷ []) (none-met (fileRows r parties locks pages) (omega arith) passed)
+
+    pub unsaved-refused : (saved : Bool) → saved ≡ false → 8 ≡ takeUpCause r saved parties locks pages
+    unfolding firstCause
+    unsaved-refused saved e = rw e (past-file-at-take-up false)
+
+    pub take-up-passed : (saved : Bool) → saved ≡ true → 0 ≡ takeUpCause r saved parties locks pages
+    unfolding firstCause
+    take-up-passed saved e = rw e (past-file-at-take-up true)
+
+  -- A cause that is met where only the records were looked at stands for the whole file.
+  pub early-stands : (idle saved : Bool) → (idle ≡ false → saved ≡ false) → takeUpCause r idle parties locks pages ≢ 0
+      → takeUpCause r idle parties locks pages ≡ takeUpCause r saved parties locks pages
+  early-stands idle saved busy h = go (cmp (formatCause r parties locks pages) 0)
+    where
+      past : (t : Bool) → idle ≡ t → formatCause r parties locks pages ≡ 0 → takeUpCause r idle parties locks pages ≡ takeUpCause r saved parties locks pages
+      past true e passed = absurd (h (sym (take-up-passed passed idle e)))
+      past false e passed = sym (unsaved-refused passed idle e) ∙ unsaved-refused passed saved (busy e)
+
+      go : Cmp (formatCause r parties locks pages) 0 → takeUpCause r idle parties locks pages ≡ takeUpCause r saved parties locks pages
+      go (same passed) = past idle refl passed
+      go (diff n) = sym (file-stands-at-take-up idle n) ∙ file-stands-at-take-up saved n

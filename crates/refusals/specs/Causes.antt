@@ -1,6 +1,6 @@
 -- The first cause of refusal of each call, by the lent lengths as numbers (document 01, "Refused calls").
--- Main definitions: formatCause, beginCause, stepCause, withdrawCause; placeCause (the rows that begin, step and
--- withdraw share).
+-- Main definitions: formatCause, beginCause, stepCause, withdrawCause, takeUpCause; placeCause (the rows that begin,
+-- step and withdraw share).
 -- proofs/Accepted.antt shows that each is the model's first cause of the call's rows, for every memory of these lengths.
 use mathlib.Core.Bool.{Bool, not, _&&_}
 use mathlib.Core.List.{List, [], _∷_, _++_}
@@ -10,6 +10,7 @@ use Rattle.model.specs.declared.Root.{Root}
 use Rattle.model.specs.declared.Party.{Party}
 use Rattle.model.specs.Sizes.{lockWords, allPageWords}
 use Rattle.model.specs.Refusals.{Row, row, firstCause, sizeRow, partyRow, busyRow, idleRow, decidedRow, damageRow}
+use Rattle.model.specs.TakeUp.{unsavedRow}
 
 -- "a lent length other than Q records, P+1 lock words or 16 × (P+V+Q) page words": the lengths in this order.
 unfoldable pub lengthsAre : Root → ℕ → ℕ → ℕ → Bool
@@ -42,3 +43,7 @@ stepCause r p parties locks pages q = firstCause (placeRows r parties locks page
 -- Withdraw for party q, whose record is p.
 unfoldable pub withdrawCause : Root → Party → ℕ → ℕ → ℕ → ℕ → ℕ
 withdrawCause r p parties locks pages q = firstCause (placeRows r parties locks pages q ++ (idleRow p ∷ (decidedRow p ∷ (damageRow r p ∷ []))))
+
+-- Take-up of a file that is saved or not.
+unfoldable pub takeUpCause : Root → Bool → ℕ → ℕ → ℕ → ℕ
+takeUpCause r saved parties locks pages = firstCause (fileRows r parties locks pages ++ (unsavedRow saved ∷ []))

@@ -1,7 +1,8 @@
-// The tests that every call makes before it changes a word (document 01, "Refused calls"), over the root record and one party's record by value.
+// The tests that every call makes before it changes a word (document 01, "Refused calls"), over the root record and one
+// party's record by value.
 // Main statements: within_limits, lengths_fit, root_sound, party_sound, has_step and is_decided are the model's tests,
-// for every word; format_cause, begin_cause, step_cause and withdraw_cause are the first cause in the table's order, 0
-// for none. proofs/Accepted.antt: what holds once there is none.
+// for every word; format_cause, begin_cause, step_cause, withdraw_cause and take_up_cause are the first cause in the
+// table's order, 0 for none. proofs/Accepted.antt: what holds once there is none.
 
 ghost use mathlib.Core.Path.{_≡_};
 ghost use Prim.Native.Nat.{_^_, _≤_, _<_};
@@ -11,7 +12,7 @@ ghost use Rattle.model.specs.Records.{rootSized};
 ghost use Rattle.model.specs.Refusals.{rootSound, partySound};
 ghost use Rattle.model.specs.Steps.Dispatch.{hasStep};
 ghost use Rattle.model.specs.Withdraw.{isDecided};
-ghost use Rattle.refusals.specs.Causes.{lengthsAre, formatCause, placeCause, beginCause, stepCause, withdrawCause};
+ghost use Rattle.refusals.specs.Causes.{lengthsAre, formatCause, placeCause, beginCause, stepCause, withdrawCause, takeUpCause};
 use model::BUSY_REFUSED;
 use model::DAMAGE;
 use model::DECIDED_REFUSED;
@@ -33,6 +34,7 @@ use model::PARTY_REFUSED;
 use model::Party;
 use model::Root;
 use model::SIZE_REFUSED;
+use model::UNSAVED_REFUSED;
 
 // "N original chains, 1 to P. P chains at most, 1 to 256. V overflow pages, 0 to 752. Q parties, 1 to 16." "b is 1 to 6".
 pub fn within_limits(root: Root) -> bool
@@ -266,6 +268,20 @@ pub fn withdraw_cause(
     }
     if !party_sound(root, party) {
         return DAMAGE;
+    }
+    NO_CAUSE
+}
+
+// Take-up, by whether the file is saved: 8 is "tested after 2 and 1".
+pub fn take_up_cause(root: Root, saved: bool, parties: usize, locks: usize, pages: usize) -> u32
+    ensures { λ r. ⌜ r ≡ takeUpCause root saved parties locks pages ⌝ }
+{
+    let file = file_cause(root, parties, locks, pages);
+    if file != NO_CAUSE {
+        return file;
+    }
+    if !saved {
+        return UNSAVED_REFUSED;
     }
     NO_CAUSE
 }

@@ -26,7 +26,7 @@ use Rattle.model.specs.Answers.{operationNumber, refusalNumber, isMoved, settin
 use Rattle.model.specs.LockWords.{Claim}
 use Rattle.model.specs.Outcome.{View, Outcome, damage}
 use Rattle.model.specs.LockRequests.{isGranted}
-use Rattle.model.specs.Memory.{Memory, partyAt, viewOf, formatted}
+use Rattle.model.specs.Memory.{Memory, partyAt, viewOf}
 use Rattle.model.specs.Calls.{Called, called, stepped, stepCall, withBegun, beginCall, withdrawCall}
 use Rattle.model.specs.Runs.{Call, beginFor, stepFor, withdrawFor, eventOf, afterCall}
 use Rattle.model.specs.Book.{Book, Entered}

@@ -27,7 +27,7 @@ use Rattle.model.specs.Chains.{Checked, sound, listFrom, pagesListed}
 use Rattle.model.specs.FreeList.{isAmong}
 use Rattle.model.specs.Outcome.{View, Outcome}
 use Rattle.model.specs.ScratchPages.{scratchOf}
-use Rattle.model.specs.Memory.{Memory, partyAt, viewOf, afterStep, formatted}
+use Rattle.model.specs.Memory.{Memory, partyAt, viewOf, afterStep}
 use Rattle.model.specs.Refusals.{firstCause, stepRows, beginRows}
 use Rattle.model.specs.Calls.{Called, called, stepped, stepCall, withBegun, beginCall, withdrawCall}
 use Rattle.model.specs.Withdraw.{isDecided, builtPages}
@@ -35,7 +35,7 @@ use Rattle.model.specs.Effects.{Withdraws}
 use Rattle.model.specs.Runs.{Call, beginFor, stepFor, withdrawFor, callerOf, replyTo, afterCall}
 use Rattle.model.specs.Book.{Book, Entered, bookAfter}
 use Rattle.theory.specs.Links.{Trace, trace, noTrace, chainPages, traceLooked, walkedFrom, traceTen, traceNine, traceFourteen, traceTwentyNine, traceOf, Clock, clockStart, traceOfStep, traceAnswered, traceOfWithdraw, traceOfCall, ticked, clockAfter, allFresh, linksFresh}
-use Rattle.theory.specs.Demands.{Start, start, bookStart, sizesOf}
+use Rattle.theory.specs.Demands.{Start, start, bookStart}
 use Rattle.model.specs.Steps.Write.{isChange}
 use Rattle.model.specs.Steps.Dispatch.{stepTable, stepOf}
 use Rattle.model.proofs.Laws.Lists.{Told, holds, fails, tell, Cmp, same, diff, cmp, cond-ind, not-both, and-both, both-and, or-either, lt-ltb, eqb-true, eqb-diff, among-first, _▸_, all-in}

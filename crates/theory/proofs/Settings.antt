@@ -21,7 +21,7 @@ use Rattle.model.specs.Steps.Write.{isChange}
 use Rattle.theory.specs.PlainMap.{PlainMap, plainAnswer, plainAfter, mayLackPages, isNoPage, answersAsMap, mapLeftBy}
 use Rattle.theory.specs.Demands.{Start, start, mapStart}
 use Rattle.theory.specs.Linearization.{IsOneOf, Ended, Operated, entering, operationsFrom, operationsOf, hasTakenEffect, Linearized, timesIn, answersInOrder, mapAfter, Linearization}
-use Rattle.theory.specs.Settings.{changesKey, leavesKey, LastAdded, FoundInOrder, FoundsRight, Came, from-before, from-insert}
+use Rattle.theory.specs.Settings.{changesKey, leavesKey, FoundInOrder, FoundsRight, Came, from-before, from-insert}
 use Rattle.model.proofs.Laws.Lists.{Cmp, same, diff, cmp, eqb-true, eqb-same, eqb-diff, and-both, both-and, or-either}
 use Rattle.model.proofs.Laws.Answers.{answers-same}
 use Rattle.model.proofs.Laws.Entries.{isIn}

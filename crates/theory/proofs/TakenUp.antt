@@ -1,8 +1,11 @@
--- Take-up over whole lists of calls: what the index leaves at rest is taken up, with the book's map, and nothing else that it leaves is; formatted memory is taken up, with no records.
--- Main statements: TakeUpOrder and take-up-order (the rows of take-up in their order); taken-rightly and taken-answer (what it says where the invariant holds), always-taken, taken-right;
--- reached-saved, reached-records; formatted-start, formatted-empty, formatted-book, formatted-file, formatted-holds.
+-- Take-up over whole lists of calls: what the index leaves at rest is taken up, with the book's map, and nothing else
+-- that it leaves is; formatted memory is taken up, with no records.
+-- Main statements: TakeUpOrder and take-up-order (the rows of take-up in their order); taken-rightly and taken-answer
+-- (what it says where the invariant holds), always-taken, taken-right; reached-saved, reached-records; taken-start
+-- (memory that was taken up may start a run); formatted-start, formatted-empty, formatted-book, formatted-file,
+-- formatted-holds.
 use mathlib.Core.Path.{_≡_, refl, sym, ap, _∙_, subst}
-use mathlib.Core.Bool.{Bool, true, false, cond, not, _&&_}
+use mathlib.Core.Bool.{Bool, true, false, cond, not}
 use mathlib.Core.List.{List, [], _∷_}
 use mathlib.Core.Option.{Option, none, some}
 use Prim.Native.Nat.{ℕ, zero, suc, _<_}
@@ -19,8 +22,9 @@ use Rattle.model.specs.Book.{Book, Entered, emptyBook}
 use Rattle.model.specs.Progress.{isEntered, underWay, someBelow, bookAfterCall}
 use Rattle.model.specs.Sizes.{withinLimits}
 use Rattle.model.specs.Refusals.{firstCause, lengthsFit}
-use Rattle.model.specs.Calls.{called}
+use Rattle.model.specs.Calls.{Called, called}
 use Rattle.model.specs.TakeUp.{isSaved, recordsSaved, openBook, savedBook, takeUpRows, takeUpAnswer, takeUpCall}
+use Rattle.model.specs.declared.TakeUpAnswer.{TakeUpAnswer}
 use Rattle.model.specs.declared.TakeUpAnswer.the-variants as TakeUpAnswer
 use Rattle.theory.specs.Demands.{Sizes, sizesGiven, Start, start, sizesOf, Reached, bookReached, bookStart, AtRest, fileReached}
 use Rattle.theory.specs.PlainMap.{emptyMap}
@@ -39,7 +43,7 @@ use Rattle.theory.proofs.UnderWay.{idle-unentered}
 use Rattle.theory.proofs.Singly.Files.{extentOf, home, Holding, same-file, none-either}
 use Rattle.theory.proofs.Singly.Given.{some-original, start-held}
 use Rattle.theory.proofs.SizesStay.{call-limits}
-use Rattle.theory.proofs.NoDeadlock.{Found, some-found, found-some}
+use Rattle.theory.proofs.NoDeadlock.{some-found, found-some}
 
 -- ---- The rows of take-up
 
@@ -131,6 +135,31 @@ always-taken kept m b i (c ∷ cs) =
 -- From memory that passes take-up on.
 pub taken-right : (s : Start) (cs : List Call) → alwaysTaken (sizesOf s .parties) (bookStart s) (start s) cs ≡ true
 taken-right s cs = always-taken steps-kept (start s) (bookStart s) (started-inv s) cs
+
+-- ---- Memory that was taken up
+
+module _ (m : Memory) (is : takeUpCall m .answer ≡ TakeUpAnswer.TakenUp) where
+  -- An answer is not taken up and refused at once.
+  refused-up : {X : Type 0} (k : ℕ) → takeUpCall m ≡ called (TakeUpAnswer.Refused k) m → X
+  refused-up k e =
+      let same : TakeUpAnswer.TakenUp ≡ TakeUpAnswer.Refused k = sym is ∙ ap (λ (c : Called TakeUpAnswer). c .answer) e in
+      absurd (let y : _≡_ {A = ℕ} 0 1 = cc in omega arith)
+
+  abbrev pub Passed : Type 0
+  Passed = (withinLimits (m .root) ≡ true) × (lengthsFit (m .root) m ≡ true) × (isSaved m ≡ true)
+
+  -- Taken up was not a refusal: every test passed.
+  passes : (s l t : Bool) → withinLimits (m .root) ≡ s → lengthsFit (m .root) m ≡ l → isSaved m ≡ t → Passed
+  passes false l t e f g = refused-up 2 (take-up-order m .sizes e)
+  passes true false t e f g = refused-up 1 (take-up-order m .lengths e f)
+  passes true true false e f g = refused-up 8 (take-up-order m .unsaved e f g)
+  passes true true true e f g = (e, f, g)
+
+  pub passed : Passed
+  passed = passes (withinLimits (m .root)) (lengthsFit (m .root) m) (isSaved m) refl refl refl
+
+unfoldable pub taken-start : (m : Memory) → takeUpCall m .answer ≡ TakeUpAnswer.TakenUp → Start
+taken-start m is = let p = passed m is in record { memory = m; sizes-fit = p .0; lengths-fit = p .1; saved = p .2 }
 
 -- ---- Formatted memory
 

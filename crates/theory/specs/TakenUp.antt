@@ -1,4 +1,5 @@
--- Take-up in whole lists of calls (document 02, change 6): a file that the index made is taken up exactly where nobody is under way.
+-- Take-up in whole lists of calls (document 02, change 6): a file that the index made is taken up exactly where nobody
+-- is under way.
 -- Main definitions: alwaysTaken.
 use mathlib.Core.Bool.{Bool, cond, not, _&&_}
 use mathlib.Core.List.{List, [], _∷_}

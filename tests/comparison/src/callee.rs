@@ -1,11 +1,12 @@
 //! A call, its reply, and the port as one that answers calls.
 
 use crate::image::Image;
-use bead_port::c_face::{code_of, pages_of, BeadReply};
+use bead_port::c_face::{code_of, pages_of, read_pages_of, BeadReply};
 use bead_port::calls;
 use bead_port::damage::Cause;
 use bead_port::memory::{Party, Root};
 use bead_port::reply::Refusal;
+use bead_port::take_up::{Condition, Saved, CONDITIONS};
 
 #[derive(Clone, Copy, Debug, PartialEq, Eq)]
 pub enum Call {
@@ -14,6 +15,7 @@ pub enum Call {
     Begin(u32, u32, u32, u32),
     Step(u32),
     Withdraw(u32),
+    TakeUp,
 }
 
 /// The steps that request a lock, and so can wait.
@@ -51,9 +53,7 @@ impl Callee for Port {
     fn call(&mut self, image: &mut Image, call: Call) -> Reply {
         self.cause = None;
         let mut root = image.root_record();
-        let mut parties: Vec<Party> = (0..image.party_count())
-            .map(|number| image.party(number as u32))
-            .collect();
+        let mut parties = image.party_records();
         let reply = self.call_on(&mut root, &mut parties, image, call);
         image.set_root(root);
         for (number, party) in (0..).zip(parties) {
@@ -61,6 +61,20 @@ impl Callee for Port {
         }
         reply
     }
+}
+
+/// The conditions of a saved file that fail, of allowed sizes and fitting lengths.
+pub fn failing(image: &Image) -> Vec<Condition> {
+    let saved = Saved {
+        root: &image.root_record(),
+        parties: &image.party_records(),
+        locks: &image.locks,
+        pages: read_pages_of(&image.pages),
+    };
+    let conditions = CONDITIONS.iter().map(|(condition, _)| *condition);
+    conditions
+        .filter(|condition| !saved.meets(*condition))
+        .collect()
 }
 
 impl Port {
@@ -95,6 +109,9 @@ impl Port {
                 }
                 code_reply(code_of(result))
             }
+            Call::TakeUp => code_reply(code_of(calls::take_up::<Cause>(
+                root, parties, locks, pages, words,
+            ))),
         }
     }
 }

@@ -114,6 +114,12 @@ impl Image {
         Party::from_words(words.try_into().expect("the words of a record"))
     }
 
+    pub fn party_records(&self) -> Vec<Party> {
+        (0..self.party_count() as u32)
+            .map(|number| self.party(number))
+            .collect()
+    }
+
     pub fn set_party(&mut self, number: u32, party: Party) {
         self.parties[PARTY_WORDS * number as usize..][..PARTY_WORDS]
             .copy_from_slice(&party.words());

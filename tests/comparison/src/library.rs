@@ -53,10 +53,19 @@ type Withdraw = unsafe extern "C" fn(
     usize,
     u32,
 ) -> u32;
+type TakeUp = unsafe extern "C" fn(
+    *const Root,
+    *const Party,
+    usize,
+    *const u32,
+    usize,
+    *const u32,
+    usize,
+) -> u32;
 
 /// Declares the calls of a C face by these names.
 macro_rules! face {
-    ($name:ident: $format:ident, $begin:ident, $step:ident, $withdraw:ident) => {
+    ($name:ident: $format:ident, $begin:ident, $step:ident, $withdraw:ident, $take_up:ident) => {
         mod $name {
             use super::{BeadReply, Party, Root};
 
@@ -108,20 +117,30 @@ macro_rules! face {
                     ng: usize,
                     party: u32,
                 ) -> u32;
+                pub fn $take_up(
+                    root: *const Root,
+                    parties: *const Party,
+                    np: usize,
+                    locks: *const u32,
+                    nl: usize,
+                    pages: *const u32,
+                    ng: usize,
+                ) -> u32;
             }
         }
     };
 }
 
-face!(linked: bead_format, bead_begin, bead_step, bead_withdraw);
-face!(c_port: c_port_format, c_port_begin, c_port_step, c_port_withdraw);
+face!(linked: bead_format, bead_begin, bead_step, bead_withdraw, bead_take_up);
+face!(c_port: c_port_format, c_port_begin, c_port_step, c_port_withdraw, c_port_take_up);
 
-/// The four calls of a C face.
+/// The five calls of a C face.
 pub struct Library {
     format: Format,
     begin: Begin,
     step: Step,
     withdraw: Withdraw,
+    take_up: TakeUp,
 }
 
 impl Library {
@@ -132,6 +151,7 @@ impl Library {
             begin: linked::bead_begin,
             step: linked::bead_step,
             withdraw: linked::bead_withdraw,
+            take_up: linked::bead_take_up,
         }
     }
 
@@ -142,18 +162,20 @@ impl Library {
             begin: c_port::c_port_begin,
             step: c_port::c_port_step,
             withdraw: c_port::c_port_withdraw,
+            take_up: c_port::c_port_take_up,
         }
     }
 
     /// The port's own C face.
     #[cfg(test)]
     pub fn of_port() -> Library {
-        use bead_port::c_face::{bead_begin, bead_format, bead_step, bead_withdraw};
+        use bead_port::c_face::{bead_begin, bead_format, bead_step, bead_take_up, bead_withdraw};
         Library {
             format: bead_format,
             begin: bead_begin,
             step: bead_step,
             withdraw: bead_withdraw,
+            take_up: bead_take_up,
         }
     }
 }
@@ -179,6 +201,7 @@ impl Callee for Library {
                 Call::Withdraw(party) => code_reply((self.withdraw)(
                     root, parties, np, locks, nl, pages, ng, party,
                 )),
+                Call::TakeUp => code_reply((self.take_up)(root, parties, np, locks, nl, pages, ng)),
             }
         }
     }

@@ -38,6 +38,18 @@ pub fn allowed(random: &mut Random) -> [u32; 5] {
     [n, b, p, v, q]
 }
 
+/// Small sizes whose chains at most are the original ones doubled a few times.
+pub fn doubled(random: &mut Random) -> [u32; 5] {
+    let n = random.between(1, 4);
+    let p = n << random.between(1, 4);
+    let (b, v, q) = (
+        random.between(1, 3),
+        random.between(0, 30),
+        random.between(1, 4),
+    );
+    [n, b, p, v, q]
+}
+
 /// N, b, P and V where at least one is at its limit.
 const LARGEST: [[u32; 4]; 10] = [
     [1, 1, 256, 752],

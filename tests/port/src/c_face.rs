@@ -1,4 +1,4 @@
-//! The C face: the four calls over pointers and lengths. The only unsafe code of the port, which makes slices of them.
+//! The C face: the five calls over pointers and lengths. The only unsafe code of the port, which makes slices of them.
 #![allow(unsafe_code)]
 
 use crate::calls;
@@ -45,6 +45,14 @@ impl BeadReply {
 #[inline]
 pub fn code_of<D>(result: Result<(), Refusal<D>>) -> u32 {
     result.map_or_else(Refusal::number, |()| 0)
+}
+
+/// Words as the whole pages that they make, to be read alone.
+#[inline]
+pub fn read_pages_of(words: &[u32]) -> &[Page] {
+    let count = words.len() / PAGE_WORDS;
+    // SAFETY: a page is sixteen words without padding, and so many pages lie within the words.
+    unsafe { std::slice::from_raw_parts(words.as_ptr().cast::<Page>(), count) }
 }
 
 /// Words as the whole pages that they make.
@@ -152,4 +160,22 @@ pub unsafe extern "C" fn bead_withdraw(
     code_of(calls::withdraw::<Unnamed>(
         &mut *root, parties, locks, pages, ng, party,
     ))
+}
+
+/// # Safety
+/// As for `bead_format`.
+#[cfg_attr(feature = "c-names", no_mangle)]
+pub unsafe extern "C" fn bead_take_up(
+    root: *const Root,
+    parties: *const Party,
+    np: usize,
+    locks: *const u32,
+    nl: usize,
+    pages: *const u32,
+    ng: usize,
+) -> u32 {
+    let parties = std::slice::from_raw_parts(parties, np);
+    let locks = std::slice::from_raw_parts(locks, nl);
+    let pages = read_pages_of(std::slice::from_raw_parts(pages, ng));
+    code_of(calls::take_up::<Unnamed>(&*root, parties, locks, pages, ng))
 }

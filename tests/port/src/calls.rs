@@ -1,10 +1,11 @@
-//! The four calls: format, begin, step and withdraw, with the refusal table's tests in its order.
+//! The five calls: format, begin, step, withdraw and take-up, with the refusal table's tests in its order.
 //! Pages are lent as whole pages beside the count of lent words, so that a length that is no multiple of sixteen is refused too.
 
 use crate::damage::{Cause, Damage};
 use crate::memory::{Page, Party, Root, DELETE, EMPTY_PAGE, FIND, INSERT, LINK};
 use crate::reply::{Outcome, Refusal};
 use crate::steps;
+use crate::take_up::Saved;
 use std::marker::PhantomData;
 
 /// The memory that one step is lent, with the party it is for.
@@ -156,6 +157,45 @@ fn is_decided(party: &Party) -> bool {
     }
 }
 
+/// "8 when a condition fails, tested after 2 and 1, nothing altered."
+pub fn take_up<D>(
+    root: &Root,
+    parties: &[Party],
+    locks: &[u32],
+    pages: &[Page],
+    page_words: usize,
+) -> Result<(), Refusal<D>> {
+    test_sizes(root, parties.len(), locks.len(), page_words)?;
+    let saved = Saved {
+        root,
+        parties,
+        locks,
+        pages,
+    };
+    if saved.passes() {
+        Ok(())
+    } else {
+        Err(Refusal::Unsaved)
+    }
+}
+
+/// Refusals 2 and 1.
+#[inline(always)]
+fn test_sizes<D>(
+    root: &Root,
+    parties: usize,
+    locks: usize,
+    page_words: usize,
+) -> Result<(), Refusal<D>> {
+    if !root.sizes_allowed() {
+        return Err(Refusal::Size);
+    }
+    if !root.lengths_fit(parties, locks, page_words) {
+        return Err(Refusal::Length);
+    }
+    Ok(())
+}
+
 /// The tests that begin, step and withdraw share: refusals 2, 1 and 3.
 #[inline(always)]
 fn tested_party<'a, D>(
@@ -165,12 +205,7 @@ fn tested_party<'a, D>(
     page_words: usize,
     number: u32,
 ) -> Result<&'a mut Party, Refusal<D>> {
-    if !root.sizes_allowed() {
-        return Err(Refusal::Size);
-    }
-    if !root.lengths_fit(parties.len(), locks, page_words) {
-        return Err(Refusal::Length);
-    }
+    test_sizes(root, parties.len(), locks, page_words)?;
     parties.get_mut(number as usize).ok_or(Refusal::PartyNumber)
 }
 

@@ -1,4 +1,5 @@
-//! A plain port of the index: the lent memory, the four calls and the thirty steps, with the C face of the compiled library.
+//! A plain port of the index: the lent memory, the five calls and the thirty steps, with the C face of the compiled
+//! library.
 #![deny(unsafe_code)]
 
 pub mod c_face;
@@ -10,3 +11,4 @@ pub mod memory;
 pub mod mixing;
 pub mod reply;
 mod steps;
+pub mod take_up;

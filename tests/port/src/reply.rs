@@ -9,6 +9,7 @@ pub enum Refusal<D> {
     NotIdle,
     Idle,
     Decided,
+    Unsaved,
     Damaged(D),
 }
 
@@ -22,6 +23,7 @@ impl<D> Refusal<D> {
             Refusal::NotIdle => 4,
             Refusal::Idle => 5,
             Refusal::Decided => 7,
+            Refusal::Unsaved => 8,
             Refusal::Damaged(_) => 6,
         }
     }

@@ -1,4 +1,5 @@
-// The strip under the slider: where the script waits, ends or withdraws operations, is refused or cannot be read.
+// The strip under the slider: where the script waits, ends or withdraws operations, takes the file up, is refused or
+// cannot be read.
 
 // The kinds of lines that the strip shows, the more notable later, with their colours in the style.
 const stripKinds = {
@@ -6,6 +7,7 @@ const stripKinds = {
   formatted: "--formatted",
   done: "--done",
   withdrawn: "--withdrawn",
+  taken: "--taken",
   waiting: "--waiting",
   refused: "--refused",
   unread: "--unread",

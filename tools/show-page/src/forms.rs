@@ -10,10 +10,14 @@ pub enum Form {
     Begin(u32, Operation),
     Step(u32),
     Withdraw(u32),
+    TakeUp,
 }
 
 /// Reads one line without its newline. Single spaces, nothing before or after.
 pub fn read(line: &[u8]) -> Option<Form> {
+    if line == b"(take-up)" {
+        return Some(Form::TakeUp);
+    }
     let (name, rest) = inside(std::str::from_utf8(line).ok()?)?;
     match name {
         "format" => sizes(rest).map(Form::Format),
@@ -77,6 +81,7 @@ pub enum Reply {
     Begin(u32, Result<(), Refusal>),
     Step(u32, Result<Outcome, Refusal>),
     Withdraw(u32, Result<(), Refusal>),
+    TakeUp(Result<(), Refusal>),
 }
 
 impl Reply {
@@ -84,9 +89,10 @@ impl Reply {
     pub fn refusal(&self) -> Option<Refusal> {
         match *self {
             Reply::Unread => None,
-            Reply::Format(result) | Reply::Begin(_, result) | Reply::Withdraw(_, result) => {
-                result.err()
-            }
+            Reply::Format(result)
+            | Reply::Begin(_, result)
+            | Reply::Withdraw(_, result)
+            | Reply::TakeUp(result) => result.err(),
             Reply::Step(_, result) => result.err(),
         }
     }
@@ -99,6 +105,7 @@ impl Reply {
             Reply::Format(_) => "formatted",
             Reply::Begin(..) => "begun",
             Reply::Withdraw(..) => "withdrawn",
+            Reply::TakeUp(_) => "taken",
             Reply::Step(_, Ok(Outcome::Waiting)) => "waiting",
             Reply::Step(_, Ok(Outcome::Done { .. })) => "done",
             Reply::Step(..) => "moved",
@@ -115,6 +122,7 @@ impl fmt::Display for Reply {
             Reply::Format(result) => write!(out, "(format {})", ok(result)),
             Reply::Begin(party, result) => write!(out, "(begin {party} {})", ok(result)),
             Reply::Withdraw(party, result) => write!(out, "(withdraw {party} {})", ok(result)),
+            Reply::TakeUp(result) => write!(out, "(take-up {})", ok(result)),
             Reply::Step(party, result) => {
                 write!(
                     out,
@@ -167,6 +175,7 @@ mod tests {
         );
         assert_eq!(read(b"(step 007)"), Some(Form::Step(7)));
         assert_eq!(read(b"(withdraw 3)"), Some(Form::Withdraw(3)));
+        assert_eq!(read(b"(take-up)"), Some(Form::TakeUp));
     }
 
     #[test]
@@ -196,6 +205,9 @@ mod tests {
             "(withdraw)",
             "(withdraw 0 7)",
             "(withdraw (0))",
+            "(take-up 0)",
+            "(take-up )",
+            "(take up)",
         ] {
             assert_eq!(read(line.as_bytes()), None, "{line}");
         }

@@ -1,7 +1,7 @@
 //! The memory that the script's file is lent, and the calls on it.
 
 use crate::forms::{Form, Reply};
-use bead_index::{FileRef, Lent, Lock, Mode, PartyRecord, Refusal, RootRecord, Sizes, Wait};
+use bead_index::{FileRef, Flaw, Lent, Lock, Mode, PartyRecord, Refusal, RootRecord, Sizes, Wait};
 
 /// The words of a page.
 const PAGE_WORDS: usize = 16;
@@ -63,7 +63,19 @@ impl Memory {
             Form::Withdraw(party) => {
                 Reply::Withdraw(party, self.file().and_then(|mut file| file.withdraw(party)))
             }
+            Form::TakeUp => Reply::TakeUp(FileRef::take_up_parts(self.lent()).map(|_| ())),
         }
+    }
+
+    /// The first thing that keeps the file from being taken up.
+    pub fn flaw(&mut self) -> Option<Flaw> {
+        self.file().ok()?.flaw()
+    }
+
+    /// How many keys there are, at rest.
+    pub fn key_count(&mut self) -> usize {
+        let file = self.file();
+        file.map_or(0, |file| file.records().map_or(0, |records| records.len()))
     }
 
     /// What every party's next step asks for.

@@ -6,7 +6,7 @@ use crate::memory::Memory;
 use crate::script::{self, Script};
 use crate::step_words::StepWords;
 use crate::view;
-use bead_index::{Outcome, PartyRecord};
+use bead_index::{Outcome, PartyRecord, Refusal};
 
 /// A line and what came of it.
 pub struct Turn {
@@ -94,7 +94,7 @@ impl Run {
     /// The party that a form names, as it stands.
     fn party_of(&self, form: Form) -> Option<Party> {
         match form {
-            Form::Format(_) => None,
+            Form::Format(_) | Form::TakeUp => None,
             Form::Begin(party, _) | Form::Step(party) | Form::Withdraw(party) => Some(Party {
                 record: *self.memory.parties.get(party as usize)?,
                 held: view::held_by(&self.memory, party),
@@ -109,7 +109,10 @@ impl Run {
     /// What a reply means, in words; the party is as before the call.
     fn meaning(&mut self, form: Option<Form>, reply: Reply, before: &Party) -> String {
         if let Some(refusal) = reply.refusal() {
-            return format!("Refused: {refusal}. Nothing is altered.");
+            let flaw = self.memory.flaw();
+            let why = flaw.filter(|_| refusal == Refusal::Unsaved);
+            let why = why.map_or(String::new(), |flaw| format!(": {flaw}"));
+            return format!("Refused: {refusal}{why}. Nothing is altered.");
         }
         match (form, reply) {
             (None, _) => "Not a form that turns reads. Nothing is altered.".to_string(),
@@ -125,7 +128,20 @@ impl Run {
             }
             (Some(Form::Step(_)), _) => String::new(),
             (Some(Form::Withdraw(party)), _) => before.withdrawn(party),
+            (Some(Form::TakeUp), _) => self.taken_up(),
         }
+    }
+
+    /// What a take-up found.
+    fn taken_up(&mut self) -> String {
+        let counted = |count: usize, what: &str| match count {
+            1 => format!("one {what}"),
+            _ => format!("{count} {what}s"),
+        };
+        let keys = counted(self.memory.key_count(), "key");
+        let chains = counted(self.memory.chain_count() as usize, "chain");
+        let free = counted(self.memory.root.free as usize, "page");
+        format!("A file at rest, which is taken up: {keys} in {chains}, {free} free. Nothing is altered.")
     }
 
     fn step_meaning(&mut self, party: u32, outcome: Outcome, record: &PartyRecord) -> String {
@@ -166,6 +182,33 @@ mod tests {
         lines.extend(vec!["(step 0)"; steps]);
         lines.push("(withdraw 0)");
         meaning(&lines)
+    }
+
+    #[test]
+    fn a_take_up_says_what_was_found() {
+        let mut lines = vec!["(take-up)"];
+        let refused = |why: &str| format!("Refused: {why}. Nothing is altered.");
+        assert_eq!(
+            meaning(&lines),
+            refused("a size is outside its limits (refusal 2)")
+        );
+        lines.extend(["(format 1 1 2 3 2)", "(take-up)"]);
+        assert_eq!(
+            meaning(&lines),
+            "A file at rest, which is taken up: 0 keys in one chain, 3 pages free. Nothing is altered."
+        );
+        lines.extend(["(begin 1 (insert 7 5))", "(take-up)"]);
+        let unsaved = "the words are no file at rest (refusal 8)";
+        assert_eq!(
+            meaning(&lines),
+            refused(&format!("{unsaved}: party 1 has an operation under way"))
+        );
+        lines.extend(["(step 1)"; 12]);
+        lines.push("(take-up)");
+        assert_eq!(
+            meaning(&lines),
+            "A file at rest, which is taken up: one key in one chain, 3 pages free. Nothing is altered."
+        );
     }
 
     #[test]

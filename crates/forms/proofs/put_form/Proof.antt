@@ -45,6 +45,16 @@ fill-requires-3 : tie.Need-fill-requires-3
 unfolding longest
 fill-requires-3 c κs = room _ _ _ _ _ tt (c .before .before .before .before .before .before .pre)
 
+enum-told : tie.Need-enum-told
+enum-told c = search needs
+
+slice-aggregate-fill-4 : tie.Need-slice-aggregate-fill-4
+slice-aggregate-fill-4 c = search needs
+
+fill-requires-4 : tie.Need-fill-requires-4
+unfolding longest
+fill-requires-4 c κs = room _ _ _ _ _ tt (c .before .before .before .before .before .pre)
+
 same-length : tie.Need-same-length
 same-length c = search needs
 
@@ -72,6 +82,13 @@ returns-4 : tie.Need-returns-4
 unfolding formText formPattern formNumbers sizeNumbers filled symbolText numbersAfter
 returns-4 c = put-as _ _ _ _ (sym (ap (λ (x : Form). formText x) (c .before .before .before .before .before .before .form4 .given .1))) (c .before .before .fill3 .ensures)
 
+same-length-5 : tie.Need-same-length-5
+same-length-5 c = search needs
+
+returns-5 : tie.Need-returns-5
+unfolding formText formPattern formNumbers sizeNumbers filled symbolText numbersAfter
+returns-5 c = put-as _ _ _ _ (sym (ap (λ (x : Form). formText x) (c .before .before .before .before .before .enum-told .given .1))) (c .before .before .fill4 .ensures)
+
 pub put-form-spec : {M : Type 1} → statement M
 put-form-spec =
     tie.close
@@ -87,6 +104,9 @@ put-form-spec =
     enum-known-form-4
     slice-aggregate-fill-3
     fill-requires-3
+    enum-told
+    slice-aggregate-fill-4
+    fill-requires-4
     same-length
     returns
     same-length-2
@@ -94,4 +114,6 @@ put-form-spec =
     same-length-3
     returns-3
     same-length-4
-    returns-4)
+    returns-4
+    same-length-5
+    returns-5)

@@ -43,6 +43,12 @@ enum-known-reply-4 c = search needs
 put-withdraw-reply-requires : tie.Need-put-withdraw-reply-requires
 put-withdraw-reply-requires c κs = search needs
 
+enum-known-reply-5 : tie.Need-enum-known-reply-5
+enum-known-reply-5 c = search needs
+
+put-take-up-reply-requires : tie.Need-put-take-up-reply-requires
+put-take-up-reply-requires c κs = search needs
+
 same-length : tie.Need-same-length
 same-length c = search needs
 
@@ -74,6 +80,12 @@ same-length-5 c = search needs
 returns-5 : tie.Need-returns-5
 returns-5 c = put-as _ _ _ _ (sym (ap (λ (x : Reply). replyText x) (c .before .before .before .before .before .reply4 .given .1))) (c .before .before .put-withdraw-reply .ensures)
 
+same-length-6 : tie.Need-same-length-6
+same-length-6 c = search needs
+
+returns-6 : tie.Need-returns-6
+returns-6 c = put-as _ _ _ _ (sym (ap (λ (x : Reply). replyText x) (c .before .before .before .before .before .reply5 .given .1))) (c .before .before .put-take-up-reply .ensures)
+
 pub put-reply-spec : {M : Type 1} → statement M
 put-reply-spec =
     tie.close
@@ -89,6 +101,8 @@ put-reply-spec =
     put-step-reply-requires
     enum-known-reply-4
     put-withdraw-reply-requires
+    enum-known-reply-5
+    put-take-up-reply-requires
     same-length
     returns
     same-length-2
@@ -98,4 +112,6 @@ put-reply-spec =
     same-length-4
     returns-4
     same-length-5
-    returns-5)
+    returns-5
+    same-length-6
+    returns-6)

@@ -31,9 +31,12 @@ returns : tie.Need-returns
 unfolding readFormat wholly
 returns c = row-taken _ _ _ _ (c .before .before .match-rest .ensures) (c .before .if1 .taken) refl
 
+read-take-up-requires : tie.Need-read-take-up-requires
+read-take-up-requires c κs = search needs
+
 returns-2 : tie.Need-returns-2
 unfolding readFormat wholly
-returns-2 c = row-left _ _ _ _ (c .before .match-rest .ensures) (c .if1 .left) (refl)
+returns-2 c = row-left _ _ _ _ (c .before .before .match-rest .ensures) (c .before .if1 .left) (c .read-take-up .ensures)
 
 pub read-format-spec : {M : Type 1} → statement M
 read-format-spec =
@@ -47,4 +50,5 @@ read-format-spec =
     array-read-t19
     array-read-t22
     returns
+    read-take-up-requires
     returns-2)

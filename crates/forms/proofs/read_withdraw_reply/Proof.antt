@@ -35,12 +35,12 @@ returns-2 : tie.Need-returns-2
 unfolding readWithdrawReply wholly
 returns-2 c = row-left _ _ _ _ (c .before .before .before .before .before .match-rest .ensures) (c .before .before .before .before .if1 .left) (row-taken _ _ _ _ (c .before .before .match-rest2 .ensures) (c .before .if2 .taken) refl)
 
-read-step-reply-requires : tie.Need-read-step-reply-requires
-read-step-reply-requires c κs = search needs
+read-take-up-reply-requires : tie.Need-read-take-up-reply-requires
+read-take-up-reply-requires c κs = search needs
 
 returns-3 : tie.Need-returns-3
 unfolding readWithdrawReply wholly
-returns-3 c = row-left _ _ _ _ (c .before .before .before .before .before .match-rest .ensures) (c .before .before .before .before .if1 .left) (row-left _ _ _ _ (c .before .before .match-rest2 .ensures) (c .before .if2 .left) (c .read-step-reply .ensures))
+returns-3 c = row-left _ _ _ _ (c .before .before .before .before .before .match-rest .ensures) (c .before .before .before .before .if1 .left) (row-left _ _ _ _ (c .before .before .match-rest2 .ensures) (c .before .if2 .left) (c .read-take-up-reply .ensures))
 
 pub read-withdraw-reply-spec : {M : Type 1} → statement M
 read-withdraw-reply-spec =
@@ -55,5 +55,5 @@ read-withdraw-reply-spec =
     array-read-t20
     array-read-t23
     returns-2
-    read-step-reply-requires
+    read-take-up-reply-requires
     returns-3)

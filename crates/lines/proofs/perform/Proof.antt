@@ -31,6 +31,12 @@ enum-known-form-4 c = search needs
 withdraw-requires : tie.Need-withdraw-requires
 withdraw-requires c κs = search needs
 
+enum-told : tie.Need-enum-told
+enum-told c = search needs
+
+take-up-requires : tie.Need-take-up-requires
+take-up-requires c κs = search needs
+
 same-length : tie.Need-same-length
 same-length c = search needs
 
@@ -75,6 +81,17 @@ returns-4 c =
     let a = c .before .before .before .before .before .before .before .before .before .before .before .before .args in
     c .before .before .before .before .withdraw .ensures ∙ ap (λ (f : Form). performed f (memoryOf (a .held) (a .locks .now) (a .pages .now))) (sym (c .before .before .before .before .before .before .before .before .form4 .given .1))
 
+same-length-9 : tie.Need-same-length-9
+same-length-9 c = search needs
+
+same-length-10 : tie.Need-same-length-10
+same-length-10 c = search needs
+
+returns-5 : tie.Need-returns-5
+returns-5 c =
+    let a = c .before .before .before .before .before .before .before .args in
+    c .take-up .ensures ∙ ap (λ (f : Form). performed f (memoryOf (a .held) (a .locks .now) (a .pages .now))) (sym (c .before .before .before .enum-told .given .1))
+
 pub perform-spec : {M : Type 1} → statement M
 perform-spec =
     tie.close
@@ -87,6 +104,8 @@ perform-spec =
     step-requires
     enum-known-form-4
     withdraw-requires
+    enum-told
+    take-up-requires
     same-length
     same-length-2
     returns
@@ -98,4 +117,7 @@ perform-spec =
     returns-3
     same-length-7
     same-length-8
-    returns-4)
+    returns-4
+    same-length-9
+    same-length-10
+    returns-5)

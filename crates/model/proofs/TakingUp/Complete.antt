@@ -1,33 +1,32 @@
--- Memory that has the invariant, with nobody under way, passes take-up, and its records are the book's map: what the index leaves at rest is always taken up again.
--- Main statements: rests-saved, rests-map.
+-- Memory that has the invariant, with nobody under way, passes take-up, and its records are the book's map: what the
+-- index leaves at rest is always taken up again.
+-- Main statements: rests-saved, rests-map; chain-packed (a chain as it must be passes the test of its words), once-all
+-- (each number once), in-none (a number in none of some lists).
 use mathlib.Core.Path.{_≡_, refl, sym, ap, _∙_, subst}
 use mathlib.Core.Logic.{_≢_}
-use mathlib.Core.Bool.{Bool, true, false, cond, _&&_, _||_}
+use mathlib.Core.Bool.{Bool, true, false}
 use mathlib.Core.List.{List, [], _∷_, _++_}
 use mathlib.Core.Option.{Option, none, some}
-use Prim.Native.Nat.{ℕ, zero, suc, _+_, _-_, _*_, _^_, _/_, _%_, _≤_, _<_}
+use Prim.Native.Nat.{ℕ, zero, suc, _+_, _-_, _*_, _/_, _%_, _≤_, _<_}
 use native.Mathlib.Nat.{div-add-mod'}
 use native.Mathlib.Omega.{arith}
-use lib.ListN.{length, getD, take, drop, List·getD-eq-default, drop-of-length-le}
+use lib.ListN.{length, getD, drop, List·getD-eq-default, drop-of-length-le}
 use lib.Seq.{take-all}
 use lib.Pow.{shr-shr}
-use lib.Dec.{eqb, leb, ltb}
-use Rattle.model.specs.declared.Root.{Root}
+use lib.Dec.{eqb}
 use Rattle.model.specs.declared.Party.{Party}
 use Rattle.model.specs.declared.Entry.{Entry}
 use Rattle.model.specs.declared.Mode.{Mode}
 use Rattle.model.specs.declared.Mode.the-variants.{Read, Selective, Exclusive}
-use Rattle.model.specs.Sizes.{lockWords}
 use Rattle.model.specs.Records.{idle}
-use Rattle.model.specs.Addresses.{span, chainCount, countOfChains, hash, addressOf}
+use Rattle.model.specs.Addresses.{chainCount, countOfChains, hash, addressOf}
 use Rattle.model.specs.Entries.{keyOf, hasKey, settingIn, isEmpty}
-use Rattle.model.specs.LockWords.{fieldOf, readersOf, selectiveOf, exclusiveOf}
-use Rattle.model.specs.Pages.{pageOf, linkOf, filledPage, freePage, zeroPage, linkToFirst, primaryPage, scratchPage}
-use Rattle.model.specs.Chains.{Checked, damaged, sound, Chain, chainOf, pagesIn, recordsRead}
+use Rattle.model.specs.LockWords.{fieldOf, selectiveOf, exclusiveOf}
+use Rattle.model.specs.Pages.{pageOf, linkOf, freePage, zeroPage, linkToFirst, primaryPage, scratchPage}
+use Rattle.model.specs.Chains.{Checked, sound, Chain, chainOf, pagesIn, recordsRead}
 use Rattle.model.specs.Filling.{pagesFor, primaryOf}
-use Rattle.model.specs.FreeList.{Taken, pagesTaken}
+use Rattle.model.specs.FreeList.{pagesTaken}
 use Rattle.model.specs.Memory.{Memory, partyAt}
-use Rattle.model.specs.Refusals.{rootSound}
 use Rattle.model.specs.PagePlaces.{pagesDrawn, freeList, chainedFrom}
 use Rattle.model.specs.Book.{Book, Entered}
 use Rattle.model.specs.Claims.{claims}
@@ -39,9 +38,9 @@ use Rattle.model.proofs.Laws.Pages.{link-freePage}
 use Rattle.model.proofs.Laws.Structure.{FreePages, Overflow, ChainIs}
 use Rattle.model.proofs.Laws.Reading.{held-overflow, overflow-length}
 use Rattle.model.proofs.Laws.FreeList.{taken-front}
-use Rattle.model.proofs.Invariant.Ghost.{Owner, Named, nobody, free, inChain, oldOf, partnerOf, builtBy, newBy, count, Extent, rootExtent, size, localLevel, Ghost, sameOwner, owns}
+use Rattle.model.proofs.Invariant.Ghost.{Owner, nobody, free, inChain, oldOf, partnerOf, builtBy, newBy, count, Extent, rootExtent, size, localLevel, Ghost, sameOwner, owns}
 use Rattle.model.proofs.Invariant.Owners.{owner-same, owner-diff, kinds-apart, indices-apart, owns-self, owns-diff, owns-nothing, no-repeats}
-use Rattle.model.proofs.Invariant.Claims.{isClaimed, bit, HolderIs, WordOk, LocksOk}
+use Rattle.model.proofs.Invariant.Claims.{isClaimed, bit, HolderIs, WordOk}
 use Rattle.model.proofs.Invariant.Statement.{restructures, uses, BookOk, NoPages, PartyOk, resting, working, sceneOf, Inv}
 use Rattle.model.proofs.Effects.BuiltChain.{chain-found}
 use Rattle.model.proofs.Theorems.Calls.{root-sound, within-limits, lengths-fit}
@@ -86,7 +85,7 @@ unfolding packed isEmpty
 overflow-packed b ps [] es o = ap isEmpty o
 overflow-packed b ps (x ∷ xs) es o = both-and (words-same (o .1)) (overflow-packed b ps xs (drop b es) (o .2))
 
-chain-packed : (b : ℕ) (ps : List ℕ) (c level : ℕ) (es : List Entry) (xs : List ℕ) → ChainIs b ps c level es xs → packed b ps level (primaryPage c ∷ xs) es ≡ true
+pub chain-packed : (b : ℕ) (ps : List ℕ) (c level : ℕ) (es : List Entry) (xs : List ℕ) → ChainIs b ps c level es xs → packed b ps level (primaryPage c ∷ xs) es ≡ true
 unfolding packed primaryOf
 chain-packed b ps c level es xs k = both-and (words-same (k .primary)) (overflow-packed b ps xs (drop b es) (k .overflow))
 
@@ -95,7 +94,7 @@ unfolding allFree
 free-all ps [] f = refl
 free-all ps (x ∷ xs) f = both-and (words-same (f .0 ∙ ap freePage (sym (ap linkOf (f .0) ∙ link-freePage (linkToFirst xs))))) (free-all ps xs (f .1))
 
-once-all : (xs : List ℕ) (v x : ℕ) → ((y : ℕ) → x ≤ y → y < x + v → count y xs ≡ 1) → eachOnce xs v x ≡ true
+pub once-all : (xs : List ℕ) (v x : ℕ) → ((y : ℕ) → x ≤ y → y < x + v → count y xs ≡ 1) → eachOnce xs v x ≡ true
 unfolding eachOnce
 once-all xs zero x f = refl
 once-all xs (suc v) x f = both-and (eqb-same (count x xs) 1 (f x (omega arith) (omega arith))) (once-all xs v (x + 1) (λ y h l. f y (omega arith) (omega arith)))
@@ -124,7 +123,7 @@ word-clear w h k z =
 -- ---- How often a page is in lists, one after the other
 
 module _ (f : ℕ → List ℕ) (x : ℕ) where
-  in-none : (n c : ℕ) → ((d : ℕ) → c ≤ d → d < c + n → count x (f d) ≡ 0) → count x (chained f n c) ≡ 0
+  pub in-none : (n c : ℕ) → ((d : ℕ) → c ≤ d → d < c + n → count x (f d) ≡ 0) → count x (chained f n c) ≡ 0
   unfolding chained
   in-none zero c off = count-nil x
   in-none (suc n) c off =

@@ -1,16 +1,16 @@
--- Who owns each overflow page of a saved file: the free list or a chain, found by looking for the page; where each page is once in them, these are owners as the invariant has them.
+-- Who owns each overflow page of a saved file: the free list or a chain, found by looking for the page; where each page
+-- is once in them, these are owners as the invariant has them.
 -- Main statements: ownerIn, heldIn; owned-once.
 use mathlib.Core.Path.{_≡_, refl, sym, ap, _∙_, subst}
-use mathlib.Core.Logic.{_≢_}
-use mathlib.Core.Bool.{Bool, true, false, cond, _&&_}
-use mathlib.Core.List.{List, [], _∷_, _++_}
+use mathlib.Core.Bool.{false, cond, _&&_}
+use mathlib.Core.List.{List, [], _++_}
 use Prim.Native.Nat.{ℕ, zero, suc, _+_, _≤_, _<_}
 use native.Mathlib.Omega.{arith}
 use lib.Dec.{eqb, ltb}
 use Rattle.model.specs.FreeList.{isAmong}
-use Rattle.model.proofs.Laws.Lists.{Told, holds, fails, tell, Cmp, same, diff, cmp, cond-true, cond-false, cond-ind, and-both, both-and, and-fails, eqb-true, eqb-false, ltb-true, ltb-false, lt-ltb, count-nil, count-append, among-count, absent-count}
+use Rattle.model.proofs.Laws.Lists.{Told, holds, fails, tell, Cmp, same, diff, cmp, cond-true, cond-false, cond-ind, and-both, eqb-true, ltb-true, ltb-false, lt-ltb, count-nil, count-append, among-count, absent-count}
 use Rattle.model.proofs.Invariant.Ghost.{Owner, Named, nobody, free, inChain, count, sameOwner, owns, Owned}
-use Rattle.model.proofs.Invariant.Owners.{owner-same, same-owner, owner-self, owner-diff, diff-swap, kinds-apart, indices-apart, owns-self, owns-diff}
+use Rattle.model.proofs.Invariant.Owners.{owner-same, owner-self, owner-diff, diff-swap, kinds-apart, indices-apart, owns-self, owns-diff}
 
 -- The pages of n chains from chain c on, one after the other: f has each chain's.
 module _ (f : ℕ → List ℕ) where

@@ -1,10 +1,9 @@
 -- A file that passes take-up has the invariant, beside the book with its records and nobody under way.
--- Main statement: saved-inv.
+-- Main statement: saved-inv; fit-at (one chain of those that fit) and each-once-at (one of the numbers that are once).
 use mathlib.Core.Path.{_≡_, refl, sym, ap, _∙_, subst}
 use mathlib.Core.Logic.{_≢_}
 use mathlib.Core.Bool.{Bool, true, false, cond, _&&_, _||_}
 use mathlib.Core.List.{List, [], _∷_, _++_}
-use mathlib.Core.Option.{Option, none}
 use Prim.Native.Nat.{ℕ, zero, suc, _+_, _-_, _≤_, _<_}
 use native.Mathlib.Omega.{arith}
 use lib.ListN.{length, getD, replicate}
@@ -15,36 +14,36 @@ use Rattle.model.specs.Sizes.{withinLimits, lockWords, allPageWords}
 use Rattle.model.specs.Records.{idle}
 use Rattle.model.specs.Addresses.{span, chainCount, countOfChains, hash, addressOf}
 use Rattle.model.specs.Entries.{hasKey, settingIn}
-use Rattle.model.specs.Pages.{pageOf, linkOf, linkSound, zeroPage, linkToFirst, primaryPage, scratchPage}
+use Rattle.model.specs.Pages.{pageOf, linkOf, linkSound, linkToFirst, primaryPage, scratchPage}
 use Rattle.model.specs.Chains.{Checked, damaged, sound, Chain, chainOf, readChain, listFrom, pagesIn, recordsRead, chainsFrom}
 use Rattle.model.specs.Filling.{pagesFor}
-use Rattle.model.specs.FreeList.{Taken, isAmong, pagesTaken}
+use Rattle.model.specs.FreeList.{Taken, pagesTaken}
 use Rattle.model.specs.Memory.{Memory, partyAt}
 use Rattle.model.specs.Refusals.{lengthsFit, rootSound}
 use Rattle.model.specs.PagePlaces.{pagesDrawn, freeList, chainedFrom}
-use Rattle.model.specs.Book.{Book}
 use Rattle.model.specs.Claims.{claims}
 use Rattle.model.specs.TakeUp.{allZero, allIdle, zeroPages, partiesRest, locksClear, scratchClear, levelAt, allHome, packed, chainFits, fitsIfSound, chainsFit, chainsSaved, beyondClear, allFree, freeIfSound, freeSaved, eachOnce, pagesOnce, isSaved, recordsSaved, openBook, savedBook}
-use Rattle.model.proofs.Laws.Lists.{false≢true, Told, holds, fails, tell, Cmp, same, diff, cmp, Ord, lt, ge, ord, and-both, eqb-true, eqb-same, eqb-diff, ltb-true, ltb-false, leb-true, lt-ltb, le-ltb, le-leb, lt-leb, both-and, left-fails, right-fails, cond-true, cond-false, count-nil, count-append, All, all-in, count-among, not-both}
+use Rattle.model.proofs.Laws.Lists.{false≢true, Told, holds, fails, tell, Cmp, same, diff, cmp, and-both, eqb-true, ltb-true, ltb-false, leb-true, count-nil, count-append, All, all-in, count-among}
+use Rattle.model.proofs.Laws.Booleans.{and-left, and-right}
 use Rattle.model.proofs.Laws.Tests.{sound-page-links}
 use Rattle.model.proofs.Laws.Addresses.{address-lt}
-use Rattle.model.proofs.Laws.Structure.{Linked, FreePages, ChainIs}
-use Rattle.model.proofs.Laws.Filling.{Chained, IsOverflow}
-use Rattle.model.proofs.Laws.Walks.{Reads, chain-reads, read-ascends, walked-chained, linked-overflow}
+use Rattle.model.proofs.Laws.Structure.{FreePages, ChainIs}
+use Rattle.model.proofs.Laws.Filling.{IsOverflow}
+use Rattle.model.proofs.Laws.Walks.{chain-reads, read-ascends, walked-chained, linked-overflow}
 use Rattle.model.proofs.Laws.Together.{Apart, setting-home, ascends-all, chains-at, on-chain, chains-apart}
-use Rattle.model.proofs.Invariant.Ghost.{Owner, free, inChain, oldOf, partnerOf, builtBy, newBy, count, extent, rootExtent, size, localLevel, Ghost, Owned}
+use Rattle.model.proofs.Invariant.Ghost.{free, oldOf, partnerOf, builtBy, newBy, count, rootExtent, size, localLevel, Ghost, Owned}
 use Rattle.model.proofs.Invariant.Extents.{home-is}
 use Rattle.model.proofs.Invariant.Claims.{isClaimed, claimed, LocksOk}
 use Rattle.model.proofs.Invariant.LockMoves.{locks-same, locks-start}
 use Rattle.model.proofs.Invariant.Start.{limits-within}
-use Rattle.model.proofs.Invariant.Statement.{Limits, restructures, ExtentsOk, PagesOk, BookOk, Scene, NoPages, PartyOk, resting, sceneOf, Inv, Heads}
+use Rattle.model.proofs.Invariant.Statement.{Limits, restructures, ExtentsOk, PagesOk, BookOk, Scene, NoPages, resting, sceneOf, Inv}
 use Rattle.model.proofs.TakingUp.Tests.{zeros, all-idle, zero-page-at, packed-chain, home-keys, TakenList, taken-list}
 use Rattle.model.proofs.TakingUp.Owners.{chained, ownerIn, heldIn, held-free, held-chain, held-beyond, held-none, named-in, owned-once}
 
 -- ---- Chains
 
 -- A chain that passed its tests.
-record FitChain (r : Root) (ps : List ℕ) (c : ℕ) : Type 0 where
+pub record FitChain (r : Root) (ps : List ℕ) (c : ℕ) : Type 0 where
   pub chain : Chain
   pub reads : chainOf r ps c ≡ sound chain
   pub fits : chainFits r ps c chain ≡ true
@@ -57,7 +56,7 @@ fit-chain r ps c e = go (chainOf r ps c) refl e
     go damaged s f = absurd (false≢true f)
     go (sound d) s f = record { chain = d; reads = s; fits = f }
 
-fit-at : (r : Root) (ps : List ℕ) (n c d : ℕ) → chainsFit r ps n c ≡ true → c ≤ d → d < c + n → FitChain r ps d
+pub fit-at : (r : Root) (ps : List ℕ) (n c d : ℕ) → chainsFit r ps n c ≡ true → c ≤ d → d < c + n → FitChain r ps d
 unfolding chainsFit
 fit-at r ps zero c d e h l = absurd (omega arith)
 fit-at r ps (suc n) c d e h l =
@@ -79,7 +78,7 @@ chain-overflow r ps c d e =
 
 -- ---- Pages, each once
 
-each-once-at : (xs : List ℕ) (v x y : ℕ) → eachOnce xs v x ≡ true → x ≤ y → y < x + v → count y xs ≡ 1
+pub each-once-at : (xs : List ℕ) (v x y : ℕ) → eachOnce xs v x ≡ true → x ≤ y → y < x + v → count y xs ≡ 1
 unfolding eachOnce
 each-once-at xs zero x y e h l = absurd (omega arith)
 each-once-at xs (suc v) x y e h l =
@@ -159,14 +158,16 @@ module _ (m : Memory) (fits : withinLimits (m .root) ≡ true) (lengths : length
   conditions : Conditions
   unfolding isSaved partiesRest locksClear scratchClear chainsSaved beyondClear pagesOnce
   conditions =
-      let g = and-both (partiesRest m && locksClear m && scratchClear m && rootSound r && chainsSaved m && beyondClear m && freeSaved m) (pagesOnce m) saved in
-      let f = and-both (partiesRest m && locksClear m && scratchClear m && rootSound r && chainsSaved m && beyondClear m) (freeSaved m) (g .0) in
-      let e = and-both (partiesRest m && locksClear m && scratchClear m && rootSound r && chainsSaved m) (beyondClear m) (f .0) in
-      let d = and-both (partiesRest m && locksClear m && scratchClear m && rootSound r) (chainsSaved m) (e .0) in
-      let c = and-both (partiesRest m && locksClear m && scratchClear m) (rootSound r) (d .0) in
-      let b = and-both (partiesRest m && locksClear m) (scratchClear m) (c .0) in
-      let a = and-both (partiesRest m) (locksClear m) (b .0) in
-      record { idle = a .0; locks = a .1; scratch = b .1; root = c .1; chains = d .1; beyond = e .1; frees = f .1; once = g .1 }
+      record {
+        idle = search (and-left, and-right) depth 10;
+        locks = search (and-left, and-right) depth 10;
+        scratch = search (and-left, and-right) depth 10;
+        root = search (and-left, and-right) depth 10;
+        chains = search (and-left, and-right) depth 10;
+        beyond = search (and-left, and-right) depth 10;
+        frees = search (and-left, and-right) depth 10;
+        once = search (and-left, and-right) depth 10;
+      }
 
   limits : Limits (m .root)
   limits = limits-within (m .root) fits

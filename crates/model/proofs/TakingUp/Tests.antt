@@ -1,12 +1,14 @@
--- What the tests of take-up say where they hold: words and pages that are the same or zero, idle records, pages filled, the free list, records at home.
--- Main statements: same-words, all-idle, zero-page-at; packed-overflow and packed-chain (a chain word for word); taken-list, free-pages (the free list); home-keys.
+-- What the tests of take-up say where they hold: words and pages that are the same or zero, idle records, pages filled,
+-- the free list, records at home.
+-- Main statements: same-words, zeros, record-zero, all-idle, zero-page-at; packed-overflow and packed-chain (a chain word
+-- for word); home-keys; taken-list (the free list).
 use mathlib.Core.Path.{_≡_, refl, sym, ap, ap₂, _∙_}
 use mathlib.Core.Logic.{_≢_, _⊎_, inl, inr}
-use mathlib.Core.Bool.{Bool, true, false, cond, not, _&&_, _||_}
+use mathlib.Core.Bool.{Bool, true, false, cond, not, _&&_}
 use mathlib.Core.List.{List, [], _∷_}
-use Prim.Native.Nat.{ℕ, zero, suc, _+_, _-_, _*_, _≤_, _<_}
+use Prim.Native.Nat.{ℕ, zero, suc, _+_, _-_, _≤_, _<_}
 use native.Mathlib.Omega.{arith}
-use lib.ListN.{length, getD, take, drop, replicate, length-drop}
+use lib.ListN.{length, take, drop, replicate, length-drop}
 use lib.Dec.{eqb}
 use Rattle.model.specs.declared.Root.{Root}
 use Rattle.model.specs.declared.Party.{Party}
@@ -14,14 +16,13 @@ use Rattle.model.specs.declared.Entry.{Entry}
 use Rattle.model.specs.Records.{idle}
 use Rattle.model.specs.Addresses.{hash}
 use Rattle.model.specs.Entries.{keyOf, hasKey, isEmpty}
-use Rattle.model.specs.Pages.{pageOf, linkOf, filledPage, freePage, zeroPage, linkToFirst, linkTo, linkedPage, namesOverflow, primaryPage}
+use Rattle.model.specs.Pages.{pageOf, linkOf, filledPage, freePage, zeroPage, linkToFirst, linkedPage, namesOverflow, primaryPage}
 use Rattle.model.specs.Chains.{Checked, damaged, sound, andThen}
 use Rattle.model.specs.Filling.{pagesFor, primaryOf}
-use Rattle.model.specs.FreeList.{Taken, isAmong, alsoTaken, takenFrom, pagesTaken}
+use Rattle.model.specs.FreeList.{Taken, isAmong, alsoTaken, takenFrom}
 use Rattle.model.specs.Memory.{partyAt}
 use Rattle.model.specs.TakeUp.{sameWords, allZero, zeroPages, isZeroRecord, allIdle, allHome, packed, allFree}
 use Rattle.model.proofs.Laws.Lists.{false≢true, eqb-true, and-both, or-either, Cmp, same, diff, cmp, All}
-use Rattle.model.proofs.Laws.Pages.{link-freePage}
 use Rattle.model.proofs.Laws.Tests.{named-within}
 use Rattle.model.proofs.Laws.Structure.{FreePages, Overflow, ChainIs}
 use Rattle.model.proofs.Laws.Filling.{Exact, exact-less, needed-exact, IsOverflow}

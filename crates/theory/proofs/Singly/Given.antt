@@ -3,24 +3,21 @@
 -- start-file (format leaves the yardstick's first file).
 use mathlib.Core.Path.{_≡_, refl, sym, ap, _∙_, subst}
 use mathlib.Core.List.{List, []}
-use Prim.Native.Nat.{ℕ, zero, suc, _<_}
+use Prim.Native.Nat.{ℕ, _<_}
 use native.Mathlib.Omega.{arith}
-use lib.ListN.{getD, replicate, length-replicate}
-use lib.Dec.{eqb}
 use Rattle.model.specs.declared.Root.{Root}
 use Rattle.model.specs.declared.Operation.{Operation}
 use Rattle.model.specs.declared.Operation.the-variants as Operation
-use Rattle.model.specs.Addresses.{span, chainCount}
-use Rattle.model.specs.declared.Entry.{Entry}
-use Rattle.model.specs.Entries.{ascending, settingIn}
+use Rattle.model.specs.Addresses.{chainCount}
+use Rattle.model.specs.Entries.{settingIn}
 use Rattle.model.specs.Chains.{Chain, chainOf}
 use Rattle.model.specs.Pages.{linkToFirst}
-use Rattle.model.specs.Memory.{Memory, formatted, formattedRoot}
-use Rattle.model.specs.Runs.{Call, events, finalMemory}
+use Rattle.model.specs.Memory.{Memory}
+use Rattle.model.specs.Runs.{Call, events}
 use Rattle.model.specs.Book.{Book, bookAtEnd}
 use Rattle.model.specs.TakeUp.{openBook}
 use Rattle.model.specs.Progress.{isEntered, underWay}
-use Rattle.theory.specs.Sequential.{File, shortOf, freeIn, homeIn, recordsAt, chainsIn, parted, splitFile, rejoined, mergeFile, findIn, added, insertIn, removed, deleteIn, performedOn, mapIn, startFile, fileOf, ChainsRead}
+use Rattle.theory.specs.Sequential.{File, shortOf, freeIn, homeIn, chainsIn, parted, splitFile, rejoined, mergeFile, findIn, added, insertIn, removed, deleteIn, performedOn, mapIn, fileOf, ChainsRead}
 use Rattle.theory.specs.Demands.{Start, mapStart, sizesOf, Reached, bookReached, AtRest, fileReached, atHome}
 use Rattle.model.proofs.Invariant.Ghost.{inChain, size, localLevel}
 use Rattle.model.proofs.Invariant.Statement.{Inv}
@@ -28,7 +25,7 @@ use Rattle.model.proofs.Invariant.Frame.{SameLimits}
 use Rattle.model.proofs.Effects.BuiltChain.{chain-found}
 use Rattle.theory.proofs.Reached.{started-inv, reached-inv}
 use Rattle.theory.proofs.SizesStay.{sizes-same, reached-limits, sized-root}
-use Rattle.theory.proofs.Singly.Files.{extentOf, home, Holding, held-home, map-held}
+use Rattle.theory.proofs.Singly.Files.{Holding, held-home, map-held}
 use Rattle.theory.proofs.Singly.AtRest.{live-holding, file-read}
 use Rattle.theory.proofs.Singly.Whole.{live-at-rest}
 

@@ -18,8 +18,7 @@ use Rattle.model.specs.Memory.{Memory, partyAt}
 use Rattle.model.specs.Calls.{Called, called, withBegun, beginCall}
 use Rattle.model.specs.Runs.{Call, Reply, toBegin, replyTo, afterCall, eventOf, events, finalMemory}
 use Rattle.model.specs.Book.{Book, enter}
-use Rattle.theory.specs.PlainMap.{emptyMap}
-use Rattle.theory.specs.Sequential.{File, fileOf, performedOn, mapIn, startFile}
+use Rattle.theory.specs.Sequential.{File, fileOf, performedOn, mapIn}
 use Rattle.theory.specs.Singly.{Wanted, partiesFit, stepsOf, callsAlone, repliesOf, repliesAlone, doneBy, callsSingly, repliesSingly, performedAll}
 use Rattle.theory.specs.Demands.{Start, mapStart, sizesOf, start, Reached, bookReached, AtRest, fileReached, yardstick, RunSingly, ListSingly}
 use Rattle.model.proofs.Laws.Lists.{and-both, ltb-true}

@@ -1,5 +1,6 @@
-//! Random schedules of up to sixteen parties against the book: every answer is the book's note, calls are refused where they must be and nowhere else, some operation
-//! under way can always move, and at rest the records in the chains are the book's map.
+//! Random schedules of up to sixteen parties against the book: every answer is the book's note, calls are refused where
+//! they must be and nowhere else, some operation under way can always move, take-up passes exactly where none is under
+//! way, and at rest the records in the chains are the book's map.
 
 mod book;
 mod pace;
@@ -23,6 +24,9 @@ use restored::{RESTORED, RESTORED_PAGES};
 /// One session in so many has the largest sizes.
 const LARGE_EVERY: u64 = 40;
 
+/// One turn in so many has a look whether the file could be taken up.
+const TAKE_UP_EVERY: u32 = 20;
+
 /// Calls within which the operations of a round come to an end.
 const MOST_CALLS_TO_REST: u32 = 200_000;
 
@@ -40,7 +44,7 @@ pub struct Schedules {
 }
 
 /// What must be met beside a wait at each requesting step.
-const NAMES: [&str; 21] = [
+const NAMES: [&str; 23] = [
     "found",
     "absent",
     "inserted",
@@ -59,6 +63,8 @@ const NAMES: [&str; 21] = [
     "refused 4",
     "refused 5",
     "refused 7",
+    "refused 8",
+    TAKEN_UP,
     WITHDRAWN,
     RESTORED,
     RESTORED_PAGES,
@@ -67,6 +73,7 @@ const STALE: &str = "answers of a find no longer true when given";
 const STALE_SETTING: &str = "settings found that were replaced by then";
 const FULL: &str = "begins with fifteen others under way";
 const WITHDRAWN: &str = "withdrawn";
+const TAKEN_UP: &str = "taken up at rest";
 
 /// Whether the decisive step has been taken: "a find at 9, a change at 12 or later".
 fn is_decided(operation: u32, step: u32) -> bool {
@@ -152,6 +159,24 @@ impl Schedules {
         }
     }
 
+    /// Take-up passes where nobody is under way, and is refused 8 elsewhere; it alters nothing.
+    fn test_take_up(&mut self) -> Outcome<()> {
+        self.trial.copy_from(&self.image);
+        if self.book.under_way().is_empty() {
+            self.met.add(TAKEN_UP);
+            match self.call(Call::TakeUp) {
+                [0, 0, 0, 0, 0] => {}
+                reply => return Err(format!("take-up at rest: {reply:?}")),
+            }
+        } else {
+            self.test_refused(Call::TakeUp, 8)?;
+        }
+        if self.trial == self.image {
+            return Ok(());
+        }
+        Err("take-up altered memory".to_string())
+    }
+
     fn test_refused(&mut self, call: Call, due: u32) -> Outcome<()> {
         self.met.add(&format!("refused {due}"));
         match self.call(call) {
@@ -233,6 +258,9 @@ impl Schedules {
         let mut pace = Pace::new(random);
         for _ in 0..calls {
             let party = pace.next_party(self.sizes[4], random);
+            if random.one_in(TAKE_UP_EVERY) {
+                self.test_take_up()?;
+            }
             if random.one_in(100) {
                 let party = random.between(0, self.sizes[4]);
                 let odd = [
@@ -256,11 +284,13 @@ impl Schedules {
         Ok(())
     }
 
-    /// Steps until every operation has ended; then the records in the chains are the book's.
+    /// Steps until every operation has ended; then the file passes take-up, and the records in the chains are the
+    /// book's.
     fn come_to_rest(&mut self, random: &mut Random) -> Outcome<()> {
         for _ in 0..MOST_CALLS_TO_REST {
             let under_way = self.book.under_way();
             if under_way.is_empty() {
+                self.test_take_up()?;
                 return self.test_map();
             }
             self.perform(Call::Step(random.pick(&under_way)))?;

@@ -10,9 +10,12 @@ const ANSWERS: [&str; 7] = [
 ];
 const RESTRUCTURINGS: [&str; 5] = ["none", "split", "split-skipped", "merged", "merge-skipped"];
 
-/// Reads one line without its newline: one of the six forms, single spaces, nothing before or after.
+/// Reads one line without its newline: one of the seven forms, single spaces, nothing before or after.
 pub fn read(line: &str) -> Option<Call> {
     let inside = line.strip_prefix('(')?.strip_suffix(')')?;
+    if inside == "take-up" {
+        return Some(Call::TakeUp);
+    }
     let (name, rest) = inside.split_once(' ')?;
     match name {
         "format" => {
@@ -60,6 +63,7 @@ pub fn answer(call: Call, reply: Reply) -> String {
         Call::Begin(party, ..) => format!("(begin {party} {})", code(reply[0], "ok")),
         Call::Step(party) => format!("(step {party} {})", code(reply[0], &outcome(reply))),
         Call::Withdraw(party) => format!("(withdraw {party} {})", code(reply[0], "ok")),
+        Call::TakeUp => format!("(take-up {})", code(reply[0], "ok")),
     }
 }
 
@@ -118,6 +122,7 @@ mod tests {
         );
         assert_eq!(read("(step 007)"), Some(Call::Step(7)));
         assert_eq!(read("(withdraw 3)"), Some(Call::Withdraw(3)));
+        assert_eq!(read("(take-up)"), Some(Call::TakeUp));
     }
 
     #[test]
@@ -146,6 +151,9 @@ mod tests {
             "(withdraw)",
             "(withdraw 0 7)",
             "(withdraw 0",
+            "(take-up 0)",
+            "(take-up )",
+            "(take up)",
         ];
         assert!(lines.iter().all(|line| read(line).is_none()));
         let lines = [

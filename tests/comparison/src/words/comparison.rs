@@ -1,7 +1,7 @@
 //! Makes each call on the port and on every side held to it, on equal memory, and compares the reply and every word.
 
 use super::coverage::Coverage;
-use crate::callee::{Call, Callee, Port, Reply};
+use crate::callee::{failing, Call, Callee, Port, Reply};
 use crate::image::{Image, PART_NAMES};
 use crate::part::Outcome;
 use bead_port::memory::PARTY_WORDS;
@@ -94,6 +94,9 @@ impl Comparison {
                 .situations
                 .count(&self.before, &self.ours, party);
         }
+        if let (Call::TakeUp, [8, ..]) = (call, reply) {
+            self.coverage.count_unsaved(&failing(&self.before));
+        }
     }
 
     /// The step number that the called party's record held before the call.
@@ -108,12 +111,13 @@ impl Comparison {
         }
     }
 
-    /// "Left as it was: all lent memory" where refused; "waiting (no word changes)".
+    /// "Left as it was: all lent memory" where refused; "waiting (no word changes)"; by take-up "nothing altered".
     fn test_unchanged(&self, call: Call, reply: Reply) -> Outcome<Reply> {
         let waiting = matches!(call, Call::Step(_)) && reply == [0, 0, 0, 0, 0];
-        if (reply[0] != 0 || waiting) && self.ours != self.before {
+        let looks = waiting || call == Call::TakeUp;
+        if (reply[0] != 0 || looks) && self.ours != self.before {
             return Err(format!(
-                "{call:?}: memory changed by a call refused or waiting{}",
+                "{call:?}: memory changed by a call refused, waiting or looking{}",
                 self.told()
             ));
         }

@@ -1,9 +1,11 @@
-//! What the compared calls have met: steps performed, waits, answers, refusals, and each cause of refusal 6 where it can arise.
+//! What the compared calls have met: steps performed, waits, answers, refusals, each cause of refusal 6 where it can
+//! arise, and each condition of take-up that failed alone.
 
 use super::situations::Situations;
 use crate::callee::{Call, Reply, REQUESTING};
 use crate::part::Row;
 use bead_port::damage::{Cause, CAUSES};
+use bead_port::take_up::{Condition, CONDITIONS};
 
 const STEPS: usize = 31;
 
@@ -32,11 +34,15 @@ pub struct Coverage {
     restructurings: [u64; 5],
     /// Withdraws accepted, by the step number that the record held.
     withdrawn: [u64; STEPS],
-    /// Refusals of format, begin, step and withdraw, by number; the last place is 255.
-    refusals: [[u64; 9]; 4],
+    /// Refusals of each of `CALLS`, by number; the last place is 255.
+    refusals: [[u64; 10]; 5],
     causes: Vec<[u64; STEPS]>,
     /// The causes of a withdraw refused 6, likewise.
     withdraw_causes: Vec<[u64; STEPS]>,
+    /// Take-ups refused 8 for one condition alone.
+    alone: Vec<u64>,
+    /// Altered files that were taken up and gone on from.
+    gone_on: u64,
     pub situations: Situations,
 }
 
@@ -49,9 +55,11 @@ impl Coverage {
             answers: [0; 7],
             restructurings: [0; 5],
             withdrawn: [0; STEPS],
-            refusals: [[0; 9]; 4],
+            refusals: [[0; 10]; 5],
             causes: vec![[0; STEPS]; CAUSES.len()],
             withdraw_causes: vec![[0; STEPS]; CAUSES.len()],
+            alone: vec![0; CONDITIONS.len()],
+            gone_on: 0,
             situations: Situations::new(),
         }
     }
@@ -71,6 +79,7 @@ impl Coverage {
                 self.refusals[3][place(code)] += 1;
                 self.withdrawn[step] += u64::from(code == 0);
             }
+            (Call::TakeUp, [code, ..]) => self.refusals[4][place(code)] += 1,
         }
         let causes = match call {
             Call::Withdraw(_) => &mut self.withdraw_causes,
@@ -79,6 +88,18 @@ impl Coverage {
         if let Some(cause) = cause {
             causes[cause as usize][step] += 1;
         }
+    }
+
+    /// Counts a take-up refused 8 by the conditions that fail.
+    pub fn count_unsaved(&mut self, failing: &[Condition]) {
+        if let [condition] = failing {
+            self.alone[*condition as usize] += 1;
+        }
+    }
+
+    /// Counts an altered file that is taken up and gone on from.
+    pub fn count_gone_on(&mut self) {
+        self.gone_on += 1;
     }
 
     fn count_outcome(&mut self, step: usize, outcome: u32, answer: usize, restructuring: usize) {
@@ -98,14 +119,40 @@ impl Coverage {
     pub fn told(&self) -> String {
         let sum = |counts: &[u64]| counts.iter().sum::<u64>();
         format!(
-            "{} steps performed ({}), {} waits ({}), {} refused 6 ({} causes)",
+            "{} steps performed ({}), {} waits ({}), {} refused 6 ({} causes); {} taken up, {} refused 8, for one \
+             condition alone: {}",
             sum(&self.performed),
             STEPS - 1,
             sum(&self.waited),
             REQUESTING.len(),
             self.refusals[2][6],
-            CAUSES.len()
+            CAUSES.len(),
+            self.refusals[4][0],
+            self.refusals[4][8],
+            self.told_alone()
         )
+    }
+
+    /// How often each condition of take-up failed alone.
+    fn told_alone(&self) -> String {
+        let told = CONDITIONS
+            .iter()
+            .map(|(condition, _)| format!("{condition:?} {}", self.alone[*condition as usize]));
+        told.collect::<Vec<_>>().join(", ")
+    }
+
+    /// Files taken up at rest, altered ones gone on from, and each condition failed alone.
+    fn take_up_rows(&self) -> Vec<Row> {
+        let alone = CONDITIONS.iter().map(|(condition, words)| {
+            let count = self.alone[*condition as usize];
+            (format!("take-up refused 8 alone: not {words}"), count)
+        });
+        let taken = ("taken up".to_string(), self.refusals[4][0]);
+        let gone_on = (
+            "altered, taken up and gone on from".to_string(),
+            self.gone_on,
+        );
+        [taken, gone_on].into_iter().chain(alone).collect()
     }
 
     /// Every row that must have been met.
@@ -127,6 +174,7 @@ impl Coverage {
         let ends = ends.into_iter().chain(answers).chain(made);
         let all = steps.chain(waits).chain(ends).chain(refusals).chain(causes);
         all.chain(self.withdraw_rows())
+            .chain(self.take_up_rows())
             .chain(self.situations.rows())
             .collect()
     }
@@ -158,7 +206,7 @@ impl Coverage {
     }
 }
 
-const CALLS: [&str; 4] = ["format", "begin", "step", "withdraw"];
+const CALLS: [&str; 5] = ["format", "begin", "step", "withdraw", "take-up"];
 
 /// The steps before which an operation can be withdrawn.
 const WITHDRAWN: [usize; 10] = [1, 2, 3, 4, 5, 6, 7, 8, 10, 11];
@@ -167,7 +215,7 @@ const WITHDRAWN: [usize; 10] = [1, 2, 3, 4, 5, 6, 7, 8, 10, 11];
 const ENDING: [usize; 9] = [9, 12, 14, 16, 17, 22, 24, 26, 30];
 
 /// The refusals that each call can give, the call by its place in `CALLS`.
-const REFUSALS: [(usize, u32); 18] = [
+const REFUSALS: [(usize, u32); 21] = [
     (0, 1),
     (0, 2),
     (1, 1),
@@ -186,10 +234,13 @@ const REFUSALS: [(usize, u32); 18] = [
     (3, 5),
     (3, 6),
     (3, 7),
+    (4, 1),
+    (4, 2),
+    (4, 8),
 ];
 
 fn place(code: u32) -> usize {
-    code.min(8) as usize
+    code.min(9) as usize
 }
 
 /// The steps at which a cause must have been met; none are named where every step tests it.

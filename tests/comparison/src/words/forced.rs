@@ -23,6 +23,9 @@ pub fn trial(comparison: &mut Comparison, random: &mut Random) -> Outcome<()> {
     if random.one_in(4) {
         comparison.call(Call::Withdraw(party))?;
     }
+    if random.one_in(8) {
+        comparison.call(Call::TakeUp)?;
+    }
     for _ in 0..random.pick(&[1, 2, 6]) {
         comparison.call(Call::Step(party))?;
     }

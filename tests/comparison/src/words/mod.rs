@@ -8,6 +8,7 @@ mod forced;
 mod refused;
 mod situations;
 mod sound;
+mod take_ups;
 
 use crate::callee::Callee;
 use crate::part::{Outcome, Part, Row};
@@ -35,7 +36,7 @@ impl Part for Words {
         "words"
     }
 
-    /// The sessions by turns: sound memory, altered memory, crafted memory, wrong sizes and lengths.
+    /// The sessions by turns: sound memory, altered memory, saved files, crafted memory, wrong sizes and lengths.
     fn session(&mut self, number: u64, random: &mut Random) -> Outcome<()> {
         let comparison = &mut self.comparison;
         if number % LARGE_EVERY == LARGE_EVERY - 1 {
@@ -44,7 +45,8 @@ impl Part for Words {
         match number % 40 {
             0 => sound::session(comparison, random, 0),
             1 => sound::session(comparison, random, 4),
-            2..=24 => crafted::session(comparison, random),
+            2 => take_ups::session(comparison, random),
+            3..=24 => crafted::session(comparison, random),
             _ => refused::session(comparison, random),
         }
     }

@@ -70,10 +70,11 @@ fn calls(comparison: &mut Comparison, sizes: [u32; 5], random: &mut Random) -> O
             u32::MAX,
         ];
         let party = random.pick(&choices);
-        let call = match random.below(8) {
+        let call = match random.below(9) {
             0 => Call::Format(any(random)),
             1..=3 => Call::Begin(party, random.below(5), random.word(), random.word()),
             4 => Call::Withdraw(party),
+            5 => Call::TakeUp,
             _ => Call::Step(party),
         };
         comparison.call(call)?;

@@ -10,7 +10,7 @@ use crate::random::Random;
 use crate::sizes;
 
 /// How one session goes.
-struct Plan {
+pub(super) struct Plan {
     sizes: [u32; 5],
     habits: Habits,
     /// How many of the parties are called.
@@ -20,7 +20,7 @@ struct Plan {
 }
 
 impl Plan {
-    fn new(sizes: [u32; 5], habits: Habits, trials: u32, random: &mut Random) -> Plan {
+    pub fn new(sizes: [u32; 5], habits: Habits, trials: u32, random: &mut Random) -> Plan {
         let parties = sizes[4];
         let active = random.pick(&[parties, parties, parties.min(2), 1]);
         Plan {
@@ -31,7 +31,7 @@ impl Plan {
         }
     }
 
-    fn call(&mut self, image: &Image, random: &mut Random) -> Call {
+    pub fn call(&mut self, image: &Image, random: &mut Random) -> Call {
         let party = random.below(self.active);
         if image.party(party).operation != 0 {
             let withdraws = random.one_in(40);
@@ -40,11 +40,11 @@ impl Plan {
         self.habits.choose(random).begin(party)
     }
 
-    /// A call that a careful caller would not make.
+    /// A call that a careful caller would not make, and a look whether the file could be taken up.
     fn odd_call(&self, random: &mut Random) -> Call {
         let [n, b, p, v, q] = self.sizes;
         let party = random.between(0, q + 1);
-        match random.below(6) {
+        match random.below(7) {
             0 => Call::Begin(
                 party,
                 random.between(0, 4),
@@ -55,6 +55,7 @@ impl Plan {
             2 => Call::Format([p + 1, b, p, v, q]),
             3 => Call::Step(random.word()),
             4 => Call::Withdraw(party),
+            5 => Call::TakeUp,
             _ => Call::Step(party),
         }
     }
@@ -64,24 +65,23 @@ impl Plan {
 pub fn session(comparison: &mut Comparison, random: &mut Random, trials: u32) -> Outcome<()> {
     let sizes = sizes::allowed(random);
     let habits = Habits::new(sizes, random.pick(&[5, 20, 60]), random);
-    let (plan, calls) = (
-        Plan::new(sizes, habits, trials, random),
-        random.between(200, 3000),
-    );
-    run(comparison, plan, calls, random)
+    let mut plan = Plan::new(sizes, habits, trials, random);
+    let calls = random.between(200, 3000);
+    run(comparison, &mut plan, calls, random)
 }
 
 /// A long session on a file of the largest sizes, which may grow to all its chains.
 pub fn large_session(comparison: &mut Comparison, turn: u64, random: &mut Random) -> Outcome<()> {
     let sizes = sizes::largest(turn);
     let habits = Habits::new(sizes, 1500, random).dense();
-    let plan = Plan::new(sizes, habits, 200, random);
-    run(comparison, plan, 50_000, random)
+    let mut plan = Plan::new(sizes, habits, 200, random);
+    run(comparison, &mut plan, 50_000, random)
 }
 
-fn run(
+/// A format and so many calls.
+pub(super) fn run(
     comparison: &mut Comparison,
-    mut plan: Plan,
+    plan: &mut Plan,
     calls: u32,
     random: &mut Random,
 ) -> Outcome<()> {

@@ -113,6 +113,10 @@ impl File {
                     Err(cause) => writeln!(out, "(withdraw {party} (refused {}))", cause.number()),
                 }
             }
+            Form::TakeUp => match calls::take_up::<Unnamed>(root, parties, locks, pages, words) {
+                Ok(()) => out.write_all(b"(take-up ok)\n"),
+                Err(cause) => writeln!(out, "(take-up (refused {}))", cause.number()),
+            },
         }
     }
 }

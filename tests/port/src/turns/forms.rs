@@ -10,6 +10,7 @@ pub enum Form {
     Begin(u32, u32, u32, u32),
     Step(u32),
     Withdraw(u32),
+    TakeUp,
 }
 
 impl fmt::Display for Form {
@@ -25,12 +26,19 @@ impl fmt::Display for Form {
             }
             Form::Step(party) => write!(out, "(step {party})"),
             Form::Withdraw(party) => write!(out, "(withdraw {party})"),
+            Form::TakeUp => out.write_str(TAKE_UP),
         }
     }
 }
 
-/// Reads one line without its newline: one of the six forms, single spaces, nothing before or after.
+/// The one form without a number.
+const TAKE_UP: &str = "(take-up)";
+
+/// Reads one line without its newline: one of the seven forms, single spaces, nothing before or after.
 pub fn read(line: &str) -> Option<Form> {
+    if line == TAKE_UP {
+        return Some(Form::TakeUp);
+    }
     let (name, rest) = line.strip_prefix('(')?.strip_suffix(')')?.split_once(' ')?;
     match name {
         "step" => Some(Form::Step(number(rest)?)),

@@ -63,6 +63,7 @@ fn things(file: &mut File, line: &[u8]) -> io::Result<Vec<String>> {
             met.push(format!("refused 7 at {step:2}"));
         }
         [_, .., "(refused", number] => met.push(format!("{} refused {number}", words[0])),
+        ["take-up", "ok"] => met.push("take-up ok".to_string()),
         ["withdraw", _, "ok"] => met.extend(withdrawn(record, file.free_count() - free)),
         _ => {}
     }

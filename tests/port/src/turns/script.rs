@@ -1,27 +1,31 @@
-//! A script of forms made at random: operations of every kind by every party, steps and withdraws in any order, each party's begin where it is idle.
+//! A script of forms made at random: operations of every kind by every party, steps, withdraws and take-ups in any
+//! order, each party's begin where it is idle.
 
 use crate::file::File;
 use crate::forms::Form;
 use bead_port::memory::{DELETE, FIND, INSERT};
 use std::io::{self, Write};
 
-/// What a script is made from: how many lines, the seed, the sizes of the file, how many keys there are, and of how many turns of a busy party one is a withdraw,
-/// 0 for none.
+/// What a script is made from: how many lines, the seed, the sizes of the file, how many keys there are, of how many
+/// turns of a busy party one is a withdraw, and of how many lines one is a take-up, 0 for none.
 pub struct Plan {
     pub lines: u32,
     pub seed: u32,
     pub sizes: [u32; 5],
     pub keys: u32,
     pub withdraws: u32,
+    pub take_ups: u32,
 }
 
 impl Plan {
-    /// From eight or nine numbers: LINES SEED N b P V Q KEYS [WITHDRAWS].
+    /// From eight to ten numbers: LINES SEED N b P V Q KEYS [WITHDRAWS [TAKE-UPS]].
     pub fn read(numbers: &[u32]) -> Option<Plan> {
-        let (&[lines, seed, n, b, p, v, q, keys], withdraws) = match numbers {
-            [first @ .., last] if numbers.len() == 9 => (first.try_into().ok()?, *last),
-            _ => (numbers.try_into().ok()?, 0),
-        };
+        let mut all = [0; 10];
+        if !(8..=all.len()).contains(&numbers.len()) {
+            return None;
+        }
+        all[..numbers.len()].copy_from_slice(numbers);
+        let [lines, seed, n, b, p, v, q, keys, withdraws, take_ups] = all;
         let sizes = [n, b, p, v, q];
         Some(Plan {
             lines,
@@ -29,6 +33,7 @@ impl Plan {
             sizes,
             keys,
             withdraws,
+            take_ups,
         })
     }
 }
@@ -59,7 +64,9 @@ pub fn print(plan: &Plan, out: &mut impl Write) -> io::Result<()> {
             grows = !grows;
         }
         let party = random.below(q);
-        let form = if file.is_idle(party) {
+        let form = if plan.take_ups > 0 && random.below(plan.take_ups) == 0 {
+            Form::TakeUp
+        } else if file.is_idle(party) {
             let (mostly, seldom) = if grows {
                 (INSERT, DELETE)
             } else {

@@ -7,6 +7,7 @@ pub enum Form {
     Begin(u32, Operation),
     Step(u32),
     Withdraw(u32),
+    TakeUp,
 }
 
 /// The form on a line that has one.
@@ -28,6 +29,7 @@ pub fn read_form(line: &str) -> Option<Form> {
         }
         ["step", party] => Some(Form::Step(party.parse().ok()?)),
         ["withdraw", party] => Some(Form::Withdraw(party.parse().ok()?)),
+        ["take-up"] => Some(Form::TakeUp),
         _ => None,
     }
 }

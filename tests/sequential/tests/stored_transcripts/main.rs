@@ -35,6 +35,7 @@ impl Follower {
                     expect("(format ok)", reply)
                 }
             },
+            Form::TakeUp => self.follow_take_up(reply),
             _ if reply.contains("(refused ") => Ok(()),
             Form::Begin(party, operation) => {
                 if self.under_way.replace((party, operation)).is_some() {
@@ -61,6 +62,15 @@ impl Follower {
         self.compared += 1;
         let outcome = file.perform(operation);
         expect(&format!("(step {party} {outcome})"), reply)
+    }
+
+    /// A take-up of a file that is followed passes where nobody is under way.
+    fn follow_take_up(&self, reply: &str) -> Result<(), String> {
+        match (&self.file, self.under_way) {
+            (None, _) => Ok(()),
+            (Some(_), None) => expect("(take-up ok)", reply),
+            (Some(_), Some(_)) => expect("(take-up (refused 8))", reply),
+        }
     }
 
     /// A withdraw that was not refused: the operation under way is never performed.
@@ -147,6 +157,12 @@ fn altered_replies_are_noticed() {
     ];
     let difference = "line 2: (withdraw 0 ok) should be (withdraw 0 (refused 5))";
     assert_eq!(compare_lines(&idle), Err(difference.to_string()));
+    let at_rest = [
+        ["(format 1 1 2 0 1)", "(format ok)"],
+        ["(take-up)", "(take-up (refused 8))"],
+    ];
+    let difference = "line 2: (take-up (refused 8)) should be (take-up ok)";
+    assert_eq!(compare_lines(&at_rest), Err(difference.to_string()));
 }
 
 #[test]
@@ -167,6 +183,20 @@ fn only_operations_run_singly_are_compared() {
         ["(step 1)", "(step 1 (done absent none))"],
     ];
     assert_eq!(compare_lines(&script), Ok(2));
+}
+
+#[test]
+fn a_file_is_taken_up_where_nobody_is_under_way() {
+    let script = [
+        ["(take-up)", "(take-up (refused 2))"],
+        ["(format 1 1 2 0 2)", "(format ok)"],
+        ["(take-up)", "(take-up ok)"],
+        ["(begin 0 (insert 7 5))", "(begin 0 ok)"],
+        ["(take-up)", "(take-up (refused 8))"],
+        ["(step 0)", "(step 0 (done inserted none))"],
+        ["(take-up)", "(take-up ok)"],
+    ];
+    assert_eq!(compare_lines(&script), Ok(1));
 }
 
 #[test]

@@ -1,0 +1,30 @@
+-- `held::take_up` meets its contract, by what `calls::take_up` says of the first records.
+use mathlib.Core.Path.{sym}
+use lib.ListN.{take}
+use Rattle.model.specs.TakeUp.{takeUpCall}
+use Rattle.held.proofs.Ends.{row-long, first-length, held-same}
+use borrow.Author.Needs.{needs}
+use Rattle.held.proofs.take_up.Statement.{statement}
+use Rattle.held.proofs.take_up.Tie as tie
+
+records-lent-requires : tie.Need-records-lent-requires
+records-lent-requires c κs = search needs
+
+all-idle-requires : tie.Need-all-idle-requires
+all-idle-requires c κs = search needs
+
+take-up-requires : tie.Need-take-up-requires
+take-up-requires c κs = search needs
+
+returns : tie.Need-returns
+returns c =
+    let lends = c .before .before .records-lent in
+    let start = c .before .before .before .before .before .before .before in
+    let a = start .args in
+    let long = row-long (a .held) (start .good .0) in
+    let said = c .take-up .ensures (take (lends .result) (a .held .row)) (first-length (a .held) long (lends .result) (lends .ensures .1)) (sym (c .before .all-idle .ensures)) in
+    held-same takeUpCall (a .held) long (a .locks .now) (a .pages .now) _ _ (lends .ensures) (c .take-up .result) (a .held .root) _ _ said
+
+pub take-up-spec : {M : Type 1} → statement M
+take-up-spec =
+    tie.close (tie.spec records-lent-requires all-idle-requires take-up-requires returns)
