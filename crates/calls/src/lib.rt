@@ -1,5 +1,5 @@
-// The five calls over values (document 01, "What it covers" and "Refused calls"; document 02, changes 2 and 6): the root
-// and one party's record by value, the lock words and the page words lent.
+// The five calls over values (document 01, "What it covers" and "Refused calls"; document 02, changes 2 and 6): the
+// root and one party's record by value, the lock words and the page words lent.
 // The refusal table's tests are made here, in its order; damage that only one step can meet is refused by that step.
 // There is nothing that a caller must see to: the contracts hold for all words and all lengths.
 // Main statements: format, begin, step and withdraw leave what the model's formatCall, beginCall, stepCall and
@@ -31,8 +31,8 @@ use model::TakeUpAnswer;
 use model::UNSAVED_REFUSED;
 use model::WithdrawAnswer;
 
-// What format leaves beside the lent words. Where the answer is formatted, every party's record is the zero record; else
-// no record is altered.
+// What format leaves beside the lent words. Where the answer is formatted, every party's record is the zero record;
+// else no record is altered.
 pub struct Formatted {
     pub root: Root,
     pub answer: FormatAnswer,
@@ -208,8 +208,8 @@ pub fn withdraw_past(
     WithdrawAnswer::Refused(refusals::place_cause(root, parties, locks, pages, q))
 }
 
-// The cause by which a take-up is refused, 0 for none, of a file with a row of `parties` records; `idle` says whether all
-// of them are zero. No word is written.
+// The cause by which a take-up is refused, 0 for none, of a file with a row of `parties` records; `idle` says whether
+// all of them are zero. No word is written.
 pub fn take_up_cause(root: Root, idle: bool, parties: usize, locks: &[u32], pages: &[u32]) -> u32
     ensures { λ r. ⌜ ((row : List Party) → length row ≡ parties → allIdle row ≡ idle → r ≡ firstCause (takeUpRows (lent root row (now (locks .entry)) (now (pages .entry))))) ⌝ }
 {

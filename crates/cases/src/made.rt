@@ -104,8 +104,8 @@ fn withdrawn(s: Scene, locks: &mut [u32], pages: &mut [u32]) -> Came {
     }
 }
 
-// A file at rest, as format leaves it with b at most 6: then the root record has the b of the case, and where the records
-// of the case do not rest, the row has them.
+// A file at rest, as format leaves it with b at most 6: then the root record has the b of the case, and where the
+// records of the case do not rest, the row has them.
 fn at_rest(s: Scene, locks: &mut [u32], pages: &mut [u32]) -> Held {
     let given = s.held;
     let b = given.root.capacity;

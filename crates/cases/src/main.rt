@@ -1,6 +1,9 @@
-// The cases of document 01 that are run only ("Checked by hand"), and refusals in the order of its table ("Refused calls"), compared with what the document says.
-// A line a case: the call and the numbers that make the case, what came, and `as it should be` or `WRONG`; last a count. The file stdout has what must be written.
-// Files: this one has the cases; scene.rt the memory of a case, made.rt the calls and the comparison of memory, told.rt what is written.
+// The cases of document 01 that are run only ("Checked by hand"), and refusals in the order of its table ("Refused
+// calls"), compared with what the document says.
+// A line a case: the call and the numbers that make the case, what came, and `as it should be` or `WRONG`; last a
+// count. The file stdout has what must be written.
+// Files: this one has the cases; scene.rt the memory of a case, made.rt the calls and the comparison of memory,
+// told.rt what is written.
 
 mod made;
 mod scene;
@@ -50,7 +53,8 @@ fn sizes_within(first: Tally, call: Call) -> Tally {
     t
 }
 
-// "N original chains, 1 to P. P chains at most, 1 to 256. V overflow pages, 0 to 752. Q parties, 1 to 16." With settings "b is 1 to 6".
+// "N original chains, 1 to P. P chains at most, 1 to 256. V overflow pages, 0 to 752. Q parties, 1 to 16." With
+// settings "b is 1 to 6".
 // With Q 0 party 0 is outside the row too (3), and with Q 17 one record too few is lent (1).
 fn sizes_outside(first: Tally, call: Call) -> Tally {
     let mut t = first;
@@ -95,7 +99,8 @@ fn lent(t: Tally, call: Call, lock_words: u32, page_words: u32, expected: u32) -
     )
 }
 
-// "a lent length other than Q records, P+1 lock words or 16 × (P+V+Q) page words". Where the sizes are in their limits `held` lends Q records, and no other length can be had.
+// "a lent length other than Q records, P+1 lock words or 16 × (P+V+Q) page words". Where the sizes are in their
+// limits `held` lends Q records, and no other length can be had.
 fn lengths(first: Tally, call: Call) -> Tally {
     let mut t = first;
     t = lent(t, call, 6, 192, ACCEPTED);
@@ -132,7 +137,8 @@ fn causes_of_parties(first: Tally, call: Call) -> Tally {
     t
 }
 
-// Begin alone has 4, and has neither 5 nor 6. 3 and 4 do not meet: party Q has no record. In the last case there is a busy record where it would be, past the records lent, and it is not looked at.
+// Begin alone has 4, and has neither 5 nor 6. 3 and 4 do not meet: party Q has no record. In the last case there is a
+// busy record where it would be, past the records lent, and it is not looked at.
 fn causes_of_begin(first: Tally) -> Tally {
     let mut t = first;
     t = met(t, Call::Begin, 4, 0, 4);

@@ -1,6 +1,6 @@
 // The memory that a case lends, held by value.
-// Main functions: sound (memory of given sizes, on which the call can be made), meeting (memory in which two given causes
-// of refusal are met).
+// Main functions: sound (memory of given sizes, on which the call can be made), meeting (memory in which two given
+// causes of refusal are met).
 
 use held::Held;
 use model::FileSizes;
@@ -15,8 +15,8 @@ pub enum Call {
     TakeUp,
 }
 
-// What a call is lent, and for whom: the root record, whose sizes format is given, the first Q records of the row, and so
-// many words. Where the records rest, take-up is lent zero ones.
+// What a call is lent, and for whom: the root record, whose sizes format is given, the first Q records of the row,
+// and so many words. Where the records rest, take-up is lent zero ones.
 pub struct Scene {
     pub held: Held,
     pub lock_words: usize,
@@ -118,8 +118,8 @@ fn pick(earlier: u32, later: u32, cause: u32, met: u32, unmet: u32) -> u32 {
     unmet
 }
 
-// Memory of the usual sizes (N 2, b 3, P 5, V 4, Q 3: 6 lock words, 192 page words) in which the causes of these numbers
-// are met, and no other; 0 is no cause.
+// Memory of the usual sizes (N 2, b 3, P 5, V 4, Q 3: 6 lock words, 192 page words) in which the causes of these
+// numbers are met, and no other; 0 is no cause.
 // 2: b is 7. 1: a lock word too few. 3: party Q. 4 and 5: every record is busy, or idle. 7: every record is past a
 // decisive step. 6: the free count is above V. 8: every record is idle, and none of them zero.
 pub fn meeting(call: Call, earlier: u32, later: u32) -> Scene {

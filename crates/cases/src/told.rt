@@ -1,6 +1,6 @@
 // What is written of a case, and the count of cases.
-// Main function: judged, which makes the call, writes what the case is, what came and whether it is as it should be, and
-// counts.
+// Main function: judged, which makes the call, writes what the case is, what came and whether it is as it should be,
+// and counts.
 
 use crate::made::ACCEPTED;
 use crate::made::Came;

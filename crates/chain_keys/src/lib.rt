@@ -19,8 +19,8 @@ use model::PageAddress;
 use model::RECORD_WORDS;
 use model::Root;
 
-// The most overflow pages of a chain that steps 10 and 17 gather in a small buffer: with the primary page's, 48 records,
-// 96 words.
+// The most overflow pages of a chain that steps 10 and 17 gather in a small buffer: with the primary page's, 48
+// records, 96 words.
 pub const FEW: u32 = 7;
 
 // A chain whose records stand at the front of a buffer: its local level, its link, and how many records it has.

@@ -1,6 +1,6 @@
 -- How many new pages a chain of few pages needs.
--- Main statements: few-pages (8 * b + 1 records need eight overflow pages at most); front-need (the need of the records
--- at the front of words).
+-- Main statements: few-pages (8 * b + 1 records need eight overflow pages at most); front-need (the need of the
+-- records at the front of words).
 use mathlib.Core.Path.{_≡_, sym, ap, _∙_}
 use mathlib.Core.List.{List}
 use Prim.Native.Nat.{ℕ, _+_, _*_, _≤_, _<_}

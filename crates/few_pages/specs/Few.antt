@@ -1,6 +1,6 @@
 -- Step 10 on a chain of few pages: what its functions may take for granted.
--- Main definitions: CanChangeFew (the pages were walked, and they are few), CanChangeFront (the records at the front of
--- the buffer are to be changed), CanWriteFew (the changed records are few).
+-- Main definitions: CanChangeFew (the pages were walked, and they are few), CanChangeFront (the records at the front
+-- of the buffer are to be changed), CanWriteFew (the changed records are few).
 use mathlib.Core.Path.{_≡_}
 use mathlib.Core.Bool.{true, not}
 use mathlib.Core.List.{List}
@@ -32,8 +32,8 @@ pub record CanChangeFront (p : Party) (at count : ℕ) (words : List ℕ) : Type
   pub place : at ≡ placeOf (p .key) (take count (recordsIn words))
   pub changes : hasKey (p .key) (take count (recordsIn words)) ≡ not (eqb (p .operation) 2)
 
--- The m records at the front of the words are one more at most than eight pages have, so that eight overflow pages have
--- room for them; and the words of a page can be read wherever one of them stands.
+-- The m records at the front of the words are one more at most than eight pages have, so that eight overflow pages
+-- have room for them; and the words of a page can be read wherever one of them stands.
 pub record CanWriteFew (r : Root) (q c m : ℕ) (words ps : List ℕ) : Type 0 where
   pub can-change : CanChange r q c ps
   pub few : m ≤ 8 * r .capacity + 1

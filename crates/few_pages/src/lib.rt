@@ -1,7 +1,7 @@
-// Step 10 on a chain of few pages (document 01, "The thirty steps"): its records are gathered in a small buffer, changed
-// there and written to new pages.
-// Main statement: change_few is the model's step10, for every chain of at most FEW overflow pages; all is read before a
-// word is written.
+// Step 10 on a chain of few pages (document 01, "The thirty steps"): its records are gathered in a small buffer,
+// changed there and written to new pages.
+// Main statement: change_few is the model's step10, for every chain of at most FEW overflow pages; all is read before
+// a word is written.
 
 ghost use mathlib.Core.Path.{_≡_};
 ghost use mathlib.Core.List.{List};

@@ -1,6 +1,6 @@
 -- Overflow pages filled one after the other: one turn, over the model's filled.
--- Main statements: share-few, share-front, share-rest (a page's share of the records); first-link, no-link; page-filled
--- (a turn), all-filled (the end); overflow-fillable.
+-- Main statements: share-few, share-front, share-rest (a page's share of the records); first-link, no-link;
+-- page-filled (a turn), all-filled (the end); overflow-fillable.
 use mathlib.Core.Path.{_≡_, sym, ap, _∙_}
 use mathlib.Core.List.{List, [], _∷_}
 use Prim.Native.Nat.{ℕ, zero, suc, _+_, _-_, _*_, _≤_, _<_}

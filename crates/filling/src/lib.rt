@@ -1,8 +1,8 @@
 // Pages filled with a chain's records (document 01: "the first b in its primary page, the next b in its first overflow
 // page, and so on"). Records come as words, two a record, key first: those of a chain stand at the front of a buffer
 // with room for six more, so that a page is made by one loop over twelve words, whatever it gets.
-// Main statements: pages_for is overflowNeeded, page_words is filledPage, fill_pages is overflowWritten, for every list
-// of records and of pages; write_chain writes a chain whole.
+// Main statements: pages_for is overflowNeeded, page_words is filledPage, fill_pages is overflowWritten, for every
+// list of records and of pages; write_chain writes a chain whole.
 
 ghost use mathlib.Core.Path.{_≡_};
 ghost use Prim.Native.Nat.{_+_, _*_, _^_, _≤_, _<_};
@@ -72,8 +72,8 @@ fn link_to(taken: &[u32], i: usize) -> u32
     if i < taken.len() { taken[i] + 1 } else { 0 }
 }
 
-// The overflow pages of a chain of the m records at the front: those in `taken`, filled in order with the records after
-// the first b, "each linked to the next".
+// The overflow pages of a chain of the m records at the front: those in `taken`, filled in order with the records
+// after the first b, "each linked to the next".
 fn fill_pages(b: u32, words: &[u32], m: usize, taken: &[u32], pages: &mut [u32])
     requires { ⌜ (b ≤ mostRecords) × ((m + mostRecords) * recordWords ≤ length (now words)) × Fillable (now pages) (now taken) ⌝ }
     ensures { λ _. ⌜ now (pages .exit) ≡ overflowWritten b (now (pages .entry)) (now (taken .entry)) (take m (recordsIn (now (words .entry)))) ⌝ }

@@ -1,5 +1,5 @@
--- Forms: a line is read exactly where the grammar derives it, as the one form that it is; reading what was printed gives
--- the form again.
+-- Forms: a line is read exactly where the grammar derives it, as the one form that it is; reading what was printed
+-- gives the form again.
 -- Main statements: form-read, read-form; one-form; unread-form; printed-form-read, printed-form-there; form-short.
 use mathlib.Core.Path.{_≡_, refl, _∙_, subst}
 use mathlib.Core.Bool.{false}

@@ -1,7 +1,7 @@
--- The forms that turns reads (document 01, "The turns program"; document 02, changes 2 and 6): each has a pattern and the
--- numbers in it.
--- Main definitions: formPattern and formNumbers, a row for each form; FormLine (the lines that the grammar derives for a
--- form); formText (as it is printed).
+-- The forms that turns reads (document 01, "The turns program"; document 02, changes 2 and 6): each has a pattern and
+-- the numbers in it.
+-- Main definitions: formPattern and formNumbers, a row for each form; FormLine (the lines that the grammar derives
+-- for a form); formText (as it is printed).
 use mathlib.Core.List.{List, [], _∷_}
 use Prim.Native.Nat.{ℕ}
 use Rattle.model.specs.declared.FileSizes.{FileSizes}

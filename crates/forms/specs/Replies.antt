@@ -1,7 +1,7 @@
--- The replies that turns prints (document 01, "The turns program"; document 02, changes 2 and 6): each has a pattern and
--- the numbers in it.
--- Main definitions: replyPattern and replyNumbers, a row for each reply; a step that is done has a row for its answer and
--- one for the restructuring; ReplyLine, replyText.
+-- The replies that turns prints (document 01, "The turns program"; document 02, changes 2 and 6): each has a pattern
+-- and the numbers in it.
+-- Main definitions: replyPattern and replyNumbers, a row for each reply; a step that is done has a row for its answer
+-- and one for the restructuring; ReplyLine, replyText.
 use mathlib.Core.List.{List, [], _∷_, _++_}
 use Prim.Native.Nat.{ℕ}
 use Rattle.model.specs.declared.BeginAnswer.{BeginAnswer}

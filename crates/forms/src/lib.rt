@@ -1,8 +1,8 @@
 // The forms of the program turns (document 01, "The turns program"; document 02, changes 2 and 6): the seven that it
 // reads and the replies that it prints, each read and printed by its pattern.
 // Main statements: read_form and read_reply are readForm and readReply; print_form and print_reply write the text of a
-// form and of a reply. That a line is read exactly where the grammar derives it, and that what is printed is read again:
-// proofs/FormTheorems.antt and proofs/ReplyTheorems.antt.
+// form and of a reply. That a line is read exactly where the grammar derives it, and that what is printed is read
+// again: proofs/FormTheorems.antt and proofs/ReplyTheorems.antt.
 
 ghost use mathlib.Core.Path.{_≡_};
 ghost use mathlib.Core.Bool.{cond};
@@ -28,7 +28,8 @@ use model::WithdrawAnswer;
 use patterns::Match;
 use patterns::Number;
 
-// The longest text of a form, `(format` with five numbers of ten digits, and of a reply, a found with a split or a merge skipped.
+// The longest text of a form, `(format` with five numbers of ten digits, and of a reply, a found with a split or a
+// merge skipped.
 pub const LONGEST_FORM: usize = 63;
 
 pub const LONGEST_REPLY: usize = 57;
@@ -347,7 +348,8 @@ fn read_restructuring(line: &[u8], at: usize) -> RestructuringRead
 
 // ---- Printing forms
 
-// Prints a form at place `at`; the place behind it. Where `out` has not room for the longest form from there on, nothing is printed.
+// Prints a form at place `at`; the place behind it. Where `out` has not room for the longest form from there on,
+// nothing is printed.
 pub fn print_form(form: Form, out: &mut [u8], at: usize) -> usize
     ensures { λ r. ⌜ r ≡ at + length (given (length (now (out .entry))) at longestForm (formText form)) ⌝ }
     ensures { λ _. ⌜ now (out .exit) ≡ sets (now (out .entry)) at (given (length (now (out .entry))) at longestForm (formText form)) ⌝ }
@@ -394,7 +396,8 @@ fn put_begin(q: u32, operation: Operation, k: u32, out: &mut [u8], at: usize) ->
 
 // ---- Printing replies
 
-// Prints a reply at place `at`; the place behind it. Where `out` has not room for the longest reply from there on, nothing is printed.
+// Prints a reply at place `at`; the place behind it. Where `out` has not room for the longest reply from there on,
+// nothing is printed.
 pub fn print_reply(reply: Reply, out: &mut [u8], at: usize) -> usize
     ensures { λ r. ⌜ r ≡ at + length (given (length (now (out .entry))) at longestReply (replyText reply)) ⌝ }
     ensures { λ _. ⌜ now (out .exit) ≡ sets (now (out .entry)) at (given (length (now (out .entry))) at longestReply (replyText reply)) ⌝ }

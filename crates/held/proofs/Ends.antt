@@ -1,7 +1,7 @@
 -- The first n records of a row of sixteen, which a call goes by, and the whole row that is held: the contract's
 -- equation follows from what the call over values says.
--- Main statements: row-long, first-length; held-same and held-kept (the row is left as it is), held-put (a record of it is written),
--- held-cleared (the first n are zeroed).
+-- Main statements: row-long, first-length; held-same and held-kept (the row is left as it is), held-put (a record of
+-- it is written), held-cleared (the first n are zeroed).
 use mathlib.Core.Path.{_≡_, sym, ap, _∙_}
 use mathlib.Core.List.{List, _++_}
 use Prim.Native.Nat.{ℕ, _≤_, _<_}

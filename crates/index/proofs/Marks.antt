@@ -1,5 +1,5 @@
--- A step changes no word of the root or of its party's record but those that its mark names: by the table of the steps,
--- whose column `writes` is true of every step (model's Exits).
+-- A step changes no word of the root or of its party's record but those that its mark names: by the table of the
+-- steps, whose column `writes` is true of every step (model's Exits).
 -- Main statements: step-marked (every step number, all views); step-stored (the call's equation, where only the marked
 -- words are stored).
 use mathlib.Core.Path.{_≡_, refl, sym, ap, _∙_, subst}

@@ -1,6 +1,8 @@
--- THE INDEX is right: from any memory that `format` made or `take_up` took on, every list of calls of `begin`, `step` and `withdraw`, by any parties in any order, with looks by `take_up`
--- between them, meets the demands. The statements are specs/TheIndex.antt.
--- Main statements: format-accepts (memory of the lengths that the sizes ask for is formatted), format-right, start-right, index-right, take-up-again (what a run leaves at rest is taken up).
+-- THE INDEX is right: from any memory that `format` made or `take_up` took on, every list of calls of `begin`, `step`
+-- and `withdraw`, by any parties in any order, with looks by `take_up` between them, meets the demands. The statements
+-- are specs/TheIndex.antt.
+-- Main statements: format-accepts (memory of the lengths that the sizes ask for is formatted), format-right,
+-- looks-right, start-right, index-right.
 use mathlib.Core.Path.{_≡_, refl, sym, _∙_, ap, ap₂, subst}
 use mathlib.Core.Bool.{Bool, true, false, cond, _&&_}
 use mathlib.Core.List.{List, [], _∷_}

@@ -1,7 +1,11 @@
--- THE INDEX as its caller has it: `format`, `take_up`, `begin`, `step` and `withdraw` of src/lib.rt, called one after the other on memory that nothing else changes. Read this file first.
--- What is said of one call is the equation of that function's contract. What is said of a run is the demands of document 01, of the very events and memory that the functions made.
--- Main definitions: Formatted and TakenUp, the two ways into a run (Opened); Made (one call), Ran (a list of calls, with looks by `take_up` among them); StartRight (what holds once a way in was
--- taken), FormatRight (what format gives beside it), looksRight (what every look answered), IndexRight (what holds after every list of calls). The theorems are proofs/TheIndex.antt.
+-- THE INDEX as its caller has it: `format`, `take_up`, `begin`, `step` and `withdraw` of src/lib.rt, called one after
+-- the other on memory that nothing else changes. Read this file first.
+-- What is said of one call is the equation of that function's contract. What is said of a run is the demands of document
+-- 01, of the very events and memory that the functions made.
+-- Main definitions: Formatted and Looked (a call of `format`, of `take_up`), Opened (the two ways into a run); Made (one
+-- call), Ran (a list of calls, with looks by `take_up` among them); StartRight (what holds once a way in was taken),
+-- FormatRight (what format gives beside it), looksRight (what every look answered), IndexRight (what holds after every
+-- list of calls). The theorems are proofs/TheIndex.antt.
 use mathlib.Core.Path.{_≡_}
 use mathlib.Core.Bool.{Bool, true, cond, _&&_}
 use mathlib.Core.List.{List, [], _∷_}
@@ -58,14 +62,15 @@ pub data Made : Memory → Call → Reply → Memory → Type 0 where
 abbrev pub happened : Memory → Call → Reply → Event
 happened m c x = record { call = c; number = partyAt (m .parties) (callerOf c) .step; reply = x }
 
--- A list of calls, made one after the other from memory m on, made these events and left m′. Between any two of them the caller may have looked: a call of `take_up` is none of the list, and
--- makes no event.
+-- A list of calls, made one after the other from memory m on, made these events and left m′. Between any two of them
+-- the caller may have looked: a call of `take_up` is none of the list, and makes no event.
 pub data Ran : Memory → List Call → List Event → Memory → Type 0 where
   ended : {m : Memory} → Ran m [] [] m
   next : {m m′ m″ : Memory} {c : Call} {x : Reply} {cs : List Call} {es : List Event} → Made m c x m′ → Ran m′ cs es m″ → Ran m (c ∷ cs) (happened m c x ∷ es) m″
   looked : {m m′ m″ : Memory} {a : TakeUpAnswer} {cs : List Call} {es : List Event} → Looked m a m′ → Ran m′ cs es m″ → Ran m cs es m″
 
--- Whether every look of a run was answered taken up where none of n parties was under way, by the book b at its start, and refused 8 where one was.
+-- Whether every look of a run was answered taken up where none of n parties was under way, by the book b at its start,
+-- and refused 8 where one was.
 unfoldable pub looksRight : {m m′ : Memory} {cs : List Call} {es : List Event} → ℕ → Book → Ran m cs es m′ → Bool
 looksRight n b ended = true
 looksRight n b (next {m} {m′} {m″} {c} {x} {cs} {es} made ran) = looksRight n (bookAfterCall b m c) ran
@@ -86,7 +91,8 @@ pub record FormatRight (z : FileSizes) (m : Memory) : Type 0 where
   pub sizes : Sizes
   pub given : sizesGiven sizes ≡ rootSized z
   pub starts : m ≡ formatted (sizesGiven sizes)
-  -- It has no records and nobody is under way: a run from it starts beside the empty book. Its file is the yardstick's first.
+  -- It has no records and nobody is under way: a run from it starts beside the empty book. Its file is the yardstick's
+  -- first.
   pub no-records : recordsSaved m ≡ []
   pub book : savedBook m ≡ emptyBook
   pub file : fileOf (rootSized z) m ≡ startFile (rootSized z)
@@ -98,7 +104,8 @@ pub record IndexRight (m₀ : Memory) (cs : List Call) (es : List Event) (m : Me
   -- The functions did what the definitions say; looks changed nothing.
   pub events-are : es ≡ events (start begins) cs
   pub memory-is : m ≡ Reached begins cs
-  -- Demand 3: every answer that a step gave is the book's, and somebody under way can move. At first the book has the records of m₀, and nobody is under way.
+  -- Demand 3: every answer that a step gave is the book's, and somebody under way can move. At first the book has the
+  -- records of m₀, and nobody is under way.
   pub answers : bookAgrees (savedBook m₀) es ≡ true
   pub progress : progresses (m₀ .root .parties) (bookAtEnd (savedBook m₀) es) m ≡ true
   -- Demand 3 whole: answers, links, progress, sizes, no page.
@@ -108,7 +115,8 @@ pub record IndexRight (m₀ : Memory) (cs : List Call) (es : List Event) (m : Me
   pub singly : AtRest (bookReached begins cs) → (x : Wanted) → x .party < m₀ .root .parties → RunSingly begins cs x
   -- An order of the operations, each at one call between its begin and its answer, in which a plain map gives every answer.
   pub linearization : Linearization begins cs
-  -- Change 1: each found answers the setting of the last insert that added its key and was not deleted since, in that order; or the one that m₀ had.
+  -- Change 1: each found answers the setting of the last insert that added its key and was not deleted since, in that
+  -- order; or the one that m₀ had.
   pub founds : FoundsRight begins cs linearization
   -- Change 2: neither a withdrawn operation nor its withdraw alters the map; and where an operation is begun, steps alone
   -- and is withdrawn, all lent memory is what it was before its begin.
@@ -116,7 +124,8 @@ pub record IndexRight (m₀ : Memory) (cs : List Call) (es : List Event) (m : Me
   pub restores : (x : Wanted) (n : ℕ) → Restored begins cs x n
   -- Change 4: a merge goes ahead exactly where the joined records fit the primary page, takes no page, gives back what both chains had, and leaves a chain of one page.
   pub merges : mergesFit nothingHad (start begins) cs ≡ true
-  -- Change 6: a file is taken up exactly where nobody is under way, before every call and after the last; every look said so. Where nobody is under way its records are the book's map.
+  -- Change 6: a file is taken up exactly where nobody is under way, before every call and after the last; every look
+  -- said so. Where nobody is under way its records are the book's map.
   pub taken : alwaysTaken (m₀ .root .parties) (savedBook m₀) m₀ cs ≡ true
   pub looks : looksRight (m₀ .root .parties) (savedBook m₀) ran ≡ true
   pub records : AtRest (bookAtEnd (savedBook m₀) es) → recordsSaved m ≡ bookAtEnd (savedBook m₀) es .contents

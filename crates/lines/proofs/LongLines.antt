@@ -1,5 +1,7 @@
--- Lines longer than every form: they are not read, so that of an unfinished one no more than a form's bytes and one has to be kept.
--- Main statements: form-line-short, long-unread, long-alike (which long line is under way makes no difference), cut-alike (a long line cut).
+-- Lines longer than every form: they are not read, so that of an unfinished one no more than a form's bytes and one
+-- has to be kept.
+-- Main statements: form-line-short, long-unread, long-alike (which long line is under way makes no difference),
+-- cut-alike (a long line cut).
 use mathlib.Core.Path.{_≡_, refl, sym, _∙_, ap}
 use mathlib.Core.Bool.{Bool, true, false, cond}
 use mathlib.Core.List.{List, [], _∷_, _++_}

@@ -1,8 +1,8 @@
 -- Take-up in what turns prints: after a take-up that answered ok, a schedule's replies are those of the model's calls
 -- from the file that is held, of which the demands speak; and a take-up between two forms changes nothing.
 -- Main statements: take-up-kept (no memory is altered, whatever its contents), take-up-starts (the answer ok says that
--- the file held may start a run), start-printed (a schedule from there), take-up-printed (what a take-up answers in the
--- course of it), take-up-between (forms before and after a take-up).
+-- the file held may start a run), start-printed (a schedule from there), take-up-printed (what a take-up answers in
+-- the course of it), take-up-between (forms before and after a take-up).
 use mathlib.Core.Path.{_≡_, refl, sym, _∙_, ap}
 use mathlib.Core.List.{List, [], _∷_, _++_, map}
 use lib.ListN.{take-append-drop}
@@ -53,7 +53,8 @@ take-up-starts m e =
 
 -- ---- A schedule after it
 
--- From a file that passes, held in whatever memory: turns prints that it is taken up, then the replies of the schedule.
+-- From a file that passes, held in whatever memory: turns prints that it is taken up, then the replies of the
+-- schedule.
 pub start-printed : (s : Start) (cs : List Call) (m : Memory) → fileIn m ≡ start s
     → formsAnswered (Form.TakeUp ∷ map formOf cs) m .answer ≡ Reply.TakeUp TakeUpAnswer.TakenUp ∷ map replyOf (events (start s) cs)
 unfolding formsAnswered
@@ -85,8 +86,8 @@ unfolding formsAnswered
 parted-memory [] gs m = refl
 parted-memory (f ∷ fs) gs m = parted-memory fs gs (performed f m .memory)
 
--- Forms with a take-up among them: the replies to the others are those without it, its own stands between them, and the
--- memory is the same.
+-- Forms with a take-up among them: the replies to the others are those without it, its own stands between them, and
+-- the memory is the same.
 pub record Between (fs gs : List Form) (m : Memory) : Type 0 where
   pub before : List Reply
   pub after : List Reply

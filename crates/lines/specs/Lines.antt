@@ -18,7 +18,8 @@ use Rattle.forms.specs.declared.Reply.{Reply}
 use Rattle.forms.specs.declared.Reply.the-variants as Reply
 use Rattle.forms.specs.Reading.{readForm}
 
--- The memory with the first lock words and page words that the sizes in a root record ask for, or all where there are fewer.
+-- The memory with the first lock words and page words that the sizes in a root record ask for, or all where there are
+-- fewer.
 abbrev pub wordsFor : Root → Memory → Memory
 wordsFor r m = lent (m .root) (m .parties) (take (lockWords r) (m .locks)) (take (allPageWords r) (m .pages))
 

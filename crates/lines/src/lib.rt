@@ -1,7 +1,8 @@
-// A line of turns answered (document 01, "The turns program"): the form is read, its call is performed on the file that is held and on words that are lent, and the
-// reply is printed. Each call is lent the first lock words and page words that the sizes ask for: those given for a format, else those of the root record.
-// Main statements: answer leaves the memory, and prints the reply, that lineAnswered says of the line and of all memory (specs/Lines.antt); there is nothing that a
-// caller must see to.
+// A line of turns answered (document 01, "The turns program"): the form is read, its call is performed on the file
+// that is held and on words that are lent, and the reply is printed. Each call is lent the first lock words and page
+// words that the sizes ask for: those given for a format, else those of the root record.
+// Main statements: answer leaves the memory, and prints the reply, that lineAnswered says of the line and of all
+// memory (specs/Lines.antt); there is nothing that a caller must see to.
 
 ghost use mathlib.Core.Path.{_≡_};
 ghost use Prim.Native.Nat.{ℕ, _+_, _*_, _≤_, min};
@@ -186,7 +187,8 @@ fn perform_line(line: &[u8], held: Held, locks: &mut [u32], pages: &mut [u32]) -
     }
 }
 
-// Answers a line: its reply is printed into `out` at place `at`, and nothing where there is no room for the longest reply.
+// Answers a line: its reply is printed into `out` at place `at`, and nothing where there is no room for the longest
+// reply.
 pub fn answer(
     line: &[u8],
     held: Held,
@@ -232,7 +234,8 @@ fn line_end(text: &[u8], from: usize) -> usize
     i
 }
 
-// Answers the whole lines of a text, one after the other, each reply with a newline after it, until there is no room for one more.
+// Answers the whole lines of a text, one after the other, each reply with a newline after it, until there is no room
+// for one more.
 pub fn answer_lines(
     text: &[u8],
     held: Held,

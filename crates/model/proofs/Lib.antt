@@ -1,5 +1,5 @@
--- From below: laws of the definitions; the invariant; steps grouped by what they write; a lemma for each step; how each
--- step can end, on any view; what a withdraw undoes; every call keeps the invariant.
+-- From below: laws of the definitions; the invariant; steps grouped by what they write; a lemma for each step; how
+-- each step can end, on any view; what a withdraw undoes; every call keeps the invariant.
 pub mod Laws
 pub mod Invariant
 pub mod Effects

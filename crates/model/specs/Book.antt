@@ -1,6 +1,7 @@
 -- The book (document 01, "The set book"; by document 02, change 1, it keeps a map): what every answer of a run must be.
 -- It is fed the events of a run, and compares each answer with its note.
--- Main definitions: Book, emptyBook; enter; noteAtSix, noteAtTen and noteAtEleven; contentsAtEleven; bookAfter, agrees (one event); bookAgrees, bookAtEnd (over a whole list).
+-- Main definitions: Book, emptyBook; enter; noteAtSix, noteAtTen and noteAtEleven; contentsAtEleven; bookAfter, agrees
+-- (one event); bookAgrees, bookAtEnd (over a whole list).
 use mathlib.Core.Bool.{Bool, true, false, cond, _&&_}
 use mathlib.Core.List.{List, [], _∷_}
 use mathlib.Core.Option.{Option, none, some}
@@ -31,7 +32,9 @@ pub record Entered : Type 0 where
   pub key : ℕ
   pub note : Option OperationAnswer
 
--- "The book keeps a set of keys, at first empty, and for each operation under way its party, operation, key and note": the keys with their settings, as a list of records, keys strictly ascending; an insert's setting stands in its operation.
+-- "The book keeps a set of keys, at first empty, and for each operation under way its party, operation, key and note":
+-- the keys with their settings, as a list of records, keys strictly ascending; an insert's setting stands in its
+-- operation.
 pub record Book : Type 0 where
   pub contents : List Entry
   pub entries : ℕ → Option Entered

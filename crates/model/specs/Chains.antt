@@ -1,5 +1,6 @@
 -- Bucket chains walked by their links, with the tests of damage (document 01, "Refused calls").
--- Main definitions: Checked (a reading, or damage); overflowFrom and listFrom (the pages that a link leads to); Chain and chainOf (a chain looked through whole); chainsFrom (the records of some chains).
+-- Main definitions: Checked (a reading, or damage); overflowFrom and listFrom (the pages that a link leads to); Chain
+-- and chainOf (a chain looked through whole); chainsFrom (the records of some chains).
 use mathlib.Core.Bool.{Bool, true, false, cond}
 use mathlib.Core.List.{List, [], _∷_, _++_}
 use Prim.Native.Nat.{ℕ, zero, suc, _+_}

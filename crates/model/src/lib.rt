@@ -1,6 +1,6 @@
 // The types and the numbers of the bead index: what the definitions in specs/ speak of and the code works on.
-// There is no code here. Limits, the layout of a page, the numbers that records hold and calls return; the root record, a party's record, lock modes,
-// answers, and the two kinds of address.
+// There is no code here. Limits, the layout of a page, the numbers that records hold and calls return; the root
+// record, a party's record, lock modes, answers, and the two kinds of address.
 
 // ---- Limits (document 01, "What it covers")
 
@@ -24,7 +24,8 @@ pub const PAGE_WORDS: usize = 16;
 // The words of one page, by value.
 pub type Page = [u32; PAGE_WORDS];
 
-// "Word 0 is the local level ..., word 1 the key count, word 2 the link ...", "words 3 to 14 of a page hold six such pairs, key first".
+// "Word 0 is the local level ..., word 1 the key count, word 2 the link ...", "words 3 to 14 of a page hold six such
+// pairs, key first".
 pub const LEVEL_WORD: usize = 0;
 
 pub const COUNT_WORD: usize = 1;

@@ -1,10 +1,10 @@
 -- The first cause, row by row: an earlier cause stands whatever rows follow, and where there is none the rows that
 -- follow decide.
--- Main statements: earlier-stands, none-earlier, later-decides (of any rows); size-refused, length-refused, file-passed;
--- file-stands, party-refused, place-passed; place-stands-at-begin, busy-refused, begin-passed; place-stands-at-step,
--- idle-refused, damage-refused, step-passed; place-stands-at-withdraw, nothing-to-withdraw, decided-refused,
--- damage-refused-at-withdraw, withdraw-passed; file-stands-at-take-up, unsaved-refused, take-up-passed, early-stands (a
--- cause found before the words are looked at).
+-- Main statements: earlier-stands, none-earlier, later-decides (of any rows); size-refused, length-refused,
+-- file-passed; file-stands, party-refused, place-passed; place-stands-at-begin, busy-refused, begin-passed;
+-- place-stands-at-step, idle-refused, damage-refused, step-passed; place-stands-at-withdraw, nothing-to-withdraw,
+-- decided-refused, damage-refused-at-withdraw, withdraw-passed; file-stands-at-take-up, unsaved-refused,
+-- take-up-passed, early-stands (a cause found before the words are looked at).
 use mathlib.Core.Path.{_≡_, refl, sym, _∙_}
 use mathlib.Core.Logic.{_≢_}
 use mathlib.Core.Bool.{Bool, true, false}

@@ -1,4 +1,5 @@
--- Tests made one by one against the model's conjunctions: what a conjunction that holds says of each test, and when the last test decides.
+-- Tests made one by one against the model's conjunctions: what a conjunction that holds says of each test, and when
+-- the last test decides.
 -- Main statements: refuses (of any test); root-fits (of a sound root record); fields-fit (of a sound party's record),
 -- step-decides (where the record's other words pass).
 use mathlib.Core.Path.{_≡_, refl, sym, _∙_}

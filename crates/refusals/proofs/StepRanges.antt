@@ -1,5 +1,6 @@
 -- Which operation has which steps, by the ranges of step numbers in which the answer is the same.
--- Main statements: every-operation-locates, find-has-nine, insert-and-delete-change, insert-splits, delete-merges; none-below, none-above, none-other.
+-- Main statements: every-operation-locates, find-has-nine, insert-and-delete-change, insert-splits, delete-merges;
+-- none-below, none-above, none-other.
 use mathlib.Core.Path.{_≡_}
 use mathlib.Core.Bool.{Bool, true, false, _&&_, _||_, and-true, and-false, or-false}
 use Prim.Native.Nat.{ℕ, _≤_, _<_}

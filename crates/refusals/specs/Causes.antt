@@ -1,7 +1,8 @@
 -- The first cause of refusal of each call, by the lent lengths as numbers (document 01, "Refused calls").
 -- Main definitions: formatCause, beginCause, stepCause, withdrawCause, takeUpCause; placeCause (the rows that begin,
 -- step and withdraw share).
--- proofs/Accepted.antt shows that each is the model's first cause of the call's rows, for every memory of these lengths.
+-- proofs/Accepted.antt shows that each is the model's first cause of the call's rows, for every memory of these
+-- lengths.
 use mathlib.Core.Bool.{Bool, not, _&&_}
 use mathlib.Core.List.{List, [], _∷_, _++_}
 use Prim.Native.Nat.{ℕ}

@@ -1,5 +1,5 @@
-// The tests that every call makes before it changes a word (document 01, "Refused calls"), over the root record and one
-// party's record by value.
+// The tests that every call makes before it changes a word (document 01, "Refused calls"), over the root record and
+// one party's record by value.
 // Main statements: within_limits, lengths_fit, root_sound, party_sound, has_step and is_decided are the model's tests,
 // for every word; format_cause, begin_cause, step_cause, withdraw_cause and take_up_cause are the first cause in the
 // table's order, 0 for none. proofs/Accepted.antt: what holds once there is none.
@@ -36,7 +36,8 @@ use model::Root;
 use model::SIZE_REFUSED;
 use model::UNSAVED_REFUSED;
 
-// "N original chains, 1 to P. P chains at most, 1 to 256. V overflow pages, 0 to 752. Q parties, 1 to 16." "b is 1 to 6".
+// "N original chains, 1 to P. P chains at most, 1 to 256. V overflow pages, 0 to 752. Q parties, 1 to 16." "b is 1 to
+// 6".
 pub fn within_limits(root: Root) -> bool
     ensures { λ r. ⌜ r ≡ withinLimits root ⌝ }
 {
@@ -120,8 +121,10 @@ pub fn has_step(operation: u32, step: u32) -> bool
     }
 }
 
-// "operation above 3; a step the operation lacks; lev above 9; owed above 3; an answer above 5, or 0 from step 12 on; a chain or other chain at or above P" is damage.
-// An operation above 3 has no step. The answer is asked for after the step number, so that an early step makes one test less.
+// "operation above 3; a step the operation lacks; lev above 9; owed above 3; an answer above 5, or 0 from step 12 on;
+// a chain or other chain at or above P" is damage.
+// An operation above 3 has no step. The answer is asked for after the step number, so that an early step makes one
+// test less.
 pub fn party_sound(root: Root, party: Party) -> bool
     ensures { λ r. ⌜ r ≡ partySound root party ⌝ }
 {

@@ -1,7 +1,7 @@
 // Step 17, inside an insert (document 01, "The thirty steps"): the records of a chain are divided over it and the new
 // chain. A chain of few pages goes by way of small buffers (`split_few`), a longer one is read where it stands.
-// Main statements: division_of counts both halves; write_halves is bothWritten of them; divide_many, divide and step_17
-// are the model's step17, for every word that the memory may hold.
+// Main statements: division_of counts both halves; write_halves is bothWritten of them; divide_many, divide and
+// step_17 are the model's step17, for every word that the memory may hold.
 
 ghost use mathlib.Core.Path.{_≡_};
 ghost use mathlib.Core.List.{List};

@@ -1,7 +1,8 @@
-// Step 17 on a chain of few pages (document 01, "The thirty steps"): its records are gathered in a small buffer, parted
-// into two there, and both halves are written to new pages. What became of a chain is said for both ways of step 17.
-// Main statements: part leaves those that stay and those that go at the front of two buffers; divide_few is the model's
-// step17, for every chain of at most chain_keys::FEW overflow pages; all is read before a word is written.
+// Step 17 on a chain of few pages (document 01, "The thirty steps"): its records are gathered in a small buffer,
+// parted into two there, and both halves are written to new pages. What became of a chain is said for both ways of
+// step 17.
+// Main statements: part leaves those that stay and those that go at the front of two buffers; divide_few is the
+// model's step17, for every chain of at most chain_keys::FEW overflow pages; all is read before a word is written.
 
 ghost use mathlib.Core.Path.{_≡_};
 ghost use mathlib.Core.List.{List};

@@ -1,5 +1,5 @@
--- Pages that are counted are each there once: where the chains fit and the free list is saved, no page is twice in them,
--- so that V pages counted are all there are, each once.
+-- Pages that are counted are each there once: where the chains fit and the free list is saved, no page is twice in
+-- them, so that V pages counted are all there are, each once.
 -- Main statement: counted-once.
 use mathlib.Core.Path.{_≡_, refl, sym, ap, _∙_, subst}
 use mathlib.Core.Logic.{_⊎_, inl, inr}

@@ -1,6 +1,7 @@
 -- Records seen one after the other, and pages.
 -- Main statements: same-test (two tests that imply each other); record-seen, records-seen (the records of a page);
--- good-parts and parts-good (what is seen is ascent and home); listed-ok (the pages of a list), one-listed, none-listed.
+-- good-parts and parts-good (what is seen is ascent and home); listed-ok (the pages of a list), one-listed,
+-- none-listed.
 use mathlib.Core.Path.{_≡_, refl, sym, ap, _∙_}
 use mathlib.Core.Bool.{Bool, true, false, _&&_, and-true}
 use mathlib.Core.List.{List, [], _∷_, _++_}

@@ -1,6 +1,6 @@
 -- The conditions together: a file with a row of zero records passes exactly where its words do.
--- Main statements: locks-fail, scratch-fails, root-fails, beyond-fails, chains-fail, count-fails (a condition that does
--- not hold); free-decides (where all others hold).
+-- Main statements: locks-fail, scratch-fails, root-fails, beyond-fails, chains-fail, count-fails (a condition that
+-- does not hold); free-decides (where all others hold).
 use mathlib.Core.Path.{_≡_, refl, sym, _∙_}
 use mathlib.Core.Bool.{Bool, true, false, _&&_}
 use mathlib.Core.List.{List}

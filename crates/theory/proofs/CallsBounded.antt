@@ -1,6 +1,8 @@
--- An operation takes at most 31 + V calls for a find and 45 for an insert or a delete, waiting ones set aside, whatever the other parties do; and fewer by the sizes.
+-- An operation takes at most 31 + V calls for a find and 45 for an insert or a delete, waiting ones set aside,
+-- whatever the other parties do; and fewer by the sizes.
 -- Beside the invariant: what an operation has taken and what it has left (CallsLeft) make at most its limit.
--- Main statements: Stands (one party), call-counted (one call), run-counted (a list); calls-with (any R that suffices); larger-bounded (larger limits); rehashes-least, rehashes-most (R);
+-- Main statements: Stands (one party), call-counted (one call), run-counted (a list); calls-with (any R that
+-- suffices); larger-bounded (larger limits); rehashes-least, rehashes-most (R);
 -- sizes-imply, calls-by-sizes, calls-right; calls-formatted.
 use mathlib.Core.Path.{_≡_, refl, sym, ap, _∙_, subst}
 use mathlib.Core.Logic.{_≢_}
@@ -61,7 +63,8 @@ use Rattle.theory.proofs.CallsLeft.{left, leftAt, left-begun, left-some
 
 -- ---- One party
 
--- Nothing is counted of a party with nothing under way; else what it has taken and what it has left make at most its limit.
+-- Nothing is counted of a party with nothing under way; else what it has taken and what it has left make at most its
+-- limit.
 abbrev pub Stands : ℕ → Memory → Book → ℕ → Option Counted → Type 0
 Stands most m b q none = b .entries q ≡ none
 Stands most m b q (some x) = (underWay b q ≡ true) × (x .taken + left most (viewOf m q) ≤ x .limit)
@@ -463,7 +466,8 @@ module _ (f g : Operation → ℕ) (larger : (o : Operation) → f o ≤ g o) wh
 
 -- ---- R, by the sizes
 
--- From i on, f more at most: it is enough, where the last is; it is no more than the last; and none below it, from i on, is enough.
+-- From i on, f more at most: it is enough, where the last is; it is no more than the last; and none below it, from i
+-- on, is enough.
 doubled-enough : (f i n p : ℕ) → p ≤ span n (i + f) → p ≤ span n (doubledFrom f i n p)
 unfolding doubledFrom
 doubled-enough zero i n p h = subst (λ (k : ℕ). p ≤ span n k) (omega arith) h

@@ -1,6 +1,7 @@
 -- How many calls an operation has left, at most: a number by step number and record that every step performed lowers.
--- Main statements: leftTable, left (where an operation is led on at most `most` times); left-begun, left-some, left-alike; Nearer (what an outcome leaves of it); nearer-01 to nearer-30 (all but 6, 9
--- and 10 on all memory); step-nearer (every step of a party under way).
+-- Main statements: leftTable, left (where an operation is led on at most `most` times); left-begun, left-some,
+-- left-alike; Nearer (what an outcome leaves of it); nearer-01 to nearer-30 (all but 6, 9 and 10 on all memory);
+-- step-nearer (every step of a party under way).
 use mathlib.Core.Path.{_≡_, refl, sym, ap, _∙_, subst}
 use mathlib.Core.Logic.{_≢_}
 use mathlib.Core.Bool.{Bool, true, false, cond, not, _&&_}
@@ -238,7 +239,8 @@ module _ (most : ℕ) where
 
   -- ---- What an outcome leaves of it
 
-  -- Of an operation that had at most n calls left: waiting or refused; moved on, with less; or done, by the last of them.
+  -- Of an operation that had at most n calls left: waiting or refused; moved on, with less; or done, by the last of
+  -- them.
   pub data Nearer (n : ℕ) (o : Outcome) : Type 0 where
     stays : performs (o .answer) ≡ false → Nearer n o
     goes : o .answer ≡ StepAnswer.Moved → suc (left (o .after)) ≤ n → Nearer n o

@@ -1,5 +1,7 @@
--- Wrong runs that callsBounded refuses, computed by the checker, each beside the right run that differs from it in one place.
--- Main statements: find-last, find-late; insert-last, insert-late; delete-last, delete-late and their like by the sizes; what counts and what does not.
+-- Wrong runs that callsBounded refuses, computed by the checker, each beside the right run that differs from it in one
+-- place.
+-- Main statements: find-last, find-late; insert-last, insert-late; delete-last, delete-late and their like by the
+-- sizes; what counts and what does not.
 use mathlib.Core.Path.{_≡_, refl}
 use mathlib.Core.Bool.{Bool, true, false}
 use mathlib.Core.List.{List, [], _∷_, _++_}
@@ -40,7 +42,8 @@ isDone = StepAnswer.Done OperationAnswer.Absent Restructuring.None
 abbrev movedThen : Operation → ℕ → List Event → List Event
 movedThen o n es = begins 0 o BeginAnswer.Begun ∷ (replicate n (steps 0 StepAnswer.Moved) ++ es)
 
--- From 1 chain to 256, with 3 overflow pages: R is 8, and a find takes at most 34 calls. From 5 to 12: R is 2. Of 5 in 5: R is 0.
+-- From 1 chain to 256, with 3 overflow pages: R is 8, and a find takes at most 34 calls. From 5 to 12: R is 2. Of 5 in
+-- 5: R is 0.
 abbrev widest : Root
 widest = rootOfSizes 1 2 256 3 2
 

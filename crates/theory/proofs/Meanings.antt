@@ -1,7 +1,7 @@
 -- Definitions that only forbid, or that stand as a premise, said once more: a wider one would make a statement weaker
 -- and every proof of it would still stand.
--- Main statements: answers-allowed (what a plain map may answer, as a table), plain-setting, plain-ascends (what it leaves of each key),
--- other-replies-refused, lengths-agree;
+-- Main statements: answers-allowed (what a plain map may answer, as a table), plain-setting, plain-ascends (what it
+-- leaves of each key), other-replies-refused, lengths-agree;
 -- clock-starts-at-zero, read-before-given (the link rule); accepted-replies, unanswered-comes-after-all;
 -- begins-write-none, steps-write-eleven, withdraws-write-none, withdrawn-wrote-none (what alters the map). Merges has
 -- those of merges that fit, Maps those of maps.
@@ -58,8 +58,9 @@ answers-allowed s (Operation.Insert z) k none y e = rw (sym (has-setting k s) �
 answers-allowed s Operation.Delete k (some x) y e = rw (sym (has-setting k s) ∙ ap isIn e) refl
 answers-allowed s Operation.Delete k none y e = rw (sym (has-setting k s) ∙ ap isIn e) refl
 
--- What an operation leaves: it is what the book's 11 makes of its map. Its own key keeps the setting that is there, or an
--- insert adds its own, or a delete takes it (settingAfter); every other key has what it had; and the keys still ascend.
+-- What an operation leaves: it is what the book's 11 makes of its map. Its own key keeps the setting that is there, or
+-- an insert adds its own, or a delete takes it (settingAfter); every other key has what it had; and the keys still
+-- ascend.
 pub plain-eleven : (s : PlainMap) (o : Operation) (k : ℕ) → plainAfter s o k ≡ contentsAtEleven o k s
 unfolding plainAfter contentsAtEleven
 plain-eleven s Operation.Find k = refl

@@ -1,6 +1,9 @@
--- How many calls an operation takes (document 02, change 8): waiting ones set aside, a find at most 31 + V, an insert or a delete at most 45, whatever the other parties do.
--- A call counts where it is answered moved or done; begin, waiting and refused calls do not, nor calls of an operation once it is withdrawn.
--- Main definitions: Counted; mostCalls (the figures), mostRehashes and mostBySizes (the same by the sizes); callsBounded (over a whole list); CallsRight.
+-- How many calls an operation takes (document 02, change 8): waiting ones set aside, a find at most 31 + V, an insert
+-- or a delete at most 45, whatever the other parties do.
+-- A call counts where it is answered moved or done; begin, waiting and refused calls do not, nor calls of an operation
+-- once it is withdrawn.
+-- Main definitions: Counted; mostCalls (the figures), mostRehashes and mostBySizes (the same by the sizes);
+-- callsBounded (over a whole list); CallsRight.
 use mathlib.Core.Path.{_≡_}
 use mathlib.Core.Bool.{Bool, true, false, cond, _&&_}
 use mathlib.Core.List.{List, [], _∷_}
@@ -23,7 +26,8 @@ use Rattle.theory.specs.Demands.{Start, start, sizesOf}
 
 -- ---- The figures
 
--- What an operation takes at most, by the sizes V of a root record: "a find at most 31 + V, an insert or a delete at most 45".
+-- What an operation takes at most, by the sizes V of a root record: "a find at most 31 + V, an insert or a delete at
+-- most 45".
 unfoldable pub mostCalls : Root → Operation → ℕ
 mostCalls r Operation.Find = 31 + r .overflow
 mostCalls r (Operation.Insert x) = 45
@@ -34,7 +38,8 @@ unfoldable pub doubledFrom : ℕ → ℕ → ℕ → ℕ → ℕ
 doubledFrom zero i n p = i
 doubledFrom (suc f) i n p = cond (leb p (span n i)) i (doubledFrom f (i + 1) n p)
 
--- R, the least number with N × 2^R ≥ P: how often an operation can be led on to another chain. There are at most 256 chains, so it is at most 8.
+-- R, the least number with N × 2^R ≥ P: how often an operation can be led on to another chain. There are at most 256
+-- chains, so it is at most 8.
 unfoldable pub mostRehashes : Root → ℕ
 mostRehashes r = doubledFrom 8 0 (r .originals) (r .primaries)
 
@@ -127,8 +132,9 @@ callsBounded most w (e ∷ es) = callBounded w (e .call) (e .reply) && callsBoun
 
 -- ---- The statement
 
--- For one list of calls: the figures, and the sharper ones by the sizes. From formatted memory no chain has more than (V + 1) / 2 overflow pages, since a rebuild takes all its pages while the
--- old ones are still out: there 31 + V is met for V ≤ 1 alone, from a file taken up for every V.
+-- For one list of calls: the figures, and the sharper ones by the sizes. From formatted memory no chain has more than
+-- (V + 1) / 2 overflow pages, since a rebuild takes all its pages while the old ones are still out: there 31 + V is
+-- met for V ≤ 1 alone, from a file taken up for every V.
 pub record CallsRight (s : Start) (cs : List Call) : Type 0 where
   pub bounded : callsBounded (mostCalls (sizesOf s)) noneCounted (events (start s) cs) ≡ true
   pub by-sizes : callsBounded (mostBySizes (sizesOf s)) noneCounted (events (start s) cs) ≡ true

@@ -1,8 +1,8 @@
 -- Demands 2 and 3 as statements about every list of calls from memory that passes take-up, as formatted memory does.
 -- Main definitions: Start (where a run may start), with its map and its book; Reached and bookReached (a memory that
 -- only the index has changed, and the book beside it); ScheduleRight (demand 3), SizesStay; GrantsRight, RunSingly and
--- ListSingly (demand 2). The theorems that they hold are in proofs/; that formatted memory is a Start with the empty map
--- and the yardstick's first file: proofs/TakenUp.antt.
+-- ListSingly (demand 2). The theorems that they hold are in proofs/; that formatted memory is a Start with the empty
+-- map and the yardstick's first file: proofs/TakenUp.antt.
 use mathlib.Core.Path.{_≡_}
 use mathlib.Core.Bool.{true, false}
 use mathlib.Core.List.{List, [], _++_}

@@ -202,8 +202,8 @@ pub record Linearization (s : Start) (cs : List Call) : Type 0 where
   pub each : (o : Operated) → IsOneOf o (operationsOf (events (start s) cs)) → timesIn (o .begun) order ≡ cond (hasTakenEffect (Reached s cs) o) 1 0
   -- Real time: an operation answered before another begins stands before it.
   pub real-time : (x y : Linearized) (a : Ended) → IsOneOf x order → IsOneOf y order → x .operated .ended ≡ some a → a .call < y .operated .begun → StandsBefore x y order
-  -- From the map at the start on, a plain map gives every answer. "No page" stands only for an insert of a missing key or a
-  -- delete of a present one, and leaves the map.
+  -- From the map at the start on, a plain map gives every answer. "No page" stands only for an insert of a missing key
+  -- or a delete of a present one, and leaves the map.
   pub answers : answersInOrder (mapStart s) order ≡ true
   -- The map at the end is what the chains of the file hold.
   pub file : Consistent (Reached s cs)

@@ -1,6 +1,7 @@
--- What found answers (document 02, change 1: "Found answers the setting; an insert of a present key keeps the old one"):
--- the setting of the last insert that added the key and was not deleted since, in the order of decisive steps; or, of a
--- key that nobody has added or deleted, the one that the file had at the start.
+-- What found answers (document 02, change 1: "Found answers the setting; an insert of a present key keeps the old
+-- one"):
+-- the setting of the last insert that added the key and was not deleted since, in the order of decisive steps; or, of
+-- a key that nobody has added or deleted, the one that the file had at the start.
 -- It speaks of the calls, of what they returned, of an order of the operations by their decisive steps
 -- (specs/Linearization.antt) and of the map at the start; of no book and no page.
 -- Main definitions: changesKey and leavesKey (operations that add or remove a key); LastAdded (the last of some
@@ -42,7 +43,8 @@ pub record LastAdded (k x : ℕ) (earlier : List Linearized) : Type 0 where
   pub adds : insert .answer ≡ OperationAnswer.Inserted
   pub not-since : leavesKey k since ≡ true
 
--- Key k has setting x after the operations xs on the map s: it had it, and they left the key; or it was added last in them.
+-- Key k has setting x after the operations xs on the map s: it had it, and they left the key; or it was added last in
+-- them.
 pub data Came (s : PlainMap) (k x : ℕ) (xs : List Linearized) : Type 0 where
   from-before : settingIn k s ≡ some x → leavesKey k xs ≡ true → Came s k x xs
   from-insert : LastAdded k x xs → Came s k x xs

@@ -1,8 +1,8 @@
 -- What is owed of a step: it is not refused, it agrees with the book, the invariant holds after it, and no other find
 -- has more pages yet to copy; and how the parts of the invariant are put together again.
 -- Main statements: Kept; row-same, row-other, row-chain (the row after one record changed); ExtentsStay and
--- extents-move, ExtentsByOne and extents-by-one, extents-leave; assemble, ahead-stays; waits-kept (a waiting call), moved-kept (a
--- step that moves).
+-- extents-move, ExtentsByOne and extents-by-one, extents-leave; assemble, ahead-stays; waits-kept (a waiting call),
+-- moved-kept (a step that moves).
 use mathlib.Core.Path.{_≡_, refl, sym, ap, _∙_}
 use mathlib.Core.Logic.{_≢_}
 use mathlib.Core.Bool.{true, false, false≢true}

@@ -1,5 +1,6 @@
 -- The pages that a find at 9 has yet to copy: how many they are, and that they stay while another party steps.
--- Main statements: aheadIn, AheadStays; protected-overflow, ahead-linked, ahead-walked (they are those of its walk); ahead-kept (they stay while what the party relies on does).
+-- Main statements: aheadIn, AheadStays; protected-overflow, ahead-linked, ahead-walked (they are those of its walk);
+-- ahead-kept (they stay while what the party relies on does).
 use mathlib.Core.Path.{_≡_, refl, sym, ap, _∙_}
 use mathlib.Core.Logic.{_≢_}
 use mathlib.Core.List.{List}

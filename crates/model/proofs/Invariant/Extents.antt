@@ -1,5 +1,6 @@
 -- Laws of extents: local levels, what one split more leaves of every chain, and where the hash functions of a key lead.
--- Main statements: level-fits, local-most, local-fits; local-low, local-high, local-split, local-made, local-rest; advance-grows, raised-grows (every chain stays and no local level falls);
+-- Main statements: level-fits, local-most, local-fits; local-low, local-high, local-split, local-made, local-rest;
+-- advance-grows, raised-grows (every chain stays and no local level falls);
 -- outgrown-heads, next-heads, located-heads, chasing-heads (where the hash functions of a key lead), home-is (where they end); key-home, away-absent (a key is on its home
 -- alone); restructurer; root-grows-low, low-grows-live.
 use mathlib.Core.Path.{_≡_, refl, sym, ap, _∙_, subst}
@@ -81,7 +82,8 @@ local-most {m} i c =
       level-fits (m .root .originals) (i .ghost .live) (i .limits .some-original) (omega (arith, i .extents-ok .live-fits, i .limits .chains-fit)),
     )
 
--- Where there is room for p chains, and n doubled r times are p or more, it is at most r: a chain of local level i + 1 has a partner at n × 2^i or above.
+-- Where there is room for p chains, and n doubled r times are p or more, it is at most r: a chain of local level i + 1
+-- has a partner at n × 2^i or above.
 pub local-fits : (n r p : ℕ) (e : Extent) (c : ℕ) → 1 ≤ n → p ≤ span n r → size n e ≤ p → c < size n e → localLevel n e c ≤ r
 local-fits n r p e c some room fits inside = go (ord (e .level) r)
   where

@@ -1,6 +1,8 @@
 -- What an insert or a delete makes of a chain's records: one key more or one key less, every other key with the setting it had, and the keys still ascend.
--- Main statements: has-inserted, length-inserted (the keys afterwards); setting-inserted, setting-removed (their settings); ascends-inserted, ascends-removed;
--- settingAfter, setting-eleven (what the book's 11 makes of every key), ascends-eleven; ChangeMade and change-made (a change of a chain is the one that the book makes of its map).
+-- Main statements: has-inserted, length-inserted (the keys afterwards); setting-inserted, setting-removed (their
+-- settings); ascends-inserted, ascends-removed;
+-- settingAfter, setting-eleven (what the book's 11 makes of every key), ascends-eleven; ChangeMade and change-made (a
+-- change of a chain is the one that the book makes of its map).
 use mathlib.Core.Path.{_≡_, refl, sym, ap, subst, _∙_}
 use mathlib.Core.Bool.{Bool, true, false, cond, _||_, false≢true}
 use mathlib.Core.Logic.{_≢_}
@@ -131,7 +133,8 @@ ascends-removed x (e ∷ es) a =
 
 -- ---- The book's map at 11
 
--- What a key has after an operation on it, from what it had: an insert adds its setting, or keeps the one that is there.
+-- What a key has after an operation on it, from what it had: an insert adds its setting, or keeps the one that is
+-- there.
 unfoldable pub settingAfter : Operation → Option Value → Option Value
 settingAfter Operation.Find x = x
 settingAfter (Operation.Insert y) none = some y
@@ -173,7 +176,8 @@ ascends-eleven Operation.Delete k es a = ascends-removed k es a
 
 -- ---- A change of a chain, and the book beside it
 
--- A change of key k from the records es to the records after, with this answer: operation o's own answer, which the book notes; and the records change as the book's map does.
+-- A change of key k from the records es to the records after, with this answer: operation o's own answer, which the
+-- book notes; and the records change as the book's map does.
 pub record ChangeMade (o : Operation) (k : ℕ) (es : List Entry) (answer : ℕ) (after : List Entry) : Type 0 where
   pub made : answer ≡ cond (eqb (operationNumber o) 2) 1 3
   pub noted : noteAtEleven o (hasKey k es) ≡ answerOf answer

@@ -1,5 +1,6 @@
 -- Laws of lists of records.
--- Main statements: has-append, setting-append (two lists together); has-setting (a key has a setting exactly where it is in), has-same, setting-absent.
+-- Main statements: has-append, setting-append (two lists together); has-setting (a key has a setting exactly where it
+-- is in), has-same, setting-absent.
 use mathlib.Core.Path.{_≡_, refl, sym, ap, _∙_}
 use mathlib.Core.Bool.{Bool, true, false, cond, _||_, or-assoc, true≢false}
 use mathlib.Core.List.{List, [], _∷_, _++_}

@@ -1,5 +1,6 @@
 -- Lists of records, no key in two of them, joined into one.
--- Main statements: listed, listed-at, chains-listed (the records of a run of chains); Apart; setting-all (a key has in the joined list what the list that has it says), setting-home, found-all;
+-- Main statements: listed, listed-at, chains-listed (the records of a run of chains); Apart; setting-all (a key has in
+-- the joined list what the list that has it says), setting-home, found-all;
 -- ascends-all; chains-at, on-chain, chains-apart (the chains of a file).
 use mathlib.Core.Path.{_≡_, refl, sym, ap, _∙_}
 use mathlib.Core.Bool.{Bool, true, false, cond, false≢true}

@@ -1,5 +1,5 @@
--- Who owns each overflow page of a saved file: the free list or a chain, found by looking for the page; where each page
--- is once in them, these are owners as the invariant has them.
+-- Who owns each overflow page of a saved file: the free list or a chain, found by looking for the page; where each
+-- page is once in them, these are owners as the invariant has them.
 -- Main statements: ownerIn, heldIn; owned-once.
 use mathlib.Core.Path.{_≡_, refl, sym, ap, _∙_, subst}
 use mathlib.Core.Bool.{false, cond, _&&_}

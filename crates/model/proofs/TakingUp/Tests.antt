@@ -1,7 +1,7 @@
--- What the tests of take-up say where they hold: words and pages that are the same or zero, idle records, pages filled,
--- the free list, records at home.
--- Main statements: same-words, zeros, record-zero, all-idle, zero-page-at; packed-overflow and packed-chain (a chain word
--- for word); home-keys; taken-list (the free list).
+-- What the tests of take-up say where they hold: words and pages that are the same or zero, idle records, pages
+-- filled, the free list, records at home.
+-- Main statements: same-words, zeros, record-zero, all-idle, zero-page-at; packed-overflow and packed-chain (a chain
+-- word for word); home-keys; taken-list (the free list).
 use mathlib.Core.Path.{_≡_, refl, sym, ap, ap₂, _∙_}
 use mathlib.Core.Logic.{_≢_, _⊎_, inl, inr}
 use mathlib.Core.Bool.{Bool, true, false, cond, not, _&&_}

@@ -1,5 +1,5 @@
--- What a step can answer: it waits exactly for a lock that it requests and is not granted, and it is refused for damage
--- alone.
+-- What a step can answer: it waits exactly for a lock that it requests and is not granted, and it is refused for
+-- damage alone.
 -- Main statements: fairly (the answers that go with a request, or with none); step-fair (every step answers so, by the
 -- lock that its number wants).
 use mathlib.Core.Path.{_≡_, refl}

@@ -1,5 +1,6 @@
 -- The records of a consistent file, key by key (specs/Consistency.antt says them as one list).
--- Main statements: records-ascend; in-records and in-file (a key has in the joined list what some chain has of it, and nothing else); in-map, map-in-file (of the book's map).
+-- Main statements: records-ascend; in-records and in-file (a key has in the joined list what some chain has of it, and
+-- nothing else); in-map, map-in-file (of the book's map).
 use mathlib.Core.Path.{_≡_, sym, ap, _∙_}
 use mathlib.Core.Bool.{true}
 use mathlib.Core.List.{List, []}

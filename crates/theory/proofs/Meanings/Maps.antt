@@ -1,5 +1,7 @@
 -- Equations of maps said once more, key by key: each implies what stands here.
--- Main statements: left-setting (what an operation leaves of each key); linearized-in-file, linearized-in-map (the map that a linearization leaves, and the chains of the file); stays-in-file, no-more-in-file (a call that leaves the map);
+-- Main statements: left-setting (what an operation leaves of each key); linearized-in-file, linearized-in-map (the map
+-- that a linearization leaves, and the chains of the file); stays-in-file, no-more-in-file (a call that leaves the
+-- map);
 -- home-answers, home-before, home-after, home-left (an operation run singly, by each key's home chain);
 -- start-ascends, reached-ascends, left-ascends, after-ascends (every one of these lists strictly ascends).
 use mathlib.Core.Path.{_≡_, refl, sym, ap, _∙_}

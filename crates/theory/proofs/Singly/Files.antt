@@ -1,5 +1,7 @@
 -- The yardstick's files by the keys and settings that they hold, and what the yardstick's changes make of a file.
--- Main statements: Holding (a file that holds exactly this map, each key at its home), same-file (level, next and the map determine a file), held-home (a key's home has of it what the map has), map-held (its chains joined are the map); Rehomed, rehomed (a key's home after one split more);
+-- Main statements: Holding (a file that holds exactly this map, each key at its home), same-file (level, next and the
+-- map determine a file), held-home (a key's home has of it what the map has), map-held (its chains joined are the
+-- map); Rehomed, rehomed (a key's home after one split more);
 -- holding-changed, holding-parted, holding-rejoined.
 use mathlib.Core.Path.{_≡_, refl, sym, ap, _∙_, subst}
 use mathlib.Core.Logic.{_≢_}

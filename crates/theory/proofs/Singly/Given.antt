@@ -1,5 +1,6 @@
 -- Files and the yardstick by the sizes given to format; what a file reached at rest holds.
--- Main statements: file-given, performed-given (the sizes given or the root's: the same); reached-holding (at rest the file holds exactly the book's map), reached-map, reached-home, reached-reads;
+-- Main statements: file-given, performed-given (the sizes given or the root's: the same); reached-holding (at rest the
+-- file holds exactly the book's map), reached-map, reached-home, reached-reads;
 -- start-file (format leaves the yardstick's first file).
 use mathlib.Core.Path.{_≡_, refl, sym, ap, _∙_, subst}
 use mathlib.Core.List.{List, []}

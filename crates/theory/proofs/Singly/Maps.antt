@@ -1,5 +1,6 @@
 -- The yardstick answers as a plain map does, and leaves the map that a plain map then is.
--- Main statements: holding-map (a file holds its own records as a map); AsMap, performed-as-map (one operation); all-as-map (a list of operations).
+-- Main statements: holding-map (a file holds its own records as a map); AsMap, performed-as-map (one operation);
+-- all-as-map (a list of operations).
 use mathlib.Core.Path.{_≡_, refl, sym, subst, _∙_}
 use mathlib.Core.Bool.{true, false, _||_, not}
 use mathlib.Core.List.{List, [], _∷_}
