@@ -15,7 +15,8 @@ use Rattle.model.specs.TakeUp.{takeUpCall}
 use Rattle.model.specs.Runs.{Call, events}
 use Rattle.theory.specs.Demands.{Start, start, bookStart, Reached}
 use Rattle.theory.proofs.Reached.{started-inv}
-use Rattle.theory.proofs.TakenUp.{take-up-order, taken-start}
+use Rattle.model.proofs.Theorems.RefusalOrder.{take-up-order}
+use Rattle.theory.proofs.TakenUp.{taken-start}
 use Rattle.calls.specs.Lent.{lent}
 use Rattle.held.specs.Held.{recordsLent}
 use Rattle.forms.specs.declared.Form.{Form}

@@ -1,9 +1,8 @@
 -- Take-up over whole lists of calls: what the index leaves at rest is taken up, with the book's map, and nothing else
 -- that it leaves is; formatted memory is taken up, with no records.
--- Main statements: TakeUpOrder and take-up-order (the rows of take-up in their order); taken-rightly and taken-answer
--- (what it says where the invariant holds), always-taken, taken-right; reached-saved, reached-records; taken-start
--- (memory that was taken up may start a run); formatted-start, formatted-empty, formatted-book, formatted-file,
--- formatted-holds.
+-- Main statements: taken-rightly and taken-answer (what take-up says where the invariant holds), always-taken,
+-- taken-right; reached-saved, reached-records; taken-start (memory that was taken up may start a run);
+-- formatted-start, formatted-empty, formatted-book, formatted-file, formatted-holds.
 use mathlib.Core.Path.{_≡_, refl, sym, ap, _∙_, subst}
 use mathlib.Core.Bool.{Bool, true, false, cond, not}
 use mathlib.Core.List.{List, [], _∷_}
@@ -21,9 +20,9 @@ use Rattle.model.specs.Runs.{Call, eventOf, afterCall, finalMemory}
 use Rattle.model.specs.Book.{Book, Entered, emptyBook}
 use Rattle.model.specs.Progress.{isEntered, underWay, someBelow, bookAfterCall}
 use Rattle.model.specs.Sizes.{withinLimits}
-use Rattle.model.specs.Refusals.{firstCause, lengthsFit}
+use Rattle.model.specs.Refusals.{lengthsFit}
 use Rattle.model.specs.Calls.{Called, called}
-use Rattle.model.specs.TakeUp.{isSaved, recordsSaved, openBook, savedBook, takeUpRows, takeUpAnswer, takeUpCall}
+use Rattle.model.specs.TakeUp.{isSaved, recordsSaved, openBook, savedBook, takeUpCall}
 use Rattle.model.specs.declared.TakeUpAnswer.{TakeUpAnswer}
 use Rattle.model.specs.declared.TakeUpAnswer.the-variants as TakeUpAnswer
 use Rattle.theory.specs.Demands.{Sizes, sizesGiven, Start, start, sizesOf, Reached, bookReached, bookStart, AtRest, fileReached}
@@ -33,6 +32,7 @@ use Rattle.theory.specs.TakenUp.{takenRightly, alwaysTaken}
 use Rattle.model.proofs.Laws.Lists.{Told, holds, fails, tell, Ord, lt, ge, ord, both-and, not-both, false≢true}
 use Rattle.model.proofs.Invariant.Statement.{Inv}
 use Rattle.model.proofs.Invariant.Start.{start-inv}
+use Rattle.model.proofs.Theorems.RefusalOrder.{take-up-order}
 use Rattle.model.proofs.Theorems.Calls.{StepsKept, within-limits, lengths-fit, call-kept}
 use Rattle.model.proofs.Theorems.AllSteps.{steps-kept}
 use Rattle.model.proofs.TakingUp.Sound.{idle-at}
@@ -44,25 +44,6 @@ use Rattle.theory.proofs.Singly.Files.{extentOf, home, Holding, same-fi
 use Rattle.theory.proofs.Singly.Given.{some-original, start-held}
 use Rattle.theory.proofs.SizesStay.{call-limits}
 use Rattle.theory.proofs.NoDeadlock.{some-found, found-some}
-
--- ---- The rows of take-up
-
--- Each cause, where no earlier one is met, is the one returned; all lent memory is left.
-pub record TakeUpOrder (m : Memory) : Type 0 where
-  pub sizes : withinLimits (m .root) ≡ false → takeUpCall m ≡ called (TakeUpAnswer.Refused 2) m
-  pub lengths : withinLimits (m .root) ≡ true → lengthsFit (m .root) m ≡ false → takeUpCall m ≡ called (TakeUpAnswer.Refused 1) m
-  pub unsaved :
-      withinLimits (m .root) ≡ true → lengthsFit (m .root) m ≡ true → isSaved m ≡ false → takeUpCall m ≡ called (TakeUpAnswer.Refused 8) m
-  pub none : withinLimits (m .root) ≡ true → lengthsFit (m .root) m ≡ true → isSaved m ≡ true → takeUpCall m ≡ called TakeUpAnswer.TakenUp m
-
-pub take-up-order : (m : Memory) → TakeUpOrder m
-unfolding takeUpCall takeUpRows takeUpAnswer firstCause
-take-up-order m = record {
-  sizes = λ e. rw e refl;
-  lengths = λ e f. rw (e, f) refl;
-  unsaved = λ e f g. rw (e, f, g) refl;
-  none = λ e f g. rw (e, f, g) refl;
-}
 
 -- ---- Who is under way
 

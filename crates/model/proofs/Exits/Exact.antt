@@ -20,6 +20,7 @@ use Rattle.model.specs.Outcome.{View}
 use Rattle.model.specs.Steps.Dispatch.{stepOf, nextTable, isNext, writesTable, writes}
 use Rattle.model.proofs.Exits.Statement.{rowPasses, column-passed}
 use Rattle.model.proofs.Laws.Lists.{false≢true, or-either, allPass}
+use Rattle.model.proofs.Refutations.Opened.{opened}
 
 -- ---- The file
 
@@ -105,60 +106,6 @@ passing t (v ∷ vs) h = go (λ f. passing t vs f) (or-either (t v) (some t vs) 
     go : (some t vs ≡ true → Passing t) → (t v ≡ true) ⊎ (some t vs ≡ true) → Passing t
     go more (inl e) = record { view = v; passes = e }
     go more (inr e) = more e
-
--- What the steps run on, opened.
-unfoldable opened : ℕ
-unfolding Rattle.model.specs.Answers.answerNumber Rattle.model.specs.Answers.answerOf Rattle.model.specs.Answers.foundOrAbsent
-    Rattle.model.specs.Answers.restructuringOf Rattle.model.specs.Answers.isMoved Rattle.model.specs.LockWords.fieldOf
-    Rattle.model.specs.LockWords.withField Rattle.model.specs.LockWords.permits Rattle.model.specs.LockWords.holds
-    Rattle.model.specs.LockWords.grantedWord Rattle.model.specs.LockWords.releasedWord Rattle.model.specs.LockWords.turnedSelective
-    Rattle.model.specs.Mixing.stirredLeft Rattle.model.specs.Mixing.stirredRight Rattle.model.specs.Mixing.nextWord Rattle.model.specs.Mixing.outputs
-    Rattle.model.specs.Mixing.table Rattle.model.specs.Mixing.byteOf Rattle.model.specs.Mixing.rowOf Rattle.model.specs.Mixing.tableWord
-    Rattle.model.specs.Mixing.mixed Rattle.model.specs.Addresses.span Rattle.model.specs.Addresses.hashOf Rattle.model.specs.Addresses.levelFor
-    Rattle.model.specs.Addresses.addressFor Rattle.model.specs.Addresses.chainCount Rattle.model.specs.Addresses.splitNext
-    Rattle.model.specs.Addresses.splitLevel Rattle.model.specs.Addresses.mergePartner Rattle.model.specs.Addresses.mergeTarget
-    Rattle.model.specs.Addresses.mergeLevel Rattle.model.specs.Addresses.splitBarred Rattle.model.specs.Addresses.mergeBarred
-    Rattle.model.specs.Entries.hasKey Rattle.model.specs.Entries.settingIn Rattle.model.specs.Entries.belowFirst Rattle.model.specs.Entries.ascending
-    Rattle.model.specs.Entries.insertedInto Rattle.model.specs.Entries.removedFrom Rattle.model.specs.Entries.joined
-    Rattle.model.specs.Entries.sharesKey Rattle.model.specs.Entries.staying Rattle.model.specs.Entries.going Rattle.model.specs.Entries.isEmpty
-    Rattle.model.specs.Pages.pageOf Rattle.model.specs.Pages.withPage Rattle.model.specs.Pages.levelOf Rattle.model.specs.Pages.countOf
-    Rattle.model.specs.Pages.linkOf Rattle.model.specs.Pages.recordsIn Rattle.model.specs.Pages.entriesOf Rattle.model.specs.Pages.wordsOf
-    Rattle.model.specs.Pages.filledPage Rattle.model.specs.Pages.freePage Rattle.model.specs.Pages.zeroPage Rattle.model.specs.Pages.withLocalLevel
-    Rattle.model.specs.Pages.linkToFirst Rattle.model.specs.Pages.namesOverflow Rattle.model.specs.Pages.linkSound Rattle.model.specs.Pages.pageSound
-    Rattle.model.specs.Chains.overflowFrom Rattle.model.specs.Chains.listFrom Rattle.model.specs.Chains.entriesOn Rattle.model.specs.Chains.readChain
-    Rattle.model.specs.Chains.ascendingChain Rattle.model.specs.Chains.chainOf Rattle.model.specs.Filling.overflowNeeded
-    Rattle.model.specs.Filling.pagesFor Rattle.model.specs.Filling.fitsPrimary Rattle.model.specs.Filling.primaryOf Rattle.model.specs.Filling.filled
-    Rattle.model.specs.Filling.overflowWritten Rattle.model.specs.FreeList.tooFew Rattle.model.specs.FreeList.isAmong
-    Rattle.model.specs.FreeList.alsoTaken Rattle.model.specs.FreeList.takenFrom Rattle.model.specs.FreeList.pagesTaken
-    Rattle.model.specs.FreeList.rootAfterTaking Rattle.model.specs.FreeList.givenBack Rattle.model.specs.FreeList.roomToGiveBack
-    Rattle.model.specs.FreeList.pagesGivenBack Rattle.model.specs.LockRequests.modeOf Rattle.model.specs.LockRequests.isGranted
-    Rattle.model.specs.LockRequests.withHold Rattle.model.specs.LockRequests.request Rattle.model.specs.LockRequests.isHeld
-    Rattle.model.specs.LockRequests.heldAll Rattle.model.specs.LockRequests.withoutHold Rattle.model.specs.LockRequests.givenUp
-    Rattle.model.specs.LockRequests.release Rattle.model.specs.ScratchPages.primaryWritten Rattle.model.specs.Endings.finished
-    Rattle.model.specs.Endings.endedWith Rattle.model.specs.Endings.onward Rattle.model.specs.Endings.oldPagesFirst
-    Rattle.model.specs.Steps.Locate.step01 Rattle.model.specs.Steps.Locate.step02 Rattle.model.specs.Steps.Locate.located
-    Rattle.model.specs.Steps.Locate.step03 Rattle.model.specs.Steps.Locate.step04 Rattle.model.specs.Steps.Locate.step05
-    Rattle.model.specs.Steps.Chase.chase Rattle.model.specs.Steps.Chase.chaseOf Rattle.model.specs.Steps.Chase.arrived
-    Rattle.model.specs.Steps.Chase.chasing Rattle.model.specs.Steps.Chase.step06 Rattle.model.specs.Steps.Chase.step07
-    Rattle.model.specs.Steps.Chase.step08 Rattle.model.specs.Steps.Find.answered Rattle.model.specs.Steps.Find.lookedOn
-    Rattle.model.specs.Steps.Find.step09 Rattle.model.specs.Steps.Rebuild.changeOf Rattle.model.specs.Steps.Rebuild.splitOwed
-    Rattle.model.specs.Steps.Rebuild.mergeOwed Rattle.model.specs.Steps.Rebuild.owedBy Rattle.model.specs.Steps.Rebuild.changesNothing
-    Rattle.model.specs.Steps.Rebuild.changing Rattle.model.specs.Steps.Rebuild.rebuilt Rattle.model.specs.Steps.Rebuild.rebuildWith
-    Rattle.model.specs.Steps.Rebuild.step10 Rattle.model.specs.Steps.Write.step11 Rattle.model.specs.Steps.Write.isChange
-    Rattle.model.specs.Steps.Write.step12 Rattle.model.specs.Steps.OldPages.step13 Rattle.model.specs.Steps.OldPages.oldGivenBack
-    Rattle.model.specs.Steps.OldPages.step14 Rattle.model.specs.Steps.SplitLocks.step15 Rattle.model.specs.Steps.SplitLocks.splitting
-    Rattle.model.specs.Steps.SplitLocks.step16 Rattle.model.specs.Steps.SplitLocks.step19 Rattle.model.specs.Steps.SplitLocks.step22
-    Rattle.model.specs.Steps.SplitBuild.halvesOf Rattle.model.specs.Steps.SplitBuild.halvesNeed Rattle.model.specs.Steps.SplitBuild.halvesWritten
-    Rattle.model.specs.Steps.SplitBuild.divided Rattle.model.specs.Steps.SplitBuild.divideWith Rattle.model.specs.Steps.SplitBuild.step17
-    Rattle.model.specs.Steps.SplitWrite.step18 Rattle.model.specs.Steps.SplitWrite.step20 Rattle.model.specs.Steps.SplitWrite.step21
-    Rattle.model.specs.Steps.MergeLocks.step23 Rattle.model.specs.Steps.MergeLocks.merging Rattle.model.specs.Steps.MergeLocks.step24
-    Rattle.model.specs.Steps.MergeLocks.step25 Rattle.model.specs.Steps.MergeLocks.step30 Rattle.model.specs.Steps.MergeBuild.pairOf
-    Rattle.model.specs.Steps.MergeBuild.joinedEntries Rattle.model.specs.Steps.MergeBuild.mergeGoes Rattle.model.specs.Steps.MergeBuild.combined
-    Rattle.model.specs.Steps.MergeBuild.combineWith Rattle.model.specs.Steps.MergeBuild.step26 Rattle.model.specs.Steps.MergeWrite.rootMovedBack
-    Rattle.model.specs.Steps.MergeWrite.step27 Rattle.model.specs.Steps.MergeWrite.step28 Rattle.model.specs.Steps.MergeWrite.mergedAway
-    Rattle.model.specs.Steps.MergeWrite.partnerCleared Rattle.model.specs.Steps.MergeWrite.step29 Rattle.model.specs.Steps.Dispatch.stepTable
-    Rattle.model.specs.Steps.Dispatch.stepOf Rattle.model.specs.Steps.Dispatch.nextTable Rattle.model.specs.Steps.Dispatch.writesTable
-opened = 0
 
 -- ---- Successors
 

@@ -1,6 +1,8 @@
--- The order of refusals: a call that meets two causes gets the earlier one, and leaves all lent memory (document 01, "Refused calls").
--- Main definitions: FormatOrder, BeginOrder, StepOrder, WithdrawOrder, one for each call: each cause, where no earlier one is met, is the one returned.
--- Main statements: first-cause (of any rows), format-order, begin-order, step-order, withdraw-order.
+-- The order of refusals: a call that meets two causes gets the earlier one, and leaves all lent memory (document 01,
+-- "Refused calls").
+-- Main definitions: FormatOrder, BeginOrder, StepOrder, WithdrawOrder, TakeUpOrder, one for each call: each cause,
+-- where no earlier one is met, is the one returned.
+-- Main statements: first-cause (of any rows), format-order, begin-order, step-order, withdraw-order, take-up-order.
 use mathlib.Core.Path.{_≡_, refl, ap}
 use mathlib.Core.Logic.{_≢_}
 use mathlib.Core.Bool.{true, false, not}
@@ -18,12 +20,14 @@ use Rattle.model.specs.declared.FormatAnswer.{FormatAnswer}
 use Rattle.model.specs.declared.FormatAnswer.the-variants as FormatAnswer
 use Rattle.model.specs.declared.WithdrawAnswer.{WithdrawAnswer}
 use Rattle.model.specs.declared.WithdrawAnswer.the-variants as WithdrawAnswer
+use Rattle.model.specs.declared.TakeUpAnswer.the-variants as TakeUpAnswer
 use Rattle.model.specs.Sizes.{withinLimits}
 use Rattle.model.specs.Records.{rootOfSizes}
 use Rattle.model.specs.Memory.{Memory, partyAt, formatted}
 use Rattle.model.specs.Refusals.{Row, firstCause, lengthsFit, recordSound, sizeRow, lengthRow, partyRow, busyRow, idleRow, decidedRow, damageRow, formatRows, beginRows, stepRows, withdrawRows}
 use Rattle.model.specs.Calls.{called, formatCall, withBegun, beginCall, stepped, stepCall, withdrawnFrom, withdrawCall}
 use Rattle.model.specs.Withdraw.{isDecided}
+use Rattle.model.specs.TakeUp.{isSaved, takeUpRows, takeUpAnswer, takeUpCall}
 use Rattle.model.proofs.Laws.Lists.{All}
 
 -- ---- Any rows
@@ -222,3 +226,22 @@ withdraw-order m q =
           (no-cause (size ∷ (lens ∷ (who ∷ (idle ∷ (late ∷ (harm ∷ []))))))
           (ap not s, (ap not l, (lt-leb (r .parties) q h, (ne-eqb (x .operation) 0 i, (d, (ap not e, tt)))))));
     }
+
+-- ---- Take-up
+
+-- All lent memory is left, whatever the answer is.
+pub record TakeUpOrder (m : Memory) : Type 0 where
+  pub sizes : withinLimits (m .root) ≡ false → takeUpCall m ≡ called (TakeUpAnswer.Refused 2) m
+  pub lengths : withinLimits (m .root) ≡ true → lengthsFit (m .root) m ≡ false → takeUpCall m ≡ called (TakeUpAnswer.Refused 1) m
+  pub unsaved :
+      withinLimits (m .root) ≡ true → lengthsFit (m .root) m ≡ true → isSaved m ≡ false → takeUpCall m ≡ called (TakeUpAnswer.Refused 8) m
+  pub none : withinLimits (m .root) ≡ true → lengthsFit (m .root) m ≡ true → isSaved m ≡ true → takeUpCall m ≡ called TakeUpAnswer.TakenUp m
+
+pub take-up-order : (m : Memory) → TakeUpOrder m
+unfolding takeUpCall takeUpRows takeUpAnswer firstCause
+take-up-order m = record {
+  sizes = λ e. rw e refl;
+  lengths = λ e f. rw (e, f) refl;
+  unsaved = λ e f g. rw (e, f, g) refl;
+  none = λ e f g. rw (e, f, g) refl;
+}
