@@ -1,4 +1,7 @@
--- An operation run from begin to done alone: the yardstick's files, the file at rest, one party alone, and the paragraphs of the thirty steps in turn.
+-- An operation run from begin to done alone: the yardstick's files, the file at rest, one party alone, and the
+-- paragraphs of the thirty steps in turn.
+pub mod StepWords
+pub mod Tied
 pub mod Files
 pub mod AtRest
 pub mod Maps

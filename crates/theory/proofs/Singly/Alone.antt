@@ -35,7 +35,8 @@ use Rattle.model.specs.declared.Entry.{Entry}
 use Rattle.model.specs.Entries.{settingIn}
 use Rattle.model.specs.Book.{Book, Entered, withEntry, noteFor, noteStep, noteAtSix, notedIfFind, afterReply, agreesWith, isNote, isNoteOf}
 use Rattle.model.specs.Ready.{viewing}
-use Rattle.theory.specs.Sequential.{File, Finished, finishes, recordsAt, pagesInUse, fileOf}
+use Rattle.theory.specs.Sequential.{File, Finished, finishes, recordsAt, fileOf}
+use Rattle.theory.proofs.Singly.StepWords.{pagesInUse}
 use Rattle.theory.specs.Singly.{stepsOf, repliesOf, movesThen, doneBy}
 use Rattle.model.specs.Steps.Dispatch.{stepOf}
 use Rattle.model.proofs.Laws.Lists.{All, Told, holds, fails, tell, Cmp, same, diff, cmp, cond-ind, and-both, both-and, left-or, or-either, or-neither, not-both, not-true, eqb-true, eqb-diff, leb-true, le-leb}

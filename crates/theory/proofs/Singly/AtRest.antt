@@ -9,14 +9,15 @@ use Prim.Native.Nat.{ℕ, zero, suc, _+_, _≤_, _<_}
 use native.Mathlib.Omega.{arith}
 use lib.ListN.{length, getD, set, take, List·getD-eq-default}
 use lib.Dec.{eqb}
-use Rattle.model.specs.Addresses.{chainCount}
+use Rattle.model.specs.Addresses.{span, chainCount}
 use Rattle.model.specs.declared.Entry.{Entry}
 use Rattle.model.specs.Entries.{hasKey, ascending, settingIn}
 use Rattle.model.specs.Chains.{recordsRead, chainsFrom}
 use Rattle.model.specs.Filling.{pagesFor}
 use Rattle.model.specs.Memory.{Memory}
 use Rattle.model.specs.Book.{Book}
-use Rattle.theory.specs.Sequential.{File, recordsAt, fileOf, pagesInUse}
+use Rattle.theory.specs.Sequential.{File, chainsAt, recordsAt, fileOf}
+use Rattle.theory.proofs.Singly.StepWords.{pagesInUse}
 use Rattle.model.proofs.Laws.Lists.{Told, holds, fails, tell, Cmp, same, diff, cmp, Ord, lt, ge, ord, eqb-same, eqb-diff}
 use Rattle.model.proofs.Invariant.Ghost.{inChain, Extent, rootExtent, size, localLevel, Ghost}
 use Rattle.model.proofs.Laws.Addresses.{address-lt}
@@ -93,7 +94,7 @@ module _ (m : Memory) (b : Book) (i : Inv m b) where
   chains-read (suc x) c s = rw (chain-found m b i c (omega arith), chains-read x (c + 1) (omega arith)) refl
 
   pub file-read : i .ghost .live ≡ rootExtent (m .root) → fileOf (m .root) m ≡ liveFile (m .root .originals) (i .ghost)
-  unfolding fileOf liveFile
+  unfolding fileOf liveFile chainsAt chainCount span
   file-read s =
       let r = m .root in
       let many : chainCount n (r .level) (r .next) ≡ size n e = unfold size in (ap (λ (x : Extent). chainCount n (x .level) (x .next)) (sym s)) in

@@ -29,7 +29,8 @@ use Rattle.model.specs.LockRequests.{heldAll, givenUp, chainSelective}
 use Rattle.model.specs.Memory.{Memory}
 use Rattle.model.specs.Book.{Book, Entered, contentsAtEleven, noteFor, noteStep, afterReply}
 use Rattle.model.specs.Ready.{viewing}
-use Rattle.theory.specs.Sequential.{File, Finished, finishes, recordsAt, withRecords, pagesInUse, freeIn, shortOf, chainsIn, parted, rejoined, homeIn, splitFile, mergeFile, added, insertIn, removed, deleteIn}
+use Rattle.theory.specs.Sequential.{File, Finished, finishes, recordsAt, withRecords}
+use Rattle.theory.proofs.Singly.StepWords.{pagesInUse, freeIn, shortOf, chainsIn, parted, rejoined, homeIn, splitFile, mergeFile, added, insertIn, removed, deleteIn}
 use Rattle.model.specs.Steps.Rebuild.{Change, kept, changed, changeOf, splitOwed, mergeOwed, owedBy, changesNothing, changing, rebuilt, rebuildWith, step10}
 use Rattle.model.specs.Endings.{finished, onward, oldPagesFirst}
 use Rattle.model.specs.Steps.Write.{isChange, step11, step12}

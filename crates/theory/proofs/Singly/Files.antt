@@ -18,7 +18,8 @@ use Rattle.model.specs.Addresses.{span, hash, addressOf, splitNext, mergeTarget
 use Rattle.model.specs.declared.Entry.{Entry}
 use Rattle.model.specs.Entries.{hasKey, ascending, joined, staying, going, settingIn}
 use Rattle.theory.specs.PlainMap.{PlainMap}
-use Rattle.theory.specs.Sequential.{File, recordsAt, withRecords, parted, rejoined, mapIn}
+use Rattle.theory.specs.Sequential.{File, recordsAt, withRecords, mapIn}
+use Rattle.theory.proofs.Singly.StepWords.{parted, rejoined}
 use Rattle.model.proofs.Laws.Lists.{Cmp, same, diff, cmp, Ord, lt, ge, ord, eqb-same, eqb-diff}
 use Rattle.model.proofs.Invariant.Ghost.{Extent, extent, size, advance}
 use Rattle.model.proofs.Invariant.Extents.{size-is}

@@ -21,7 +21,8 @@ use Rattle.model.specs.LockRequests.{heldAll, givenUp, chainLock}
 use Rattle.model.specs.Memory.{Memory}
 use Rattle.model.specs.Book.{Book, Entered, Value}
 use Rattle.model.specs.Ready.{viewing}
-use Rattle.theory.specs.Sequential.{File, finishes, recordsAt, homeIn, findIn}
+use Rattle.theory.specs.Sequential.{File, finishes, recordsAt}
+use Rattle.theory.proofs.Singly.StepWords.{homeIn, findIn}
 use Rattle.model.specs.Steps.Find.{answered, lookedOn, step09}
 use Rattle.model.specs.Steps.Dispatch.{stepOf, stepTable}
 use Rattle.model.proofs.Laws.Lists.{Told, holds, fails, tell, cond-true, cond-false, All, all-from, eqb-same}

@@ -18,7 +18,9 @@ use Rattle.model.specs.Runs.{Call, events}
 use Rattle.model.specs.Book.{Book, bookAtEnd}
 use Rattle.model.specs.TakeUp.{openBook}
 use Rattle.model.specs.Progress.{isEntered, underWay}
-use Rattle.theory.specs.Sequential.{File, shortOf, freeIn, homeIn, chainsIn, parted, splitFile, rejoined, mergeFile, findIn, added, insertIn, removed, deleteIn, performedOn, mapIn, fileOf, ChainsRead}
+use Rattle.theory.specs.Sequential.{File, recordsAt, chainsIn, mapIn, fileOf, ChainsRead}
+use Rattle.theory.proofs.Singly.StepWords.{shortOf, freeIn, parted, splitFile, rejoined, mergeFile, findIn, added, insertIn, removed, deleteIn, performedOn, homeIn as stepHome, chainsIn as stepChains}
+use Rattle.theory.proofs.Singly.Tied.{count-same, home-same}
 use Rattle.theory.specs.Demands.{Start, mapStart, sizesOf, Reached, bookReached, AtRest, fileReached, atHome}
 use Rattle.model.proofs.Invariant.Ghost.{inChain, size, localLevel}
 use Rattle.model.proofs.Invariant.Statement.{Inv}
@@ -37,7 +39,7 @@ unfolding fileOf
 file-given z m l = ap (λ (r : Root). fileOf r m) (sized-root z (m .root) l)
 
 pub performed-given : (z r : Root) → SameLimits z r → (f : File) (o : Operation) (k : ℕ) → performedOn r f o k ≡ performedOn z f o k
-unfolding performedOn findIn insertIn deleteIn added removed splitFile mergeFile shortOf freeIn homeIn chainsIn parted rejoined
+unfolding performedOn findIn insertIn deleteIn added removed splitFile mergeFile shortOf freeIn stepHome stepChains parted rejoined
 performed-given z r l f Operation.Find k = ap (λ (u : Root). performedOn u f Operation.Find k) (sizes-same z r l)
 performed-given z r l f (Operation.Insert x) k = ap (λ (u : Root). performedOn u f (Operation.Insert x) k) (sizes-same z r l)
 performed-given z r l f Operation.Delete k = ap (λ (u : Root). performedOn u f Operation.Delete k) (sizes-same z r l)
@@ -69,8 +71,10 @@ module _ (s : Start) (cs : List Call) (rest : AtRest (bookReached s cs)) where
 
   -- Key by key: the file's map has of a key what the key's home chain has.
   pub reached-home : (k : ℕ) → settingIn k (mapIn (fileReached s cs)) ≡ atHome s cs k
-  unfolding homeIn
-  reached-home k = ap (settingIn k) reached-map ∙ sym (held-home (sizesOf s .originals) (fileReached s cs) (b .contents) reached-holding k)
+  unfolding stepHome
+  reached-home k =
+      ap (settingIn k) reached-map ∙ sym (held-home (sizesOf s .originals) (fileReached s cs) (b .contents) reached-holding k)
+      ∙ ap (λ (c : ℕ). settingIn k (recordsAt (fileReached s cs) c)) (sym (home-same (sizesOf s) (fileReached s cs) k))
 
   abbrev chain-at : ℕ → Chain
   chain-at c = record {
@@ -81,9 +85,9 @@ module _ (s : Start) (cs : List Call) (rest : AtRest (bookReached s cs)) where
   }
 
   many : chainsIn (sizesOf s) (fileReached s cs) ≡ size (m .root .originals) (i .ghost .live)
-  unfolding chainsIn fileOf size
+  unfolding stepChains fileOf size
   many =
-      ap (λ (n : ℕ). chainCount n (m .root .level) (m .root .next)) (sym (limits .originals=))
+      count-same (sizesOf s) (fileReached s cs) ∙ ap (λ (n : ℕ). chainCount n (m .root .level) (m .root .next)) (sym (limits .originals=))
       ∙ sym (ap (size (m .root .originals)) (live-at-rest m b i rest))
 
   pub reached-reads : ChainsRead (sizesOf s) (Reached s cs)

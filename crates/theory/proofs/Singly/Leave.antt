@@ -20,7 +20,8 @@ use Rattle.model.specs.LockRequests.{request, heldAll, givenUp, chainExclusive}
 use Rattle.model.specs.Memory.{Memory}
 use Rattle.model.specs.Book.{Book}
 use Rattle.model.specs.Ready.{viewing}
-use Rattle.theory.specs.Sequential.{File, Finished, finishes, pagesInUse}
+use Rattle.theory.specs.Sequential.{File, Finished, finishes}
+use Rattle.theory.proofs.Singly.StepWords.{pagesInUse}
 use Rattle.model.specs.Endings.{finished, onward, oldPagesFirst}
 use Rattle.model.specs.Steps.OldPages.{oldGivenBack, step13, step14}
 use Rattle.model.specs.Steps.Dispatch.{stepOf, stepTable}

@@ -20,12 +20,14 @@ use Rattle.model.specs.Filling.{pagesFor, fitsPrimary}
 use Rattle.model.specs.Book.{Value, contentsAtEleven}
 use Rattle.theory.specs.PlainMap.{PlainMap, plainAnswer, plainAfter, mayLackPages, isNoPage, answersAsMap, mapLeftBy}
 use Rattle.model.specs.Steps.Rebuild.{splitOwed, mergeOwed}
-use Rattle.theory.specs.Sequential.{File, Finished, finishes, shortOf, homeIn, recordsAt, withRecords, chainsIn, splitFile, mergeFile, findIn, added, insertIn, removed, deleteIn, performedOn, mapIn}
+use Rattle.theory.specs.Sequential.{File, Finished, finishes, recordsAt, withRecords, performedOn, mapIn}
+use Rattle.theory.proofs.Singly.StepWords.{shortOf, homeIn, chainsIn, splitFile, mergeFile, findIn, added, insertIn, removed, deleteIn, performedOn as stepPerformed}
 use Rattle.theory.specs.Singly.{Wanted, performedAll, answersAsMaps}
 use Rattle.model.proofs.Laws.Lists.{cond-ind, both-and, or-neither}
 use Rattle.model.proofs.Laws.Changes.{removed-absent}
 use Rattle.model.proofs.Laws.Entries.{has-same}
 use Rattle.model.proofs.Laws.Answers.{same-answer}
+use Rattle.theory.proofs.Singly.Tied.{performed-same}
 use Rattle.theory.proofs.Singly.Files.{Holding, held-home, map-held, holding-changed, holding-parted, holding-rejoined}
 
 -- ---- The map that a file holds
@@ -146,11 +148,14 @@ module _ (r : Root) (positive : 0 < r .originals) (f : File) (s : PlainMap) (h :
       (λ _. merge-map r positive (withRecords f c fewer) (removedFrom k s) with-fewer OperationAnswer.Deleted) (λ _. (refl, with-fewer)))))
       (λ e. absent (is-there ∙ e))
 
+  each-as-map : (o : Operation) → AsMap (r .originals) s o k (stepPerformed r f o k)
+  unfolding stepPerformed
+  each-as-map Operation.Find = find-as-map
+  each-as-map (Operation.Insert x) = insert-as-map x
+  each-as-map Operation.Delete = delete-as-map
+
   pub performed-as-map : (o : Operation) → AsMap (r .originals) s o k (performedOn r f o k)
-  unfolding performedOn
-  performed-as-map Operation.Find = find-as-map
-  performed-as-map (Operation.Insert x) = insert-as-map x
-  performed-as-map Operation.Delete = delete-as-map
+  performed-as-map o = subst (AsMap n s o k) (sym (performed-same r f k o)) (each-as-map o)
 
 -- ---- A list of operations
 

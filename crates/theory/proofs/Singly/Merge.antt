@@ -30,7 +30,8 @@ use Rattle.model.specs.LockRequests.{lockWord, request, isHeld, rootSelective, 
 use Rattle.model.specs.Memory.{Memory}
 use Rattle.model.specs.Book.{Book}
 use Rattle.model.specs.Ready.{viewing}
-use Rattle.theory.specs.Sequential.{File, Finished, finishes, recordsAt, pagesInUse, chainsIn, rejoined, mergeFile}
+use Rattle.theory.specs.Sequential.{File, Finished, finishes, recordsAt}
+use Rattle.theory.proofs.Singly.StepWords.{pagesInUse, chainsIn, rejoined, mergeFile}
 use Rattle.model.specs.Endings.{endedWith}
 use Rattle.model.specs.Steps.MergeLocks.{targetOf, targetExclusive, mergeStops, merging, mergeLocks, step23, step24, step25, step30}
 use Rattle.model.specs.Steps.MergeBuild.{Pair, pairOf, joinedEntries, mergeGoes, combined, combineWith, step26}

@@ -1,6 +1,8 @@
--- Demand 2, run singly: after every list of calls that leaves nobody under way, an operation run from begin to done alone never waits, ends, answers as the sequential yardstick and as a plain map do
--- and leaves level, next and every chain's records as one operation of the yardstick leaves them; and so a list of operations from formatted memory.
--- Main statements: begins-alone; find-run, insert-run, delete-run, run-ends (under the invariant); run-singly (one operation), list-singly (a list of them).
+-- Demand 2, run singly: after every list of calls that leaves nobody under way, an operation run from begin to done
+-- alone never waits, ends, answers as the sequential yardstick and as a plain map do and leaves level, next and every
+-- chain's records as one operation of the yardstick leaves them; and so a list of operations from formatted memory.
+-- Main statements: begins-alone; find-run, insert-run, delete-run, run-ends (under the invariant); run-singly (one
+-- operation), list-singly (a list of them).
 use mathlib.Core.Path.{_≡_, refl, sym, ap, _∙_, subst}
 use mathlib.Core.Bool.{true}
 use mathlib.Core.List.{List, [], _∷_, _++_, append-nil, append-assoc}
@@ -18,7 +20,9 @@ use Rattle.model.specs.Memory.{Memory, partyAt}
 use Rattle.model.specs.Calls.{Called, called, withBegun, beginCall}
 use Rattle.model.specs.Runs.{Call, Reply, toBegin, replyTo, afterCall, eventOf, events, finalMemory}
 use Rattle.model.specs.Book.{Book, enter}
-use Rattle.theory.specs.Sequential.{File, fileOf, performedOn, mapIn}
+use Rattle.theory.specs.Sequential.{File, fileOf, mapIn}
+use Rattle.theory.proofs.Singly.StepWords.{performedOn}
+use Rattle.theory.proofs.Singly.Tied.{performed-same}
 use Rattle.theory.specs.Singly.{Wanted, partiesFit, stepsOf, callsAlone, repliesOf, repliesAlone, doneBy, callsSingly, repliesSingly, performedAll}
 use Rattle.theory.specs.Demands.{Start, mapStart, sizesOf, start, Reached, bookReached, AtRest, fileReached, yardstick, RunSingly, ListSingly}
 use Rattle.model.proofs.Laws.Lists.{and-both, ltb-true}
@@ -134,7 +138,7 @@ module _ (s : Start) (cs : List Call) (rest : AtRest (bookReached s cs)) (x : Wa
   yardstick-is : performedOn (Reached s cs .root) (fileOf (Reached s cs .root) (Reached s cs)) (x .operation) (x .key) ≡ yardstick s cs x
   yardstick-is =
       ap (λ (f : File). performedOn (m .root) f o k) (sym (file-given (sizesOf s) m limits))
-      ∙ performed-given (sizesOf s) (m .root) limits (fileReached s cs) o k
+      ∙ performed-given (sizesOf s) (m .root) limits (fileReached s cs) o k ∙ sym (performed-same (sizesOf s) (fileReached s cs) k o)
 
   e : Ends (withBegun (Reached s cs) (x .party) (x .operation) (x .key)) (x .party) (yardstick s cs x)
   e = subst (Ends (withBegun m q o k) q) yardstick-is (run-ends steps-kept m (bookReached s cs) (reached-inv s cs) rest q in-row o k)

@@ -31,7 +31,8 @@ use Rattle.model.specs.LockRequests.{request, heldAll, givenUp, release, chainS
 use Rattle.model.specs.Memory.{Memory}
 use Rattle.model.specs.Book.{Book}
 use Rattle.model.specs.Ready.{viewing}
-use Rattle.theory.specs.Sequential.{File, Finished, finishes, recordsAt, pagesInUse, freeIn, shortOf, chainsIn, parted, splitFile}
+use Rattle.theory.specs.Sequential.{File, Finished, finishes, recordsAt}
+use Rattle.theory.proofs.Singly.StepWords.{pagesInUse, freeIn, shortOf, chainsIn, parted, splitFile}
 use Rattle.model.specs.Steps.SplitLocks.{nextSelective, splitting, step15, step16, step19, step22}
 use Rattle.model.specs.Steps.SplitBuild.{Halves, halvesOf, halvesNeed, divided, divideWith, step17}
 use Rattle.model.specs.Steps.SplitWrite.{step18, step20, step21}

@@ -13,7 +13,8 @@ use Rattle.model.specs.Chains.{chainOf, pagesIn}
 use Rattle.model.specs.PagePlaces.{count, freeList, chainedFrom, handIf, owesOld, hasBuilt, inHand, inHands, placesOf, PagesPlaced}
 use Rattle.model.specs.Progress.{underWay}
 use Rattle.theory.specs.Demands.{AtRest}
-use Rattle.theory.specs.Sequential.{File, pagesInUse}
+use Rattle.theory.specs.Sequential.{File}
+use Rattle.theory.proofs.Singly.StepWords.{pagesInUse}
 use Rattle.model.proofs.Laws.Lists.{Cmp, same, diff, cmp, All, all-from, among-count, not-both, eqb-same, eqb-diff, count-append, count-nil, count-cons}
 use Rattle.model.proofs.Laws.Filling.{IsOverflow}
 use Rattle.model.proofs.Laws.Reading.{length-overflow}
