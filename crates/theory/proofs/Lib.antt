@@ -1,4 +1,6 @@
--- From calls to whole lists of calls: answers, links, progress, grants, effects; operations run singly; what a step reads; a linearization; what a withdraw restores. Demands has the theorems.
+-- From calls to whole lists of calls: answers, links, progress, grants, effects; operations run singly; what a step
+-- reads; a linearization; what a withdraw restores. Demands has the theorems; Premises and Refutations hold
+-- their words fast.
 pub mod Reached
 pub mod OpenLinks
 pub mod Ledger
@@ -23,7 +25,6 @@ pub mod FittingMerges
 pub mod StepReads
 pub mod Singly
 pub mod Linearization
-pub mod CallsRefused
 pub mod CallsLeft
 pub mod CallsBounded
 pub mod Settings
@@ -31,3 +32,5 @@ pub mod Withdrawals
 pub mod Demands
 pub mod Meanings
 pub mod TakenUp
+pub mod Premises
+pub mod Refutations

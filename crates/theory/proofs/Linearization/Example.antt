@@ -17,35 +17,16 @@ use Rattle.model.specs.declared.Restructuring.the-variants as Restructuring
 use Rattle.model.specs.declared.StepAnswer.the-variants as StepAnswer
 use Rattle.model.specs.declared.BeginAnswer.the-variants as BeginAnswer
 use Rattle.model.specs.declared.WithdrawAnswer.the-variants as WithdrawAnswer
-use Rattle.model.specs.Mixing.{stirredLeft, stirredRight, nextWord, outputs, table, rowOf, byteOf, tableWord, mixed}
-use Rattle.model.specs.Addresses.{addressFor, chainCount, hashOf, levelFor, span}
-use Rattle.model.specs.Answers.{answerNumber, operationNumber, settingGiven, foundOrAbsent, sameAnswer, settingFound}
-use Rattle.model.specs.Book.{changedAt}
-use Rattle.model.specs.Calls.{beginCall, stepCall, stepped, withBegun, withdrawCall, withdrawnFrom}
-use Rattle.model.specs.Claims.{claims}
-use Rattle.model.specs.Withdraw.{builtPages, isDecided, takenBack, takenBackSoundly, withdrawn}
-use Rattle.model.specs.Chains.{ascendingChain, chainOf, entriesOn, listFrom, overflowFrom, readChain}
-use Rattle.model.specs.Entries.{entryOf, ascending, belowFirst, hasKey, insertedInto, isEmpty, removedFrom, settingIn}
-use Rattle.model.specs.Filling.{filled, overflowNeeded, overflowWritten, pagesFor, primaryOf}
-use Rattle.model.specs.FreeList.{alsoTaken, isAmong, pagesTaken, takenFrom, tooFew, rootAfterTaking, givenBack, pagesGivenBack, roomToGiveBack}
-use Rattle.model.specs.LockWords.{fieldOf, grantedWord, holds, permits, releasedWord, withField}
-use Rattle.model.specs.Memory.{formatted, formattedPages, formattedRoot, freePages}
-use Rattle.model.specs.LockRequests.{givenUp, heldAll, isGranted, isHeld, request, withHold, withoutHold, modeOf, release}
-use Rattle.model.specs.Pages.{countOf, entriesOf, filledPage, freePage, levelOf, linkOf, linkSound, linkToFirst, namesOverflow, pageOf, pageSound, withPage, zeroPage, wordsOf, recordsIn}
-use Rattle.model.specs.Refusals.{beginRows, firstCause, lengthsFit, partySound, recordSound, rootSound, stepRows, withdrawRows}
-use Rattle.model.specs.Runs.{afterCall, eventOf, events, finalMemory, replyTo, Call, beginFor, stepFor, withdrawFor, Reply, toBegin, toStep, toWithdraw, Event}
+use Rattle.model.specs.Answers.{answerNumber, foundOrAbsent, sameAnswer, settingFound}
+use Rattle.model.specs.Entries.{entryOf, hasKey, insertedInto, settingIn}
+use Rattle.model.specs.Memory.{formatted}
+use Rattle.model.specs.Runs.{events, finalMemory, Call, beginFor, stepFor, withdrawFor, Reply, toBegin, toStep, toWithdraw, Event}
 use Rattle.model.specs.Sizes.{withinLimits}
 use Rattle.model.specs.Records.{rootOfSizes}
-use Rattle.model.specs.Steps.Rebuild.{changeOf, changesNothing, changing, mergeOwed, owedBy, rebuildWith, rebuilt, splitOwed, step10}
-use Rattle.model.specs.Steps.Write.{isChange, step11}
-use Rattle.model.specs.ScratchPages.{primaryWritten}
-use Rattle.model.specs.Steps.Dispatch.{hasStep, stepOf, stepTable}
-use Rattle.model.specs.Steps.Find.{answered, lookedOn, step09}
-use Rattle.model.specs.Steps.Chase.{arrived, chase, chaseOf, chasing, step06}
-use Rattle.model.specs.Steps.Locate.{located, step01, step02, step03, step04, step05}
 use Rattle.theory.specs.PlainMap.{emptyMap, plainAnswer, plainAfter, mayLackPages, isNoPage, answersAsMap, mapLeftBy}
 use Rattle.theory.specs.Demands.{Sizes, sizesGiven}
 use Rattle.theory.specs.Linearization.{Operated, Ended, endIn, endTo, orLater, firstEnd, entering, operationsFrom, operationsOf, hasTakenEffect, Linearized, ascendingFrom, timesIn, answersInOrder, mapAfter}
+use Rattle.theory.proofs.Refutations.Opened.{opened}
 
 -- ---- The run
 
@@ -98,11 +79,6 @@ callsOf (e ∷ es) = e .call ∷ callsOf es
 
 abbrev calls : List Call
 calls = callsOf transcript
-
--- Every definition that the run takes.
-opened : ℕ
-unfolding stirredLeft stirredRight nextWord outputs table rowOf byteOf tableWord mixed addressFor chainCount hashOf levelFor span answerNumber operationNumber settingGiven foundOrAbsent changedAt beginCall stepCall stepped withBegun ascendingChain chainOf entriesOn listFrom overflowFrom readChain ascending belowFirst hasKey settingIn insertedInto isEmpty removedFrom filled overflowNeeded overflowWritten pagesFor primaryOf alsoTaken isAmong pagesTaken takenFrom tooFew fieldOf grantedWord holds permits releasedWord withField formatted formattedPages formattedRoot freePages givenUp heldAll isGranted isHeld request withHold withoutHold countOf recordsIn entriesOf wordsOf filledPage freePage levelOf linkOf linkSound linkToFirst namesOverflow pageOf pageSound withPage zeroPage beginRows firstCause lengthsFit partySound recordSound rootSound stepRows afterCall eventOf events finalMemory replyTo withinLimits changeOf changesNothing changing isChange mergeOwed owedBy primaryWritten rebuildWith rebuilt rootAfterTaking splitOwed step10 step11 hasStep stepOf stepTable answered lookedOn step09 arrived chase chaseOf chasing located modeOf release step01 step02 step03 step04 step05 step06 hasTakenEffect isDecided claims builtPages takenBack takenBackSoundly withdrawn withdrawRows withdrawnFrom withdrawCall givenBack pagesGivenBack roomToGiveBack
-opened = 0
 
 its-events : events ((formatted (sizesGiven sizes))) calls ≡ transcript
 unfolding opened

@@ -1,5 +1,4 @@
--- Wrong runs that callsBounded refuses, computed by the checker, each beside the right run that differs from it in one
--- place.
+-- Runs with more calls than the bound, and others that callsBounded calls wrong, beside those that it calls right.
 -- Main statements: find-last, find-late; insert-last, insert-late; delete-last, delete-late and their like by the
 -- sizes; what counts and what does not.
 use mathlib.Core.Path.{_≡_, refl}
@@ -18,11 +17,10 @@ use Rattle.model.specs.declared.BeginAnswer.{BeginAnswer}
 use Rattle.model.specs.declared.BeginAnswer.the-variants as BeginAnswer
 use Rattle.model.specs.declared.WithdrawAnswer.{WithdrawAnswer}
 use Rattle.model.specs.declared.WithdrawAnswer.the-variants as WithdrawAnswer
-use Rattle.model.specs.Addresses.{span}
 use Rattle.model.specs.Records.{rootOfSizes}
 use Rattle.model.specs.Runs.{beginFor, stepFor, withdrawFor, toBegin, toStep, toWithdraw, Event}
-use Rattle.model.specs.Book.{changedAt}
-use Rattle.theory.specs.CallsBounded.{mostCalls, doubledFrom, mostRehashes, mostWith, mostBySizes, beginBounded, stepBounded, countedBegin, countedStep, countedWithdraw, noneCounted, callBounded, countedAfter, callsBounded}
+use Rattle.theory.specs.CallsBounded.{mostCalls, mostBySizes, noneCounted, callsBounded}
+use Rattle.theory.proofs.Refutations.Opened.{opened}
 
 -- ---- Runs
 
@@ -58,10 +56,6 @@ asked r es = callsBounded (mostCalls r) noneCounted es
 
 abbrev bySizes : Root → List Event → Bool
 bySizes r es = callsBounded (mostBySizes r) noneCounted es
-
-opened : ℕ
-unfolding span changedAt mostCalls doubledFrom mostRehashes mostWith mostBySizes beginBounded stepBounded countedBegin countedStep countedWithdraw noneCounted callBounded countedAfter callsBounded
-opened = 0
 
 -- ---- The last call is done: moved on by it, an operation is refused, whether or not it ends
 

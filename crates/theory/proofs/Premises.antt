@@ -1,0 +1,114 @@
+-- What stands left of an arrow in the demands is met.
+-- Main statements: begin-met (at rest, every party's begin is accepted); withdraw-met (and its withdraw then), so
+-- restored-met (all is then what it was before begin); rest-met (nobody is under way before the first call; nor after
+-- an operation run alone, by RunSingly); begin-leaves, withdraw-leaves, step-leaves (the map). Formatted memory is a
+-- start (formatted-start of TakenUp); that a list of operations is for parties that there are, and that memories differ
+-- on shut pages, is in Refutations.
+use mathlib.Core.Path.{_≡_, refl, ap, _∙_}
+use mathlib.Core.Logic.{_≢_}
+use mathlib.Core.Bool.{true, false, cond, and-false}
+use mathlib.Core.List.{List, [], _∷_, _++_}
+use Prim.Native.Nat.{ℕ, _<_}
+use native.Mathlib.Omega.{arith}
+use Rattle.model.specs.declared.Operation.{Operation}
+use Rattle.model.specs.declared.Operation.the-variants as Operation
+use Rattle.model.specs.declared.BeginAnswer.{BeginAnswer}
+use Rattle.model.specs.declared.BeginAnswer.the-variants as BeginAnswer
+use Rattle.model.specs.declared.WithdrawAnswer.{WithdrawAnswer}
+use Rattle.model.specs.declared.WithdrawAnswer.the-variants as WithdrawAnswer
+use Rattle.model.specs.Records.{begun}
+use Rattle.model.specs.Answers.{operationNumber, settingGiven, performs}
+use Rattle.model.specs.Memory.{Memory, partyAt}
+use Rattle.model.specs.Refusals.{decidedRefusal}
+use Rattle.model.specs.Withdraw.{isDecided}
+use Rattle.model.specs.Calls.{Called, called, beginCall, withBegun, stepCall, withdrawCall}
+use Rattle.model.specs.Runs.{Call, beginFor, stepFor, withdrawFor, Event, eventOf, replyTo, afterCall, events, finalMemory}
+use Rattle.model.specs.Book.{Book, changedAt, enter, afterBegin, bookAfter, bookAtEnd}
+use Rattle.model.specs.Progress.{isEntered, underWay}
+use Rattle.theory.specs.Singly.{Wanted, stepsOf}
+use Rattle.theory.specs.Demands.{Start, start, sizesOf, bookStart, Reached, bookReached, AtRest}
+use Rattle.theory.specs.Withdrawals.{callsBegun, callsWithdrawn, atWithdraw, recordThere, MapStays, WithdrawalsRight}
+use Rattle.model.proofs.Laws.Lists.{eqb-same, eqb-diff}
+use Rattle.model.proofs.Effects.Kept.{row-same}
+use Rattle.model.proofs.Theorems.Meanings.{decided-find, decided-insert, decided-delete}
+use Rattle.theory.proofs.Reached.{reached-inv, final-append}
+use Rattle.theory.proofs.SizesStay.{reached-limits}
+use Rattle.theory.proofs.Singly.Given.{start-rests}
+use Rattle.theory.proofs.Singly.Run.{begins}
+use Rattle.theory.proofs.Restored.{restored}
+use Rattle.theory.proofs.Refutations.Events.{writes-begin, writes-step, writes-withdraw}
+
+-- ---- The book after two lists of calls
+
+events-append : (m : Memory) (cs ds : List Call) → events m (cs ++ ds) ≡ events m cs ++ events (finalMemory m cs) ds
+unfolding events finalMemory
+events-append m [] ds = refl
+events-append m (c ∷ cs) ds = ap (λ (es : List Event). eventOf m c ∷ es) (events-append (afterCall m c) cs ds)
+
+book-append : (b : Book) (es fs : List Event) → bookAtEnd b (es ++ fs) ≡ bookAtEnd (bookAtEnd b es) fs
+unfolding bookAtEnd
+book-append b [] fs = refl
+book-append b (e ∷ es) fs = book-append (bookAfter b (e .call) (e .number) (e .reply)) es fs
+
+-- ---- At rest
+
+-- An operation just begun has not taken its decisive step.
+begun-undecided : (o : Operation) (k x : ℕ) → isDecided (begun (operationNumber o) k x) ≡ false
+unfolding operationNumber
+begun-undecided Operation.Find k x = decided-find (begun 1 k x) refl
+begun-undecided (Operation.Insert y) k x = decided-insert (begun 2 k x) refl
+begun-undecided Operation.Delete k x = decided-delete (begun 3 k x) refl
+
+pub rest-met : (s : Start) → AtRest (bookReached s [])
+rest-met s = start-rests s
+
+module _ (s : Start) (cs : List Call) (rest : AtRest (bookReached s cs)) (x : Wanted) (fits : x .party < sizesOf s .parties) where
+  abbrev m : Memory
+  m = Reached s cs
+
+  in-row : x .party < Reached s cs .root .parties
+  in-row = omega (arith, reached-limits s cs .parties=)
+
+  pub begin-met : beginCall (Reached s cs) (x .party) (x .operation) (x .key) ≡ called BeginAnswer.Begun (withBegun (Reached s cs) (x .party) (x .operation) (x .key))
+  begin-met = begins m (bookReached s cs) (reached-inv s cs) rest (x .party) in-row (x .operation) (x .key)
+
+  begun-memory : atWithdraw s cs x 0 ≡ withBegun (Reached s cs) (x .party) (x .operation) (x .key)
+  unfolding stepsOf finalMemory afterCall
+  begun-memory = final-append (start s) cs (callsBegun x 0) ∙ ap (λ (c : Called BeginAnswer). c .memory) begin-met
+
+  -- It is then under way, and may be withdrawn.
+  under-way-then : underWay (bookReached s (cs ++ callsBegun x 0)) (x .party) ≡ true
+  unfolding stepsOf events bookAtEnd eventOf replyTo bookAfter afterBegin enter underWay changedAt isEntered
+  under-way-then =
+      ap (λ (es : List Event). underWay (bookAtEnd (bookStart s) es) (x .party)) (events-append (start s) cs (callsBegun x 0))
+      ∙ ap (λ (b : Book). underWay b (x .party)) (book-append (bookStart s) (events (start s) cs) (events m (callsBegun x 0)))
+      ∙ ap (λ (c : Called BeginAnswer). underWay (afterBegin (bookReached s cs) (x .party) (x .operation) (x .key) (c .answer)) (x .party)) begin-met
+      ∙ rw (eqb-same (x .party) (x .party) refl) refl
+
+  undecided : isDecided (recordThere s cs x 0) ≡ false
+  unfolding withBegun
+  undecided =
+      ap (λ (u : Memory). isDecided (partyAt (u .parties) (x .party))) begun-memory
+      ∙ ap isDecided (row-same (m .parties) (x .party) (begun (operationNumber (x .operation)) (x .key) (settingGiven (x .operation))) (omega (arith, reached-inv s cs .parties-many, in-row)))
+      ∙ begun-undecided (x .operation) (x .key) (settingGiven (x .operation))
+
+  pub withdraw-met : withdrawCall (atWithdraw s cs x 0) (x .party) .answer ≡ WithdrawAnswer.Withdrawn
+  withdraw-met = restored s cs x 0 .accepted under-way-then ∙ ap (λ b. cond b (WithdrawAnswer.Refused decidedRefusal) WithdrawAnswer.Withdrawn) undecided
+
+  pub restored-met : Reached s (cs ++ callsWithdrawn x 0) ≡ Reached s cs
+  restored-met = restored s cs x 0 .restored (ap (λ (c : Called BeginAnswer). c .answer) begin-met) withdraw-met
+
+-- ---- Calls that leave the map
+
+module _ (s : Start) (cs : List Call) (w : WithdrawalsRight s cs) (q : ℕ) where
+  pub begin-leaves : (o : Operation) (k : ℕ) → MapStays s cs (beginFor q o k)
+  begin-leaves o k = w .map-stays (beginFor q o k) (writes-begin (Reached s cs) q o k)
+
+  pub withdraw-leaves : MapStays s cs (withdrawFor q)
+  withdraw-leaves = w .map-stays (withdrawFor q) (writes-withdraw (Reached s cs) q)
+
+  -- Every step but 11.
+  pub step-leaves : partyAt (Reached s cs .parties) q .step ≢ 11 → MapStays s cs (stepFor q)
+  step-leaves d =
+      w .map-stays (stepFor q)
+      (writes-step (Reached s cs) q ∙ rw (eqb-diff (partyAt (Reached s cs .parties) q .step) 11 d) (and-false (performs (stepCall (Reached s cs) q .answer))))
