@@ -1,12 +1,13 @@
 -- What follows from the statements of specs/Effects.antt and specs/Consistency.antt for a caller: each takes a field
 -- that nothing else reads, so that none can be emptied unseen.
 -- Main statements: moved-alters, done-alters, waiting-leaves, refused-leaves (a step); begin-refused-leaves,
--- withdraw-refused-leaves; lock-refused (a wait); one-step-fed, one-begin-fed, one-withdraw-fed, other-answer-refused,
--- refused-withdraw-kept (the book); searched-home, searched-page, searched-locked, walked-locked, stays-at-nine (a
--- search); next-in-round, pair-words-at (the file); joined-writes-scratch, both-given-back (a merge).
+-- withdraw-refused-leaves; lock-refused, nothing-awaited (a wait); one-step-fed, one-begin-fed, one-withdraw-fed,
+-- other-answer-refused, refused-withdraw-kept (the book); searched-home, searched-page, searched-locked, walked-locked,
+-- stays-at-nine (a search); next-in-round, pair-words-at (the file); joined-writes-scratch, both-given-back (a merge).
 use mathlib.Core.Path.{_≡_, sym, ap, _∙_}
 use mathlib.Core.Logic.{_≢_}
-use mathlib.Core.Bool.{true, false, false≢true}
+use mathlib.Core.Bool.{Bool, true, false, false≢true}
+use mathlib.Core.Option.{none}
 use mathlib.Core.List.{List, [], _∷_}
 use Prim.Native.Nat.{ℕ, _+_, _*_, _^_, _<_}
 use lib.ListN.{length, getD}
@@ -28,10 +29,11 @@ use Rattle.model.specs.Memory.{Memory, partyAt, viewOf}
 use Rattle.model.specs.Calls.{beginCall, stepCall, withdrawCall}
 use Rattle.model.specs.Runs.{beginFor, stepFor, withdrawFor, toBegin, toStep, toWithdraw, Event, eventOf, events}
 use Rattle.model.specs.Book.{Book, isNoteOf, noteFor}
-use Rattle.model.specs.Effects.{recordAfter, AltersScratch, AltersOwn, own-record, own-scratch, StepAlters, WaitsForLock, BeginAlters, WithdrawAlters, withdrawAfter, BookFed, BookCompares, BookLeaves, agreesTo, bookThen, scratchLink}
+use Rattle.model.specs.Effects.{recordBefore, recordAfter, AltersScratch, AltersOwn, own-record, own-scratch, StepAlters, WaitsForLock, BeginAlters, WithdrawAlters, withdrawAfter, BookFed, BookCompares, BookLeaves, agreesTo, bookThen, scratchLink}
 use Rattle.model.specs.Filling.{PairIs}
 use Rattle.model.specs.Outcome.{View, guarded}
 use Rattle.model.specs.FreeList.{roomToGiveBack}
+use Rattle.model.specs.Steps.Dispatch.{wants}
 use Rattle.model.specs.Steps.MergeBuild.{Pair, step26}
 use Rattle.model.specs.Steps.MergeWrite.{partnerCleared, step29}
 use Rattle.model.specs.Merges.{TakesNone, before29, pagesOfBoth, GivesBackBoth}
@@ -64,6 +66,10 @@ module _ (m : Memory) (q : ℕ) (s : StepAlters m q) where
 -- A party that waits for a lock is not granted it.
 pub lock-refused : (m : Memory) (q : ℕ) (w : WaitsForLock m q) → isGranted (viewOf m q) (w .lock) ≢ true
 lock-refused m q w e = let z = sym e ∙ w .forbidden in absurd (false≢true (sym z))
+
+-- A party whose next step requests nothing does not wait for a lock.
+pub nothing-awaited : (m : Memory) (q : ℕ) → wants (m .root) (recordBefore m q) ≡ none → WaitsForLock m q → ⊥
+nothing-awaited m q e w = let f = sym e ∙ w .wanted in let z : _≡_ {A = Bool} true false = cc in false≢true (sym z)
 
 -- ---- A begin and a withdraw
 
