@@ -1,13 +1,15 @@
 -- Operations in an order: places that are wrong, beside the right one; and what was added last.
 -- Main statements: placed; too-early, too-late, other-answer, other-step, not-last, not-begun (a find that looks
 -- twice); added-last, removed-since, other-insert, never-added (a setting found); orders-ascend, each-once,
--- answers-told (whole orders); answered-stands, withdrawn-stands-not, found-came, stands-between (every linearization).
+-- answers-told (whole orders); answered-stands, withdrawn-stands-not, found-came, stands-between, first-is-first (every
+-- linearization).
 use mathlib.Core.Path.{_≡_, refl, sym, ap, _∙_}
 use mathlib.Core.Bool.{Bool, true, false, false≢true}
 use mathlib.Core.List.{List, [], _∷_, _++_, map, List·Memᴰ·head, List·Memᴰ·not-nil}
 use mathlib.Core.Option.{Option, none, some}
-use Prim.Native.Nat.{ℕ, _<_}
+use Prim.Native.Nat.{ℕ, _+_, _<_}
 use native.Mathlib.Omega.{arith}
+use lib.Dec.{leb}
 use Rattle.model.specs.declared.Operation.{Operation}
 use Rattle.model.specs.declared.Operation.the-variants as Operation
 use Rattle.model.specs.declared.OperationAnswer.{OperationAnswer}
@@ -19,7 +21,7 @@ use Rattle.model.specs.Runs.{Call, stepFor, toBegin, toWithdraw, Event, events}
 use Rattle.theory.specs.Demands.{Start, start}
 use Rattle.theory.specs.Linearization.{Ended, Operated, operationsOf, eventAt, Linearized, ascendingFrom, timesIn, answersInOrder, stepMarks, marks, isBefore, Placed, IsOneOf, hasTakenEffect, Linearization}
 use Rattle.theory.specs.Settings.{Came, from-before, from-insert, leavesKey, FoundInOrder, FoundsRight}
-use Rattle.model.proofs.Laws.Lists.{ltb-true}
+use Rattle.model.proofs.Laws.Lists.{and-both, leb-true, ltb-true}
 use Rattle.model.proofs.Refutations.Books.{begins, moves, ends}
 use Rattle.theory.proofs.Refutations.Opened.{opened}
 
@@ -191,6 +193,15 @@ module _ (s : Start) (cs : List Call) (l : Linearization s cs) (o : Operated) (i
 pub stands-between : (s : Start) (cs : List Call) (l : Linearization s cs) (x : Linearized) (y : Ended) → IsOneOf x (l .order) → x .operated .ended ≡ some y
     → (x .operated .begun < x .point) × (x .point < y .call)
 stands-between s cs l x y h e = (l .placed x h .after-begin, l .placed x h .before-end y e)
+
+-- What stands first takes effect first.
+pub first-is-first : (s : Start) (cs : List Call) (l : Linearization s cs) (x y : Linearized) (zs : List Linearized) → l .order ≡ x ∷ (y ∷ zs) → x .point < y .point
+unfolding ascendingFrom
+first-is-first s cs l x y zs e =
+    let up : ascendingFrom 1 (x ∷ (y ∷ zs)) ≡ true = sym (ap (ascendingFrom 1) e) ∙ l .ascending in
+    let rest = and-both (leb 1 (x .point)) (ascendingFrom (x .point + 1) (y ∷ zs)) up .1 in
+    let next = leb-true (x .point + 1) (y .point) (and-both (leb (x .point + 1) (y .point)) (ascendingFrom (y .point + 1) zs) rest .0) in
+    omega (arith, next)
 
 -- A reply to a call of another kind marks nothing.
 pub others-mark-none : (q n j : ℕ) (x : BeginAnswer) (y : WithdrawAnswer) → stepMarks q n (stepFor j) (toBegin x) ∷ stepMarks q n (stepFor j) (toWithdraw y) ∷ [] ≡ false ∷ false ∷ []

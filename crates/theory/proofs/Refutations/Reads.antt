@@ -2,7 +2,7 @@
 -- Main statements: pages-told, open-told, overflow-is, primary-is-not, scratch-is-not (which pages are overflow pages);
 -- shut-page (those that are not listed are shut); shut-rewritten (every memory differs, on a shut page, from another),
 -- shut-unread (which a step that is accepted does not notice); open-differs, other-answer, open-left, shut-written
--- (what is not alike); chains-unread, chains-read (a chain that does not read as sound).
+-- (what is not alike); copy-leads (a copy); chains-unread, chains-read (a chain that does not read as sound).
 use mathlib.Core.Path.{_≡_, refl, ap, sym, _∙_}
 use mathlib.Core.Logic.{_≢_}
 use mathlib.Core.Bool.{Bool, true, false, _&&_, false≢true}
@@ -15,13 +15,14 @@ use Rattle.model.specs.declared.Root.{Root}
 use Rattle.model.specs.declared.StepAnswer.{StepAnswer}
 use Rattle.model.specs.declared.StepAnswer.the-variants as StepAnswer
 use Rattle.model.specs.Sizes.{pageWords}
-use Rattle.model.specs.Pages.{withPage}
+use Rattle.model.specs.Pages.{pageOf, withPage, linkOf}
 use Rattle.model.specs.Chains.{damaged, sound, Chain, chainOf}
 use Rattle.model.specs.FreeList.{isAmong}
+use Rattle.model.specs.Outcome.{View}
 use Rattle.model.specs.Memory.{Memory}
 use Rattle.model.specs.Calls.{called, stepCall}
 use Rattle.theory.specs.Sequential.{ChainsRead, chainsIn, fileOf}
-use Rattle.theory.specs.Reads.{isAccepted, readBy, isOverflowPage, isOpen, DiffersOutside, ReadAlike, StepAlike}
+use Rattle.theory.specs.Reads.{isAccepted, readBy, isOverflowPage, isOpen, DiffersOutside, ReadAlike, StepAlike, Copied}
 use Rattle.model.proofs.Laws.Lists.{lt-ltb, le-ltb, le-leb, lt-leb}
 use Rattle.model.proofs.Laws.Pages.{Has, length-withPage, page-other}
 use Rattle.model.proofs.Refutations.Memories.{rootOf, bare}
@@ -152,6 +153,10 @@ open-left a = words-differ (sym (a .open= 0 refl))
 shut-written : moving marked → ⊥
 unfolding opened
 shut-written a = counts-differ (sym (a .shut-kept′ 1 refl))
+
+-- A scratch page that is a copy leads where the page copied leads.
+pub copy-leads : (v : View) (w : List ℕ) (c : Copied v w) → linkOf w ≡ linkOf (pageOf (v .pages) (c .page))
+copy-leads v w c = ap linkOf (c .copy)
 
 -- ---- A chain that does not read as sound
 
