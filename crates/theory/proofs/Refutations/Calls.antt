@@ -1,9 +1,10 @@
 -- Runs with more calls than the bound, and others that callsBounded calls wrong, beside those that it calls right.
 -- Main statements: find-last, find-late; insert-last, insert-late; delete-last, delete-late and their like by the
--- sizes; what counts and what does not.
+-- sizes; what counts and what does not; others-wrong, others-uncounted (a reply to a call of another kind).
 use mathlib.Core.Path.{_≡_, refl}
 use mathlib.Core.Bool.{Bool, true, false}
 use mathlib.Core.List.{List, [], _∷_, _++_}
+use mathlib.Core.Option.{Option}
 use Prim.Native.Nat.{ℕ}
 use lib.ListN.{replicate}
 use Rattle.model.specs.declared.Root.{Root}
@@ -18,8 +19,8 @@ use Rattle.model.specs.declared.BeginAnswer.the-variants as BeginAnswer
 use Rattle.model.specs.declared.WithdrawAnswer.{WithdrawAnswer}
 use Rattle.model.specs.declared.WithdrawAnswer.the-variants as WithdrawAnswer
 use Rattle.model.specs.Records.{rootOfSizes}
-use Rattle.model.specs.Runs.{beginFor, stepFor, withdrawFor, toBegin, toStep, toWithdraw, Event}
-use Rattle.theory.specs.CallsBounded.{mostCalls, mostBySizes, noneCounted, callsBounded}
+use Rattle.model.specs.Runs.{Call, beginFor, stepFor, withdrawFor, Reply, toBegin, toStep, toWithdraw, Event}
+use Rattle.theory.specs.CallsBounded.{mostCalls, mostBySizes, Counted, noneCounted, callBounded, countedAfter, callsBounded}
 use Rattle.theory.proofs.Refutations.Opened.{opened}
 
 -- ---- Runs
@@ -176,3 +177,24 @@ moved-withdrawn = refl
 begun-twice : asked widest (movedThen Operation.Find 8 (begins 0 Operation.Find BeginAnswer.Begun ∷ [])) ≡ false
 unfolding opened
 begun-twice = refl
+
+-- Waiting is not counted, begun or not.
+waiting-unbegun : asked widest (steps 0 StepAnswer.Waiting ∷ []) ≡ true
+unfolding opened
+waiting-unbegun = refl
+
+-- ---- A reply to a call of another kind is wrong, and counts nothing
+
+module _ (w : ℕ → Option Counted) (most : Operation → ℕ) (q k : ℕ) (o : Operation) (b : BeginAnswer) (s : StepAnswer) (d : WithdrawAnswer) where
+  abbrev toOthers : {A : Type 0} → (Call → Reply → A) → List A
+  toOthers f =
+      f (beginFor q o k) (toStep s) ∷ f (beginFor q o k) (toWithdraw d) ∷ f (stepFor q) (toBegin b) ∷ f (stepFor q) (toWithdraw d) ∷ f (withdrawFor q) (toBegin b) ∷ f (withdrawFor q) (toStep s)
+      ∷ []
+
+  pub others-wrong : toOthers (callBounded w) ≡ replicate 6 false
+  unfolding callBounded
+  others-wrong = refl
+
+  pub others-uncounted : toOthers (countedAfter most w) ≡ replicate 6 w
+  unfolding countedAfter
+  others-uncounted = refl
