@@ -5,7 +5,7 @@ pub mod Links
 pub mod Merges
 pub mod Events
 pub mod Calls
-pub mod Parties
+pub mod Singly
 pub mod Reads
 pub mod Yardstick
 pub mod Orders
