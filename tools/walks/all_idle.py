@@ -14,7 +14,7 @@ all_idle = Function(
     ['In each turn the row is looked into by a copy of the reference, record i is copied out of it, and it is shut again; then',
      '`records::is_zero` is called with the record.'],
     ['use Rattle.model.specs.Records as Records', 'use Rattle.model.specs.TakeUp.{isZeroRecord, allIdle}',
-     'use CRATE.Ends.{place-fits}', 'use Rattle.calls.proofs.TakingUp.{idleFrom, idle-more, idle-all}'],
+     'use Rattle.stores.proofs.Ends.{place-fits}', 'use Rattle.calls.proofs.TakingUp.{idleFrom, idle-more, idle-all}'],
     [PARTY])
 OF_LOCALS = [e for k in range(LOCALS - 1, -1, -1) for e in (f'L{k}', f'D{k}')]
 TYPES = {0: 'tyBool', 1: 'slice', 2: 'tyBool', 3: '(tyInt w64)', 4: '(tyInt w64)', 5: 'tyBool', 6: 'tyPtr', 7: 'P′.mir'}

@@ -12,7 +12,7 @@ bead_take_up = Function(
     'bead', 'bead_take_up', [root, row, locks, pages], U32, [take_up, reply], 6,
     lambda r, last: f'called {r} (lent h ps ls gs) ≡ numbered takeUpRefusal (takeUpCall (lent h ps ls gs))',
     ['All that is lent is passed on to `index::take_up`, and its answer is turned into a number.'],
-    ['use Rattle.model.specs.TakeUp.{takeUpCall}', 'use Rattle.model.specs.Calls.{called}', 'use Rattle.calls.specs.Lent.{lent}', 'use Rattle.index.specs.Answered.{takeUpRefusal}',
+    ['use Rattle.model.specs.TakeUp.{takeUpCall}', 'use Rattle.model.specs.Calls.{called}', 'use Rattle.calls.specs.Lent.{lent}', 'use Rattle.theory.specs.Made.{takeUpRefusal}',
      'use SPECS.Numbers.{numbered}', 'use CRATE.Ends.{answered}'],
     [ROOT, PARTY, TAKE_UP_ANSWER])
 

@@ -9,7 +9,7 @@ core = Callee('core', 'calls', 'begin',
               [Plain(ROOT, 'h', 'is', assumed=True), Plain(PARTY, 'p', 'ip', assumed=True),
                count('length ps', row.room), count('length ls', locks.room), count('length gs', pages.room), i, operation, key], BEGUN,
               lambda x, given, ends: f'BeginSaid h {given[0]} (length ps) (length ls) (length gs) i o key {x}', variables=[('p', 'Party')])
-test = Callee('test', 'index', 'is_begun', [Plain(BEGIN_ANSWER, 'answer', 'ia', assumed=True)], BOOL,
+test = Callee('test', 'marks', 'is_begun', [Plain(BEGIN_ANSWER, 'answer', 'ia', assumed=True)], BOOL,
               lambda x, given, ends: f'{x} ≡ isBegun {given[0]}', variables=[('answer', 'BeginAnswer')])
 idle = Callee('idle', 'records', 'idle', [], PARTY, lambda x, given, ends: f'{x} ≡ Records.idle')
 begin = Function(
@@ -20,8 +20,8 @@ begin = Function(
      'end `calls::begin` is called with the zero record, and the row stays as it is. Of the lock words and the page words only the',
      'lengths are read.'],
     ['use Rattle.model.specs.Records as Records', 'use Rattle.model.specs.Memory.{partyAt}', 'use Rattle.model.specs.Calls.{called, beginCall}',
-     'use Rattle.calls.specs.Lent.{lent}', 'use lib.Seq.{set-getD}', 'use SPECS.Answered.{isBegun}',
-     'use CRATE.Ends.{place-fits, wide-fits, BeginSaid, begin-inside, begin-refused, begin-past}'],
+     'use Rattle.calls.specs.Lent.{lent}', 'use lib.Seq.{set-getD}', 'use Rattle.marks.specs.Answered.{isBegun}',
+     'use Rattle.stores.proofs.Ends.{place-fits}', 'use CRATE.Ends.{wide-fits, BeginSaid, begin-inside, begin-refused, begin-past}'],
     [ROOT, PARTY, OPERATION, BEGIN_ANSWER, BEGUN])
 
 

@@ -13,7 +13,7 @@ USES = '''use Rattle.model.specs.declared.Party.{Party}
 use Rattle.model.specs.Records.{idle}
 use Rattle.model.proofs.Party as P
 use Rattle.model.proofs.Party.Laws as P′
-use Rattle.index.proofs.Ends.{place-fits}
+use Rattle.stores.proofs.Ends.{place-fits}
 use Rattle.calls.proofs.Filled.{filled, fill-more, length-filled, filled-all}
 use Rattle.index.proofs.fill.Key.{name as #index·fill}
 use Rattle.index.proofs.fill as it

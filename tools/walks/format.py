@@ -7,7 +7,7 @@ root, row, locks, pages = memory('opened', 'passed on', 'passed on')
 sizes = Plain(SIZES, 'z', 'iz')
 core = Callee('core', 'calls', 'format', [Plain(ROOT, 'h', 'is', assumed=True), sizes, count('length ps', row.room), locks, pages], FORMATTED,
               lambda x, given, ends: f'FormatSaid h z (length ps) ls gs {x} {" ".join(ends)}')
-test = Callee('test', 'index', 'is_formatted', [Plain(FORMAT_ANSWER, 'answer', 'ia', assumed=True)], BOOL,
+test = Callee('test', 'marks', 'is_formatted', [Plain(FORMAT_ANSWER, 'answer', 'ia', assumed=True)], BOOL,
               lambda x, given, ends: f'{x} ≡ isFormatted {given[0]}', variables=[('answer', 'FormatAnswer')])
 idle = Callee('idle', 'records', 'idle', [], PARTY, lambda x, given, ends: f'{x} ≡ Records.idle')
 fill = Callee('fill', 'index', 'fill', [row, Plain(PARTY, 'p₀', 'ip', assumed=True)], UNIT,
@@ -19,7 +19,7 @@ format = Function(
      'formatted, the row is passed on for good to `fill`; else it stays as it is. The lock words and the page words are passed',
      'on for good.'],
     ['use Rattle.model.specs.Records as Records', 'use Rattle.model.specs.Calls.{called}', 'use Rattle.calls.specs.Lent.{lent}',
-     'use SPECS.Answered.{isFormatted}', 'use CRATE.Ends.{formatWith, FormatSaid, format-made, format-refused}'],
+     'use Rattle.marks.specs.Answered.{isFormatted}', 'use CRATE.Ends.{formatWith, FormatSaid, format-made, format-refused}'],
     [ROOT, PARTY, SIZES, FORMAT_ANSWER, FORMATTED])
 
 

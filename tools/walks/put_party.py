@@ -1,4 +1,4 @@
-"""The walk of `index::put_party`: words of a party's record stored by a mark."""
+"""The walk of `stores::put_party`: words of a party's record stored by a mark."""
 from function import Body, Function
 from fielded import CHANGED, LOCATED, PARTY_FIELDS, mark_tags, party_fields
 from rows import MARK, PARTY
@@ -8,12 +8,12 @@ row = Lent('MutSlice', PARTY, 0, 'ps', stays=True)
 i, y, m = Plain(USIZE, 'i', '(refl, i-fits)'), Plain(PARTY, 'y', 'iy'), Plain(MARK, 'm', 'im')
 idle = Callee('idle', 'records', 'idle', [], PARTY, lambda x, given, ends: f'{x} ≡ Records.idle')
 put = Function(
-    'index', 'put_party', [row, i, y, m], UNIT, [idle], 23,
+    'stores', 'put_party', [row, i, y, m], UNIT, [idle], 23,
     lambda r, last: f'{last[0]} ≡ set ps i (partyBy m (partyAt ps i) y)',
     ['The row\'s borrow is opened and the record taken out; by the mark nothing is stored, or four words, or the zero record, or',
      'seven words; the borrow is closed.'],
-    ['use Rattle.model.specs.Records as Records', 'use Rattle.model.specs.Memory.{partyAt}', 'use SPECS.Marks.{locatedIn, changedIn, partyBy}',
-     'use CRATE.Ends.{place-fits, set-past}', 'use CRATE.Stored.{tagOf, party-by}'],
+    ['use Rattle.model.specs.Records as Records', 'use Rattle.model.specs.Memory.{partyAt}', 'use Rattle.marks.specs.Marks.{locatedIn, changedIn, partyBy}',
+     'use CRATE.Ends.{place-fits, set-past}', 'use CRATE.Tags.{tagOf, party-by}'],
     [party_fields, mark_tags])
 INSIDE, P = '(ltb→lt i (length ps) may)', '(partyAt ps i)'
 

@@ -1,4 +1,4 @@
-"""The walk of `index::put_root`: words of the root stored by a mark."""
+"""The walk of `stores::put_root`: words of the root stored by a mark."""
 from function import Body, Function
 from fielded import MOVED, ROOT_FIELDS, mark_tags, root_fields
 from rows import MARK, ROOT
@@ -7,10 +7,10 @@ from shapes import Lent, Plain, U32, UNIT
 root = Lent('MutRef', ROOT, 0, 'h', stays=True)
 y, m = Plain(ROOT, 'y', 'iy'), Plain(MARK, 'm', 'im')
 put = Function(
-    'index', 'put_root', [root, y, m], UNIT, [], 4,
+    'stores', 'put_root', [root, y, m], UNIT, [], 4,
     lambda r, last: f'{last[0]} ≡ rootBy m h y',
     ['The root\'s borrow is opened; where the mark asks for it, four words are stored; the borrow is closed.'],
-    ['use SPECS.Marks.{movedIn, rootBy}', 'use CRATE.Stored.{tagOf, root-kept, root-moved}'],
+    ['use Rattle.marks.specs.Marks.{movedIn, rootBy}', 'use CRATE.Tags.{tagOf, root-kept, root-moved}'],
     [root_fields, mark_tags])
 
 

@@ -10,11 +10,11 @@ INSIDE, P = '(ltb→lt i (length ps) may)', '(partyAt ps i)'
 core = Callee('core', 'calls', 'step',
               [Plain(ROOT, 'h', 'is', assumed=True), Plain(PARTY, 'p', 'ip', assumed=True), count('length ps', row.room), i, locks, pages], STEPPED,
               lambda x, given, ends: f'StepSaid h {given[0]} (length ps) i ls gs {x} {" ".join(ends)}', variables=[('p', 'Party')])
-mark = Callee('mark', 'index', 'marked', [Plain(U32, 'k', 'ik', assumed=True), Plain(STEP_ANSWER, 'answer', 'ia', assumed=True)], MARK,
+mark = Callee('mark', 'marks', 'marked', [Plain(U32, 'k', 'ik', assumed=True), Plain(STEP_ANSWER, 'answer', 'ia', assumed=True)], MARK,
               lambda x, given, ends: f'{x} ≡ markOf {given[0]} {given[1]}', variables=[('k', 'ℕ'), ('answer', 'StepAnswer')])
-put_root = Callee('put-root', 'index', 'put_root', [root, Plain(ROOT, 'r', 'ir', assumed=True), Plain(MARK, 'm', 'im', assumed=True)], UNIT,
+put_root = Callee('put-root', 'stores', 'put_root', [root, Plain(ROOT, 'r', 'ir', assumed=True), Plain(MARK, 'm', 'im', assumed=True)], UNIT,
                   lambda x, given, ends: f'{ends[0]} ≡ rootBy {given[1]} h {given[0]}', variables=[('r', 'Root'), ('m', 'Mark')])
-put_party = Callee('put-party', 'index', 'put_party',
+put_party = Callee('put-party', 'stores', 'put_party',
                    [row, Plain(USIZE, 'i', '(refl, wide-fits i i-fits)'), Plain(PARTY, 'p', 'ip', assumed=True), Plain(MARK, 'm', 'im', assumed=True)], UNIT,
                    lambda x, given, ends: f'{ends[0]} ≡ set ps i (partyBy {given[1]} {P} {given[0]})', variables=[('p', 'Party'), ('m', 'Mark')])
 beyond = Callee('beyond', 'calls', 'step_past',
@@ -28,8 +28,8 @@ step = Function(
      'and row to `put_root` and `put_party`, with the mark of the step\'s number and answer. Past the row\'s end `calls::step_past` is',
      'called, which is lent nothing, and all that the function is lent stays as it is.'],
     ['use Rattle.model.specs.Records as Records', 'use Rattle.model.specs.Memory.{partyAt}', 'use Rattle.model.specs.Calls.{called, stepCall}',
-     'use Rattle.calls.specs.Lent.{lent}', 'use lib.Seq.{set-getD}', 'use SPECS.Marks.{markOf, rootBy, partyBy}',
-     'use CRATE.Ends.{place-fits, wide-fits, StepSaid, PastSaid, step-past}', 'use CRATE.Marks.{step-stored}'],
+     'use Rattle.calls.specs.Lent.{lent}', 'use lib.Seq.{set-getD}', 'use Rattle.marks.specs.Marks.{markOf, rootBy, partyBy}',
+     'use Rattle.stores.proofs.Ends.{place-fits}', 'use CRATE.Ends.{wide-fits, StepSaid, PastSaid, step-past}', 'use CRATE.Stored.{step-stored}'],
     [ROOT, party_step, STEP_ANSWER, MARK, STEPPED])
 
 

@@ -19,7 +19,7 @@ withdraw = Function(
      'lock words and the page words are passed on for good. Past the row\'s end `calls::withdraw_past` is called, which is lent nothing,',
      'and all that the function is lent stays as it is.'],
     ['use Rattle.model.specs.Records as Records', 'use Rattle.model.specs.Memory.{partyAt}', 'use Rattle.model.specs.Calls.{called, withdrawCall}',
-     'use Rattle.calls.specs.Lent.{lent}', 'use CRATE.Ends.{place-fits, wide-fits, WithdrawSaid, PastWithdrawSaid, withdraw-inside, withdraw-past}'],
+     'use Rattle.calls.specs.Lent.{lent}', 'use Rattle.stores.proofs.Ends.{place-fits}', 'use CRATE.Ends.{wide-fits, WithdrawSaid, PastWithdrawSaid, withdraw-inside, withdraw-past}'],
     [ROOT, PARTY, WITHDRAW_ANSWER, WITHDRAWN])
 
 

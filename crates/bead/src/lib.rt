@@ -1,15 +1,15 @@
 // The public calls for Rust and C: the calls of `index`, with numbers for what they are given and answer, since no enum crosses.
 // A lent record goes in as a pointer to a #[repr(C)] struct of words, nine for the root and ten for a party, a slice as a pointer and a length.
-// Main statements: bead_format, bead_begin, bead_step and bead_withdraw answer the numbers of what the model's calls
-// answer, and leave in every lent word what those leave, for all words, numbers and lengths.
+// Main statements: bead_format, bead_begin, bead_step, bead_withdraw and bead_take_up answer the numbers of what the
+// model's calls answer, and leave in every lent word what those leave, for all words, numbers and lengths. What a caller
+// has of a run of them: specs/TheCalls.antt.
 
 ghost use mathlib.Core.Path.{_≡_};
 ghost use Rattle.model.specs.Answers.{answerNumber, settingFound, restructuringNumber, beginRefusal, withdrawRefusal, formatRefusal};
-ghost use Rattle.model.specs.Calls.{called, formatCall, stepCall, withdrawCall};
-ghost use Rattle.model.specs.TakeUp.{takeUpCall};
 ghost use Rattle.calls.specs.Lent.{lent};
-ghost use Rattle.index.specs.Answered.{takeUpRefusal};
-ghost use Rattle.bead.specs.Numbers.{sizesOf, operationOf, isOperation, replyOf, numbered, beginNumbered};
+ghost use Rattle.theory.specs.Made.{takeUpRefusal};
+ghost use Rattle.bead.specs.Numbers.{sizesOf, operationOf, isOperation, replyOf};
+ghost use Rattle.bead.specs.TheCalls.{BeadFormatted, BeadBegun, BeadStepped, BeadWithdrew, BeadLooked};
 use model::ABSENT;
 use model::BeginAnswer;
 use model::DELETE;
@@ -209,7 +209,7 @@ pub extern "C" fn bead_format(
     v: u32,
     q: u32,
 ) -> u32
-    ensures { λ r. ⌜ called r (lent (now (root .exit)) (now (parties .exit)) (now (locks .exit)) (now (pages .exit))) ≡ numbered formatRefusal (formatCall (lent (now (root .entry)) (now (parties .entry)) (now (locks .entry)) (now (pages .entry))) n b p v q) ⌝ }
+    ensures { λ r. ⌜ BeadFormatted (lent (now (root .entry)) (now (parties .entry)) (now (locks .entry)) (now (pages .entry))) n b p v q r (lent (now (root .exit)) (now (parties .exit)) (now (locks .exit)) (now (pages .exit))) ⌝ }
 {
     let answer = index::format(root, parties, locks, pages, sizes_of(n, b, p, v, q));
     format_number(answer)
@@ -227,7 +227,7 @@ pub extern "C" fn bead_begin(
     key: u32,
     setting: u32,
 ) -> u32
-    ensures { λ r. ⌜ called r (lent (now (root .entry)) (now (parties .exit)) (now (locks .entry)) (now (pages .entry))) ≡ beginNumbered (lent (now (root .entry)) (now (parties .entry)) (now (locks .entry)) (now (pages .entry))) q operation key setting ⌝ }
+    ensures { λ r. ⌜ BeadBegun (lent (now (root .entry)) (now (parties .entry)) (now (locks .entry)) (now (pages .entry))) q operation key setting r (lent (now (root .entry)) (now (parties .exit)) (now (locks .entry)) (now (pages .entry))) ⌝ }
 {
     if is_operation(operation) {
         let answer = index::begin(
@@ -254,7 +254,7 @@ pub extern "C" fn bead_step(
     pages: &mut [u32],
     q: u32,
 ) -> BeadReply
-    ensures { λ r. ⌜ called r (lent (now (root .exit)) (now (parties .exit)) (now (locks .exit)) (now (pages .exit))) ≡ numbered replyOf (stepCall (lent (now (root .entry)) (now (parties .entry)) (now (locks .entry)) (now (pages .entry))) q) ⌝ }
+    ensures { λ r. ⌜ BeadStepped (lent (now (root .entry)) (now (parties .entry)) (now (locks .entry)) (now (pages .entry))) q r (lent (now (root .exit)) (now (parties .exit)) (now (locks .exit)) (now (pages .exit))) ⌝ }
 {
     let answer = index::step(root, parties, locks, pages, q);
     reply_of(answer)
@@ -269,7 +269,7 @@ pub extern "C" fn bead_withdraw(
     pages: &mut [u32],
     q: u32,
 ) -> u32
-    ensures { λ r. ⌜ called r (lent (now (root .exit)) (now (parties .exit)) (now (locks .exit)) (now (pages .exit))) ≡ numbered withdrawRefusal (withdrawCall (lent (now (root .entry)) (now (parties .entry)) (now (locks .entry)) (now (pages .entry))) q) ⌝ }
+    ensures { λ r. ⌜ BeadWithdrew (lent (now (root .entry)) (now (parties .entry)) (now (locks .entry)) (now (pages .entry))) q r (lent (now (root .exit)) (now (parties .exit)) (now (locks .exit)) (now (pages .exit))) ⌝ }
 {
     let answer = index::withdraw(root, parties, locks, pages, q);
     withdraw_number(answer)
@@ -288,7 +288,7 @@ fn take_up_number(answer: TakeUpAnswer) -> u32
 // Take up a saved file: the number of the refusal, or 0.
 #[no_mangle]
 pub extern "C" fn bead_take_up(root: &Root, parties: &[Party], locks: &[u32], pages: &[u32]) -> u32
-    ensures { λ r. ⌜ called r (lent (now (root .entry)) (now (parties .entry)) (now (locks .entry)) (now (pages .entry))) ≡ numbered takeUpRefusal (takeUpCall (lent (now (root .entry)) (now (parties .entry)) (now (locks .entry)) (now (pages .entry)))) ⌝ }
+    ensures { λ r. ⌜ BeadLooked (lent (now (root .entry)) (now (parties .entry)) (now (locks .entry)) (now (pages .entry))) r (lent (now (root .entry)) (now (parties .entry)) (now (locks .entry)) (now (pages .entry))) ⌝ }
 {
     let answer = index::take_up(root, parties, locks, pages);
     take_up_number(answer)

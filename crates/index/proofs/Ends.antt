@@ -4,7 +4,7 @@
 use mathlib.Core.Path.{_≡_, refl, sym, _∙_, ap, subst}
 use mathlib.Core.Bool.{Bool, not}
 use mathlib.Core.List.{List}
-use Prim.Native.Nat.{ℕ, _<_, _≤_, _*_, _^_}
+use Prim.Native.Nat.{ℕ, _<_, _≤_, _^_}
 use native.Mathlib.Omega.{arith}
 use lib.Dec.{T}
 use lib.ListN.{length, set, replicate}
@@ -28,21 +28,13 @@ use Rattle.calls.specs.declared.Formatted.{Formatted}
 use Rattle.calls.specs.declared.Begun.{Begun}
 use Rattle.calls.specs.declared.Withdrawn.{Withdrawn}
 use Rattle.calls.specs.Lent.{lent, rowAfter, leftByFormat, leftByBegin, leftByStep, leftByWithdraw}
-use Rattle.calls.proofs.Calling.{put-back}
 use Rattle.theory.proofs.Alters.{begin-alters}
-use Rattle.index.specs.Answered.{isFormatted, isBegun}
-
--- The place of a record of ten words, 40 bytes, does not wrap.
-pub place-fits : (i n : ℕ) → i < n → n * 40 < 2 ^ 63 → i * 40 < 2 ^ 64
-place-fits i n l r = omega (arith, l, r)
+use Rattle.marks.specs.Answered.{isFormatted, isBegun}
+use Rattle.stores.proofs.Ends.{set-past}
 
 -- A word fits an index.
 pub wide-fits : (i : ℕ) → i < 2 ^ 32 → i < 2 ^ 64
 wide-fits i l = omega (arith, l)
-
--- A store past the row's end changes nothing.
-pub set-past : (row : List Party) (i : ℕ) (p : Party) → length row ≤ i → set row i p ≡ row
-set-past row i p past = put-back row i p (λ h. absurd (omega (arith, h, past)))
 
 -- ---- What the calls over values say
 

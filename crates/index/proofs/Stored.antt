@@ -1,46 +1,57 @@
--- What an arm of a match on a mark is told: the mark's place among the variants, and so what is stored by it.
--- Main statements: tagOf; party-by, root-kept, root-moved.
-use mathlib.Core.Path.{_≡_, refl, sym, ap, _∙_}
-use mathlib.Core.Logic.{_⊎_, inl, inr}
-use Prim.Native.Nat.{ℕ, zero, suc}
+-- The equation of a step's call, where of both records only the words are stored that the step's mark names.
+-- Main statements: step-stored.
+use mathlib.Core.Path.{_≡_, refl, sym, ap, _∙_, subst}
+use mathlib.Core.List.{List}
+use Prim.Native.Nat.{ℕ, _<_}
+use lib.ListN.{length, set}
 use Rattle.model.specs.declared.Root.{Root}
 use Rattle.model.specs.declared.Party.{Party}
-use Rattle.index.specs.declared.Mark.{Mark}
-use Rattle.index.specs.declared.Mark.the-variants as Mark
-use Rattle.index.specs.Marks.{movedIn, rootBy, partyBy}
+use Rattle.model.specs.declared.StepAnswer.{StepAnswer}
+use Rattle.model.specs.declared.Stepped.{Stepped}
+use Rattle.model.specs.Steps.Dispatch.{stepOf}
+use Rattle.model.specs.Memory.{Memory, partyAt, viewOf}
+use Rattle.model.specs.Calls.{Called, called, stepped, stepCall}
+use Rattle.model.proofs.Effects.Kept.{row-same}
+use Rattle.theory.proofs.Alters.{Tested, turned-away, let-through, tested}
+use Rattle.calls.specs.Lent.{lent}
+use Rattle.marks.specs.declared.Mark.{Mark}
+use Rattle.marks.specs.Marks.{markOf, rootBy, partyBy}
+use Rattle.marks.proofs.Marks.{Leaves, step-marked}
+use Rattle.index.proofs.Ends.{StepSaid, step-inside}
 
--- The place of a mark among the variants, and the mark at a place.
-abbrev pub tagOf : Mark → ℕ
-tagOf Mark.Kept = 0
-tagOf Mark.Located = 1
-tagOf Mark.Ended = 2
-tagOf Mark.Changed = 3
+module _ (r : Root) (ps : List Party) (ls gs : List ℕ) (q : ℕ) (inside : q < length ps) (x : Stepped) (ls′ gs′ : List ℕ)
+    (said : StepSaid r (partyAt ps q) (length ps) q ls gs x ls′ gs′) where
+  abbrev m : Memory
+  m = lent r ps ls gs
 
-abbrev pub markAt : ℕ → Mark
-markAt zero = Mark.Kept
-markAt (suc zero) = Mark.Located
-markAt (suc (suc zero)) = Mark.Ended
-markAt (suc (suc (suc n))) = Mark.Changed
+  abbrev p : Party
+  p = partyAt ps q
 
-at-tag : (m : Mark) → markAt (tagOf m) ≡ m
-at-tag Mark.Kept = refl
-at-tag Mark.Located = refl
-at-tag Mark.Ended = refl
-at-tag Mark.Changed = refl
+  abbrev Left : Root → List Party → Called StepAnswer
+  Left r′ ps′ = called (x .answer) (lent r′ ps′ ls′ gs′)
 
-mark-is : (m : Mark) (n : ℕ) → tagOf m ≡ n → markAt n ≡ m
-mark-is m n e = sym (ap markAt e) ∙ at-tag m
+  -- What the call over values left of both records, from what the call comes to.
+  core-marked : Leaves r p (p .step) (x .answer) (x .root) (x .party)
+  unfolding stepped
+  core-marked = go (tested m q)
+    where
+      carried : (c : Called StepAnswer) → stepCall m q ≡ c → (p′ : Party) → partyAt (c .memory .parties) q ≡ p′
+          → Leaves r p (p .step) (c .answer) (c .memory .root) p′ → Leaves r p (p .step) (x .answer) (x .root) (x .party)
+      carried c e p′ has l =
+          let left = step-inside r ps ls gs q x ls′ gs′ said ∙ e in
+          let party = sym (row-same ps q (x .party) inside) ∙ ap (λ (y : Called StepAnswer). partyAt (y .memory .parties) q) left ∙ has in
+          rw (ap (λ (y : Called StepAnswer). y .answer) left, ap (λ (y : Called StepAnswer). y .memory .root) left, party) l
 
-pub party-by : (m : Mark) (n : ℕ) → tagOf m ≡ n → (p y : Party) → partyBy (markAt n) p y ≡ partyBy m p y
-party-by m n e p y = ap (λ (j : Mark). partyBy j p y) (mark-is m n e)
+      go : Tested m q → Leaves r p (p .step) (x .answer) (x .root) (x .party)
+      go (turned-away n e) = carried _ e p refl (record { root= = refl; party= = refl })
+      go (let-through _ e) =
+          let marked = step-marked (p .step) (viewOf m q) in
+          let p′ = stepOf (p .step) (viewOf m q) .after .party in
+          carried _ e p′ (subst (λ (i : ℕ). partyAt (set ps i p′) q ≡ p′) (sym (marked .number=)) (row-same ps q p′ inside)) (marked .leaves)
 
-root-by : (m : Mark) (n : ℕ) → tagOf m ≡ n → (r y : Root) → rootBy (markAt n) r y ≡ rootBy m r y
-root-by m n e r y = ap (λ (j : Mark). rootBy j r y) (mark-is m n e)
-
-pub root-kept : (m : Mark) (r y : Root) → (tagOf m ≡ 0) ⊎ (tagOf m ≡ 1) → r ≡ rootBy m r y
-root-kept m r y (inl e) = root-by m 0 e r y
-root-kept m r y (inr e) = root-by m 1 e r y
-
-pub root-moved : (m : Mark) (r y : Root) → (tagOf m ≡ 2) ⊎ (tagOf m ≡ 3) → movedIn r y ≡ rootBy m r y
-root-moved m r y (inl e) = root-by m 2 e r y
-root-moved m r y (inr e) = root-by m 3 e r y
+  pub step-stored : (k : Mark) → k ≡ markOf (p .step) (x .answer) → (r′ : Root) (ps′ : List Party) → r′ ≡ rootBy k r (x .root)
+      → ps′ ≡ set ps q (partyBy k (partyAt ps q) (x .party)) → called (x .answer) (lent r′ ps′ ls′ gs′) ≡ stepCall (lent r ps ls gs) q
+  step-stored k told r′ ps′ er ep =
+      ap (λ (y : Root). Left y ps′) (er ∙ ap (λ (j : Mark). rootBy j r (x .root)) told ∙ core-marked .root=)
+      ∙ ap (λ (y : List Party). Left (x .root) y) (ep ∙ ap (λ (j : Mark). set ps q (partyBy j p (x .party))) told ∙ ap (set ps q) (core-marked .party=))
+      ∙ step-inside r ps ls gs q x ls′ gs′ said

@@ -2,32 +2,22 @@
 -- the other on memory that nothing else changes. Read this file first.
 -- What is said of one call is the equation of that function's contract. What is said of a run is the demands of document
 -- 01, of the very events and memory that the functions made.
--- Main definitions: Formatted and Looked (a call of `format`, of `take_up`), Opened (the two ways into a run); Made (one
--- call), Ran (a list of calls, with looks by `take_up` among them); StartRight (what holds once a way in was taken),
--- FormatRight (what format gives beside it), looksRight (what every look answered), IndexRight (what holds after every
--- list of calls). The theorems are proofs/TheIndex.antt.
+-- Main definitions: StartRight (what holds once a way into a run was taken), FormatRight (what format gives beside it),
+-- IndexRight (what holds after every list of calls); Opened, Made and Ran, which they speak of, are those of
+-- crates/theory/specs/Made.antt. The theorems are proofs/TheIndex.antt; what a caller reads off them, proofs/ForCallers.antt.
 use mathlib.Core.Path.{_≡_}
-use mathlib.Core.Bool.{Bool, true, cond, _&&_}
-use mathlib.Core.List.{List, [], _∷_}
+use mathlib.Core.Bool.{true}
+use mathlib.Core.List.{List, []}
 use Prim.Native.Nat.{ℕ, _<_}
-use lib.Dec.{eqb}
-use Rattle.model.specs.declared.Operation.{Operation}
 use Rattle.model.specs.declared.FileSizes.{FileSizes}
-use Rattle.model.specs.declared.FormatAnswer.the-variants as FormatAnswer
-use Rattle.model.specs.declared.BeginAnswer.{BeginAnswer}
-use Rattle.model.specs.declared.StepAnswer.{StepAnswer}
-use Rattle.model.specs.declared.WithdrawAnswer.{WithdrawAnswer}
-use Rattle.model.specs.declared.TakeUpAnswer.{TakeUpAnswer}
-use Rattle.model.specs.declared.TakeUpAnswer.the-variants as TakeUpAnswer
 use Rattle.model.specs.Records.{rootSized}
-use Rattle.model.specs.Memory.{Memory, partyAt, formatted}
-use Rattle.model.specs.Calls.{called, formatCall, beginCall, stepCall, withdrawCall}
-use Rattle.model.specs.Runs.{Call, beginFor, stepFor, withdrawFor, Reply, toBegin, toStep, toWithdraw, callerOf, Event, events}
-use Rattle.model.specs.Book.{Book, emptyBook, bookAgrees, bookAtEnd}
-use Rattle.model.specs.Progress.{underWay, someBelow, progresses, bookAfterCall}
-use Rattle.model.specs.TakeUp.{recordsSaved, savedBook, takeUpCall, unsavedRefusal}
+use Rattle.model.specs.Memory.{Memory, formatted}
+use Rattle.model.specs.Runs.{Call, Event, events}
+use Rattle.model.specs.Book.{emptyBook, bookAgrees, bookAtEnd}
+use Rattle.model.specs.Progress.{progresses}
+use Rattle.model.specs.TakeUp.{recordsSaved, savedBook}
 use Rattle.theory.specs.Singly.{Wanted, partiesFit}
-use Rattle.theory.specs.Demands.{Sizes, sizesGiven, Start, sizesOf, start, Reached, bookReached, ScheduleRight, GrantsRight, AtRest, RunSingly, ListSingly}
+use Rattle.theory.specs.Demands.{Sizes, sizesGiven, Start, start, Reached, bookReached, ScheduleRight, GrantsRight, AtRest, RunSingly, ListSingly}
 use Rattle.theory.specs.Sequential.{startFile, fileOf}
 use Rattle.theory.specs.Linearization.{Linearization}
 use Rattle.theory.specs.Settings.{FoundsRight}
@@ -35,46 +25,11 @@ use Rattle.theory.specs.Withdrawals.{Restored, WithdrawalsRight}
 use Rattle.theory.specs.FittingMerges.{nothingHad, mergesFit}
 use Rattle.theory.specs.CallsBounded.{CallsRight}
 use Rattle.theory.specs.TakenUp.{alwaysTaken}
-use Rattle.index.specs.Answered.{takeUpRefusal}
-
 -- ---- Calls of the functions
 
--- `format` with the sizes z, on memory m₀, answered formatted and left m.
-abbrev pub Formatted : Memory → FileSizes → Memory → Type 0
-Formatted m₀ z m = called FormatAnswer.Formatted m ≡ formatCall m₀ (z .originals) (z .capacity) (z .primaries) (z .overflow) (z .parties)
-
--- `take_up` on memory m got this answer and left m′.
-abbrev pub Looked : Memory → TakeUpAnswer → Memory → Type 0
-Looked m a m′ = called a m′ ≡ takeUpCall m
-
--- The ways into a run that starts from m: a format answered formatted, or a take-up answered taken up.
-pub data Opened : Memory → Type 0 where
-  by-format : {m : Memory} (m₀ : Memory) (z : FileSizes) → Formatted m₀ z m → Opened m
-  by-take-up : {m : Memory} (m₀ : Memory) → Looked m₀ TakeUpAnswer.TakenUp m → Opened m
-
--- A call of `begin`, `step` or `withdraw` on memory m got this reply and left m′.
-pub data Made : Memory → Call → Reply → Memory → Type 0 where
-  begun : {m m′ : Memory} (q : ℕ) (o : Operation) (k : ℕ) (a : BeginAnswer) → called a m′ ≡ beginCall m q o k → Made m (beginFor q o k) (toBegin a) m′
-  stepped : {m m′ : Memory} (q : ℕ) (a : StepAnswer) → called a m′ ≡ stepCall m q → Made m (stepFor q) (toStep a) m′
-  withdrew : {m m′ : Memory} (q : ℕ) (a : WithdrawAnswer) → called a m′ ≡ withdrawCall m q → Made m (withdrawFor q) (toWithdraw a) m′
-
--- The event of a call made on memory m: the call, the step number of its party's record before it, and the reply.
-abbrev pub happened : Memory → Call → Reply → Event
-happened m c x = record { call = c; number = partyAt (m .parties) (callerOf c) .step; reply = x }
-
--- A list of calls, made one after the other from memory m on, made these events and left m′. Between any two of them
--- the caller may have looked: a call of `take_up` is none of the list, and makes no event.
-pub data Ran : Memory → List Call → List Event → Memory → Type 0 where
-  ended : {m : Memory} → Ran m [] [] m
-  next : {m m′ m″ : Memory} {c : Call} {x : Reply} {cs : List Call} {es : List Event} → Made m c x m′ → Ran m′ cs es m″ → Ran m (c ∷ cs) (happened m c x ∷ es) m″
-  looked : {m m′ m″ : Memory} {a : TakeUpAnswer} {cs : List Call} {es : List Event} → Looked m a m′ → Ran m′ cs es m″ → Ran m cs es m″
-
--- Whether every look of a run was answered taken up where none of n parties was under way, by the book b at its start,
--- and refused 8 where one was.
-unfoldable pub looksRight : {m m′ : Memory} {cs : List Call} {es : List Event} → ℕ → Book → Ran m cs es m′ → Bool
-looksRight n b ended = true
-looksRight n b (next {m} {m′} {m″} {c} {x} {cs} {es} made ran) = looksRight n (bookAfterCall b m c) ran
-looksRight n b (looked {m} {m′} {m″} {a} {cs} {es} look ran) = eqb (takeUpRefusal a) (cond (someBelow n (underWay b)) unsavedRefusal 0) && looksRight n b ran
+-- A call, a way into a run, a list of calls with looks among them, and what looks are to answer.
+pub use Rattle.theory.specs.Made.{Formatted, Looked, Opened, by-format, by-take-up, Made, begun, stepped, withdrew, happened, Ran, ended, next, looked, takeUpRefusal}
+unfoldable pub use Rattle.theory.specs.Made.{looksMade, looksRight}
 
 -- ---- What holds of them
 

@@ -8,13 +8,10 @@
 // and withdrawCall say, for all words and all lengths; there is nothing that a caller must see to.
 
 ghost use mathlib.Core.Path.{_≡_};
-ghost use lib.ListN.{length, replicate, set};
-ghost use Rattle.model.specs.Memory.{partyAt};
+ghost use lib.ListN.{length, replicate};
 ghost use Rattle.model.specs.Calls.{called, formatCall, beginCall, stepCall, withdrawCall};
 ghost use Rattle.model.specs.TakeUp.{allIdle, takeUpCall};
 ghost use Rattle.calls.specs.Lent.{lent};
-ghost use Rattle.index.specs.Answered.{isFormatted, isBegun};
-ghost use Rattle.index.specs.Marks.{markOf, rootBy, partyBy};
 use model::BeginAnswer;
 use model::FileSizes;
 use model::FormatAnswer;
@@ -36,16 +33,6 @@ fn fill(parties: &mut [Party], p: Party)
     }
 }
 
-// Whether format did its work.
-fn is_formatted(answer: FormatAnswer) -> bool
-    ensures { λ r. ⌜ r ≡ isFormatted answer ⌝ }
-{
-    match answer {
-        FormatAnswer::Formatted => true,
-        FormatAnswer::Refused(_) => false,
-    }
-}
-
 // Format with these sizes, N b P V Q.
 pub fn format(
     root: &mut Root,
@@ -59,21 +46,11 @@ pub fn format(
     let former = *root;
     let made = calls::format(former, sizes, parties.len(), locks, pages);
     *root = made.root;
-    if is_formatted(made.answer) {
+    if marks::is_formatted(made.answer) {
         fill(parties, records::idle());
         return made.answer;
     } else {
         return made.answer;
-    }
-}
-
-// Whether begin did its work.
-fn is_begun(answer: BeginAnswer) -> bool
-    ensures { λ r. ⌜ r ≡ isBegun answer ⌝ }
-{
-    match answer {
-        BeginAnswer::Begun => true,
-        BeginAnswer::Refused(_) => false,
     }
 }
 
@@ -102,7 +79,7 @@ pub fn begin(
             operation,
             key,
         );
-        if is_begun(begun.answer) {
+        if marks::is_begun(begun.answer) {
             parties[at] = begun.party;
             return begun.answer;
         } else {
@@ -123,84 +100,6 @@ pub fn begin(
     }
 }
 
-// What a step can have changed of the root and of its party's record.
-enum Mark {
-    // Nothing.
-    Kept,
-    // Step, lev, chain and other of the record.
-    Located,
-    // The record, which is zero then, and level, next, head and free of the root.
-    Ended,
-    // Step to answer of the record, and level, next, head and free of the root.
-    Changed,
-}
-
-// The mark of a step with this number that answered so. Steps 1 to 9 locate.
-fn marked(k: u32, answer: StepAnswer) -> Mark
-    ensures { λ r. ⌜ r ≡ markOf k answer ⌝ }
-{
-    match answer {
-        StepAnswer::Waiting => Mark::Kept,
-        StepAnswer::Moved => { if k < 10 { Mark::Located } else { Mark::Changed } }
-        StepAnswer::Done(_, _) => Mark::Ended,
-        StepAnswer::Refused(_) => Mark::Kept,
-    }
-}
-
-// The words that a step with this mark can have changed of the root are stored, as `r` has them.
-fn put_root(root: &mut Root, r: Root, mark: Mark)
-    ensures { λ _. ⌜ now (root .exit) ≡ rootBy mark (now (root .entry)) r ⌝ }
-{
-    match mark {
-        Mark::Kept | Mark::Located => {
-            return;
-        }
-        Mark::Ended | Mark::Changed => {
-            root.level = r.level;
-            root.next = r.next;
-            root.head = r.head;
-            root.free = r.free;
-            return;
-        }
-    }
-}
-
-// Those of the record at `at` are stored, as `p` has them.
-fn put_party(parties: &mut [Party], at: usize, p: Party, mark: Mark)
-    ensures { λ _. ⌜ now (parties .exit) ≡ set (now (parties .entry)) at (partyBy mark (partyAt (now (parties .entry)) at) p) ⌝ }
-{
-    if at < parties.len() {
-        match mark {
-            Mark::Kept => {
-                return;
-            }
-            Mark::Located => {
-                parties[at].step = p.step;
-                parties[at].lev = p.lev;
-                parties[at].chain = p.chain;
-                parties[at].other = p.other;
-                return;
-            }
-            Mark::Ended => {
-                parties[at] = records::idle();
-                return;
-            }
-            Mark::Changed => {
-                parties[at].step = p.step;
-                parties[at].lev = p.lev;
-                parties[at].chain = p.chain;
-                parties[at].other = p.other;
-                parties[at].old = p.old;
-                parties[at].owed = p.owed;
-                parties[at].answer = p.answer;
-                return;
-            }
-        }
-    } else {
-        return;
-    }
-}
-
 // One step for party q.
 pub fn step(
     root: &mut Root,
@@ -216,9 +115,9 @@ pub fn step(
     if at < parties.len() {
         let party = parties[at];
         let stepped = calls::step(former, party, parties.len(), q, locks, pages);
-        let mark = marked(party.step, stepped.answer);
-        put_root(root, stepped.root, mark);
-        put_party(parties, at, stepped.party, mark);
+        let mark = marks::marked(party.step, stepped.answer);
+        stores::put_root(root, stepped.root, mark);
+        stores::put_party(parties, at, stepped.party, mark);
         return stepped.answer;
     } else {
         return calls::step_past(former, parties.len(), locks.len(), pages.len(), q);

@@ -6,5 +6,7 @@ pub mod Answers
 pub mod Lists
 pub mod Books
 pub mod Memories
+pub mod Causes
+pub mod Steps
 pub mod Files
 pub mod Effects

@@ -32,5 +32,6 @@ pub mod Withdrawals
 pub mod Demands
 pub mod Meanings
 pub mod TakenUp
+pub mod Made
 pub mod Premises
 pub mod Refutations

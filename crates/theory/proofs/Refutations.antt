@@ -2,10 +2,12 @@
 -- differs from it in one place and is called right; and that what stands as a premise is met.
 pub mod Opened
 pub mod Links
+pub mod Traces
 pub mod Merges
 pub mod Events
 pub mod Calls
 pub mod Singly
+pub mod Runs
 pub mod Reads
 pub mod Yardstick
 pub mod Orders

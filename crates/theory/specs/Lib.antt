@@ -12,3 +12,4 @@ pub mod Linearization
 pub mod Settings
 pub mod Withdrawals
 pub mod TakenUp
+pub mod Made

@@ -47,7 +47,7 @@ use Rattle.model.proofs.TakeUpAnswer.Laws as U′
 use Rattle.model.specs.TakeUp.{takeUpCall}
 use Rattle.model.specs.Calls.{called}
 use Rattle.calls.specs.Lent.{lent}
-use Rattle.index.specs.Answered.{takeUpRefusal}
+use Rattle.theory.specs.Made.{takeUpRefusal}
 use Rattle.bead.specs.Numbers.{numbered}
 use Rattle.bead.proofs.Ends.{answered}
 use Rattle.index.proofs.take_up as take-up

@@ -51,7 +51,7 @@ use Rattle.model.proofs.Party as P
 use Rattle.model.proofs.Party.Laws as P′
 use Rattle.model.specs.Records as Records
 use Rattle.model.specs.TakeUp.{isZeroRecord, allIdle}
-use Rattle.index.proofs.Ends.{place-fits}
+use Rattle.stores.proofs.Ends.{place-fits}
 use Rattle.calls.proofs.TakingUp.{idleFrom, idle-more, idle-all}
 use Rattle.records.proofs.is_zero as zero
 use Rattle.records.proofs.is_zero.Symbol as zero-def

@@ -68,16 +68,17 @@ use Rattle.model.specs.Memory.{partyAt}
 use Rattle.model.specs.Calls.{called, beginCall}
 use Rattle.calls.specs.Lent.{lent}
 use lib.Seq.{set-getD}
-use Rattle.index.specs.Answered.{isBegun}
-use Rattle.index.proofs.Ends.{place-fits, wide-fits, BeginSaid, begin-inside, begin-refused, begin-past}
+use Rattle.marks.specs.Answered.{isBegun}
+use Rattle.stores.proofs.Ends.{place-fits}
+use Rattle.index.proofs.Ends.{wide-fits, BeginSaid, begin-inside, begin-refused, begin-past}
 use Rattle.calls.proofs.begin as core
 use Rattle.calls.proofs.begin.Symbol as core-def
 use Rattle.calls.proofs.begin.Symbol.{name as #calls·begin}
 use Rattle.calls.proofs.begin.Met as core-thm
-use Rattle.index.proofs.is_begun as test
-use Rattle.index.proofs.is_begun.Symbol as test-def
-use Rattle.index.proofs.is_begun.Symbol.{name as #index·is-begun}
-use Rattle.index.proofs.is_begun.Met as test-thm
+use Rattle.marks.proofs.is_begun as test
+use Rattle.marks.proofs.is_begun.Symbol as test-def
+use Rattle.marks.proofs.is_begun.Symbol.{name as #marks·is-begun}
+use Rattle.marks.proofs.is_begun.Met as test-thm
 use Rattle.records.proofs.idle as idle
 use Rattle.records.proofs.idle.Symbol as idle-def
 use Rattle.records.proofs.idle.Symbol.{name as #records·idle}
@@ -157,7 +158,7 @@ module _ {M : Type 1} (𝓤 : URA M) (H : Heap 𝓤) (A : Atoms 𝓤) (W : Given
   goes-core p is ip =
       qed W [] ∵ nothing ! $ nothing ! $ owned ! u32 (Is u32) (uint-makes 𝓤 H A W w32) key _ (refl, key-fits) $ fjoin ! $ owned ! O.the-row (Is O.the-row) (EL.makes O.the-type O′.the-plain 𝓤 H A) o _ io $ fjoin ! $ owned ! u32 (Is u32) (uint-makes 𝓤 H A W w32) i _ (refl, i-fits) $ fjoin ! $ owned ! usize (Is usize) (uint-makes 𝓤 H A W w64) (length gs) _ (refl, room₃ .0) $ fjoin ! $ owned ! usize (Is usize) (uint-makes 𝓤 H A W w64) (length ls) _ (refl, room₂ .0) $ fjoin ! $ owned ! usize (Is usize) (uint-makes 𝓤 H A W w64) (length ps) _ (refl, room₁ .0) $ fjoin ! $ owned ! P.the-row (Is P.the-row) (LL.makes P.the-type P′.the-plain 𝓤 H A) p _ ip $ fjoin ! $ owned ! R.the-row (Is R.the-row) (LL.makes R.the-type R′.the-plain 𝓤 H A) h _ is $ fjoin ! $ move ! (1 ∷ 0 ∷ []) $ join ! $ frame ! $ done !
 
-  -- the call of `index::is_begun`: what it is passed, and that it may be entered
+  -- the call of `marks::is_begun`: what it is passed, and that it may be entered
   abbrev test-args : BeginAnswer → BeginAnswer × Unit {0}
   test-args answer = (answer, tt)
 
@@ -187,7 +188,7 @@ module _ {M : Type 1} (𝓤 : URA M) (H : Heap 𝓤) (A : Atoms 𝓤) (W : Given
       suffices ! _ (ends-at 𝓤 H A it.ended stayed (it.clauses 𝓤 H A mem′ run) W (((κ₀, (κ₁, (κ₂, (κ₃, tt)))), (q₀, (q₁, (q₂, (q₃, tt)))), tt, a, vals), tt) (B′.lowered answer) answer (tt, (ps′, (tt, (tt, (tt, (tt, (tt, tt))))))) (tt, (e₁, (tt, (tt, (tt, (tt, (tt, tt)))))))) $ says ! ends $
       nothing ! $ move ! (4 ∷ 0 ∷ []) $ join ! $ move ! (3 ∷ 0 ∷ []) $ join ! $ move ! (2 ∷ 0 ∷ []) $ join ! $ move ! (1 ∷ 0 ∷ []) $ join ! $ frame ! $ move ! (1 ∷ 2 ∷ []) $ fjoin ! $ pureI ! (at-slice P.the-row (record { ptr = (b₁, o₁); name = γ₁; now = ps′ }) (s₁ ∷ [])) (tt, (tt, tt)) (ap (λ (m : ℕ). sliceVal (b₁, o₁) m ∷ []) (sym e₁), subst (Room P.the-row) (sym e₁) room₁) $ fjoin ! $ nothing ! $ owned ! u32 (Is u32) (uint-makes 𝓤 H A W w32) key _ (refl, key-fits) $ fjoin ! $ owned ! O.the-row (Is O.the-row) (EL.makes O.the-type O′.the-plain 𝓤 H A) o _ io $ fjoin ! $ owned ! u32 (Is u32) (uint-makes 𝓤 H A W w32) i _ (refl, i-fits) $ fjoin ! $ move ! (4 ∷ 0 ∷ []) $ fjoin ! $ move ! (3 ∷ 0 ∷ []) $ fjoin ! $ move ! (1 ∷ 0 ∷ []) $ fjoin ! $ move ! (1 ∷ 0 ∷ []) $ fjoin ! $ owned ! B.the-row (Is B.the-row) (EL.makes B.the-type B′.the-plain 𝓤 H A) answer _ is $ move ! (1 ∷ 0 ∷ []) $ done !
 
-  module _ (C : Calls 𝓤 H) (Λ : Loops 𝓤 H) (fm : FmC 𝓤 H (W .laws) C) (known-core : Triple 𝓤 (C #calls·begin) (CoreC 𝓤 H A mem′ run)) (known-test : Triple 𝓤 (C #index·is-begun) (TestC 𝓤 H A mem′ run)) (known-idle : Triple 𝓤 (C #records·idle) (IdleC 𝓤 H A mem′ run)) where
+  module _ (C : Calls 𝓤 H) (Λ : Loops 𝓤 H) (fm : FmC 𝓤 H (W .laws) C) (known-core : Triple 𝓤 (C #calls·begin) (CoreC 𝓤 H A mem′ run)) (known-test : Triple 𝓤 (C #marks·is-begun) (TestC 𝓤 H A mem′ run)) (known-idle : Triple 𝓤 (C #records·idle) (IdleC 𝓤 H A mem′ run)) where
     walk : ent 𝓤 (onEntry 𝓤 H A it.signature (κ₀, (κ₁, (κ₂, (κ₃, tt)))) (q₀, (q₁, (q₂, (q₃, tt)))) a vals) (WpFn 𝓤 H C Λ code.function (vptr b₀ o₀ ∷ s₁ ∷ s₂ ∷ s₃ ∷ vint w32 i ∷ O′.lowered o ∷ vint w32 key ∷ []) Post)
     walk =
         qed W ((‵ (flft κ₀ q₀) ⊛ ‵ (flft κ₁ q₁) ⊛ ‵ (flft κ₂ q₂) ⊛ ‵ (flft κ₃ q₃) ⊛ ‵ ftrue) ∷ ‵ (owns (ShrRef (named 0) κ₀ R.the-row ∷ MutSlice (named 1) κ₁ P.the-row ∷ ShrSlice (named 2) κ₂ u32 ∷ ShrSlice (named 3) κ₃ u32 ∷ u32 ∷ O.the-row ∷ u32 ∷ []) a vals) ∷ []) ∵
@@ -267,7 +268,7 @@ module _ {M : Type 1} (𝓤 : URA M) (H : Heap 𝓤) (A : Atoms 𝓤) (W : Given
         land ! (from ! (stop !)) (init ! 51 refl (LL.lawful X.the-type X′.the-laws 𝓤 H A W .typed x _ ix .0)) $
         rewrite ! 51 (λ (u : Val). ‵ (fat fullShare X′.mir l₁₀ 0 u)) (ap only ((X′.lowers .val-is) x _ ix)) refl $
         drop ! $
-        -- `index::is_begun`
+        -- `marks::is_begun`
         use0 W (raw (TestC 𝓤 H A mem′ run .pre (to-test (x .answer)))) (goes-test (x .answer) (X-answer x ix)) $
         calls-at ! fm (TestC 𝓤 H A mem′ run) known-test (to-test (x .answer)) (and-then ! (load ! (from ! (fld ! refl (stop !))) (look-in ! 51 (sub ! 1 refl (whole !)))) (no-more !)) (λ ret′.
         use1 W (later (some (λ (t : Bool). (‵ ftrue ⊛ ‵ (bool .own t (ret′ ∷ []))) ⊛ raw (ensured 𝓤 H A test.ended (test.clauses 𝓤 H A mem′ run) tt (test-args (x .answer)) tt t)))) (id⊢ 𝓤 _) $ await ! tt $ pick ! (λ t.
@@ -502,7 +503,7 @@ module _ {M : Type 1} (𝓤 : URA M) (H : Heap 𝓤) (A : Atoms 𝓤) (W : Given
         by ! (exits ps (x .answer) refl (X-answer x ix) (begin-past h ps ls gs i o key p x (nltb→le i (length ps) past) said))))))))))))))))))))))))))))))))))))))))))
 
 module _ {M : Type 1} (𝓤 : URA M) (H : Heap 𝓤) (A : Atoms 𝓤) (W : Given 𝓤 H A) (mem′ : Memory → SProp 𝓤) (run : Routine → Fun 𝓤) where
-  walks : (C : Calls 𝓤 H) (Λ : Loops 𝓤 H) → FmC 𝓤 H (W .laws) C → Triple 𝓤 (C #calls·begin) (CoreC 𝓤 H A mem′ run) → Triple 𝓤 (C #index·is-begun) (TestC 𝓤 H A mem′ run) → Triple 𝓤 (C #records·idle) (IdleC 𝓤 H A mem′ run)
+  walks : (C : Calls 𝓤 H) (Λ : Loops 𝓤 H) → FmC 𝓤 H (W .laws) C → Triple 𝓤 (C #calls·begin) (CoreC 𝓤 H A mem′ run) → Triple 𝓤 (C #marks·is-begun) (TestC 𝓤 H A mem′ run) → Triple 𝓤 (C #records·idle) (IdleC 𝓤 H A mem′ run)
       → Walks 𝓤 H A it.ended stayed (WpFn 𝓤 H C Λ code.function) (it.clauses 𝓤 H A mem′ run)
   walks C Λ fm known-core known-test known-idle = walked 𝓤 H A it.ended stayed (it.clauses 𝓤 H A mem′ run) (WpFn 𝓤 H C Λ code.function)
       (λ κs. (ptr-vals, (slice-vals, (slice-vals, (slice-vals, ((uint-vals w32), ((λ d. O′.lowered d ∷ []), ((uint-vals w32), tt))))))))
@@ -513,7 +514,7 @@ module _ {M : Type 1} (𝓤 : URA M) (H : Heap 𝓤) (A : Atoms 𝓤) (W : Given
   goes = (goes-none-ref 𝓤 H A W 4 (0 ∷ []) tt (plain (λ _. R.the-row)) yes, (goes-slice 𝓤 H A W 4 1 tt (plain (λ _. P.the-row)), (goes-none-slice 𝓤 H A W 4 (2 ∷ []) tt (plain (λ _. u32)) yes, (goes-none-slice 𝓤 H A W 4 (3 ∷ []) tt (plain (λ _. u32)) yes, (goes-none 𝓤 H A W 4 (λ _. u32) yes (λ κs x f. refl), (goes-none 𝓤 H A W 4 (λ _. O.the-row) yes (λ κs x f. refl), (goes-none 𝓤 H A W 4 (λ _. u32) yes (λ κs x f. refl), tt)))))))
 
 meets : {M : Type 1} (𝓤 : URA M) (H : Heap 𝓤) (A : Atoms 𝓤) → Given 𝓤 H A → (mem′ : Memory → SProp 𝓤) (run : Routine → Fun 𝓤) (𝓣 : Tables 𝓤 H)
-    → Triple 𝓤 (𝓣 .C #calls·begin) (CoreC 𝓤 H A mem′ run) → Triple 𝓤 (𝓣 .C #index·is-begun) (TestC 𝓤 H A mem′ run) → Triple 𝓤 (𝓣 .C #records·idle) (IdleC 𝓤 H A mem′ run) → Meets 𝓤 H A it.signature (WpFn 𝓤 H (𝓣 .C) (𝓣 .Λ) code.function) (it.spec 𝓤 H A mem′ run)
+    → Triple 𝓤 (𝓣 .C #calls·begin) (CoreC 𝓤 H A mem′ run) → Triple 𝓤 (𝓣 .C #marks·is-begun) (TestC 𝓤 H A mem′ run) → Triple 𝓤 (𝓣 .C #records·idle) (IdleC 𝓤 H A mem′ run) → Meets 𝓤 H A it.signature (WpFn 𝓤 H (𝓣 .C) (𝓣 .Λ) code.function) (it.spec 𝓤 H A mem′ run)
 meets 𝓤 H A W mem′ run 𝓣 known-core known-test known-idle =
     walk-meets 𝓤 H A it.ended stayed W (goes 𝓤 H A W mem′ run) (it.clauses 𝓤 H A mem′ run) (WpFn 𝓤 H (𝓣 .C) (𝓣 .Λ) code.function) (WpFn-mono 𝓤 H (W .laws) 𝓣 code.function)
     (walks 𝓤 H A W mem′ run (𝓣 .C) (𝓣 .Λ) (fmOf 𝓤 H (W .laws) 𝓣) known-core known-test known-idle)
@@ -525,5 +526,5 @@ begin-spec 𝓤 H 𝓜 𝓖 𝓡 =
     (tables 𝓤 H 𝓜 𝓡 code.env .C) (tables 𝓤 H 𝓜 𝓡 code.env .Λ) #index·begin code.function (code.unfolded 𝓤 H 𝓜 𝓡)
     (meets 𝓤 H (𝓖 .A) (givenOf 𝓤 H 𝓜 𝓖) (𝓜 .mem) (𝓡 .run) (tablesOf 𝓤 H 𝓜 (tables 𝓤 H 𝓜 𝓡 code.env))
     (cited 𝓤 H (CoreC 𝓤 H (𝓖 .A) (𝓜 .mem) (𝓡 .run)) 𝓜 𝓡 code.env #calls·begin core-def.routine code.calls-calls·begin (core-thm.met 𝓤 H 𝓜 𝓖 𝓡))
-    (cited 𝓤 H (TestC 𝓤 H (𝓖 .A) (𝓜 .mem) (𝓡 .run)) 𝓜 𝓡 code.env #index·is-begun test-def.routine code.calls-index·is-begun (test-thm.met 𝓤 H 𝓜 𝓖 𝓡))
+    (cited 𝓤 H (TestC 𝓤 H (𝓖 .A) (𝓜 .mem) (𝓡 .run)) 𝓜 𝓡 code.env #marks·is-begun test-def.routine code.calls-marks·is-begun (test-thm.met 𝓤 H 𝓜 𝓖 𝓡))
     (cited 𝓤 H (IdleC 𝓤 H (𝓖 .A) (𝓜 .mem) (𝓡 .run)) 𝓜 𝓡 code.env #records·idle idle-def.routine code.calls-records·idle (idle-thm.met 𝓤 H 𝓜 𝓖 𝓡)))

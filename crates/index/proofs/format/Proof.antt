@@ -62,16 +62,16 @@ use Rattle.calls.proofs.Formatted.Laws as X′
 use Rattle.model.specs.Records as Records
 use Rattle.model.specs.Calls.{called}
 use Rattle.calls.specs.Lent.{lent}
-use Rattle.index.specs.Answered.{isFormatted}
+use Rattle.marks.specs.Answered.{isFormatted}
 use Rattle.index.proofs.Ends.{formatWith, FormatSaid, format-made, format-refused}
 use Rattle.calls.proofs.format as core
 use Rattle.calls.proofs.format.Symbol as core-def
 use Rattle.calls.proofs.format.Symbol.{name as #calls·format}
 use Rattle.calls.proofs.format.Met as core-thm
-use Rattle.index.proofs.is_formatted as test
-use Rattle.index.proofs.is_formatted.Symbol as test-def
-use Rattle.index.proofs.is_formatted.Symbol.{name as #index·is-formatted}
-use Rattle.index.proofs.is_formatted.Met as test-thm
+use Rattle.marks.proofs.is_formatted as test
+use Rattle.marks.proofs.is_formatted.Symbol as test-def
+use Rattle.marks.proofs.is_formatted.Symbol.{name as #marks·is-formatted}
+use Rattle.marks.proofs.is_formatted.Met as test-thm
 use Rattle.records.proofs.idle as idle
 use Rattle.records.proofs.idle.Symbol as idle-def
 use Rattle.records.proofs.idle.Symbol.{name as #records·idle}
@@ -155,7 +155,7 @@ module _ {M : Type 1} (𝓤 : URA M) (H : Heap 𝓤) (A : Atoms 𝓤) (W : Given
   goes-core is =
       qed W ((‵ (flft κ₂ q₂) ⊛ ‵ (flft κ₃ q₃)) ∷ (‵ (MutSlice (named 2) κ₂ u32 .own x₂ (s₂ ∷ [])) ⊛ ‵ (MutSlice (named 3) κ₃ u32 .own x₃ (s₃ ∷ []))) ∷ []) ∵ split ! $ move ! (2 ∷ []) $ split ! $ nothing ! $ move ! (4 ∷ 0 ∷ []) $ join ! $ move ! (3 ∷ 0 ∷ []) $ join ! $ nothing ! $ move ! (3 ∷ 0 ∷ []) $ fjoin ! $ move ! (2 ∷ 0 ∷ []) $ fjoin ! $ owned ! usize (Is usize) (uint-makes 𝓤 H A W w64) (length ps) _ (refl, room₁ .0) $ fjoin ! $ owned ! Z.the-row (Is Z.the-row) (LL.makes Z.the-type Z′.the-plain 𝓤 H A) z _ iz $ fjoin ! $ owned ! R.the-row (Is R.the-row) (LL.makes R.the-type R′.the-plain 𝓤 H A) h _ is $ fjoin ! $ move ! (1 ∷ 0 ∷ []) $ join ! $ frame ! $ done !
 
-  -- the call of `index::is_formatted`: what it is passed, and that it may be entered
+  -- the call of `marks::is_formatted`: what it is passed, and that it may be entered
   abbrev test-args : FormatAnswer → FormatAnswer × Unit {0}
   test-args answer = (answer, tt)
 
@@ -196,7 +196,7 @@ module _ {M : Type 1} (𝓤 : URA M) (H : Heap 𝓤) (A : Atoms 𝓤) (W : Given
       suffices ! _ (ends-at 𝓤 H A it.ended stayed (it.clauses 𝓤 H A mem′ run) W (((κ₀, (κ₁, (κ₂, (κ₃, tt)))), (q₀, (q₁, (q₂, (q₃, tt)))), tt, a, vals), tt) (F′.lowered answer) answer (h′, (ps′, (ls′, (gs′, (tt, tt))))) (tt, (e₁, (e₂, (e₃, (tt, tt)))))) $ says ! ends $
       nothing ! $ move ! (4 ∷ 0 ∷ []) $ join ! $ move ! (3 ∷ 0 ∷ []) $ join ! $ move ! (2 ∷ 0 ∷ []) $ join ! $ move ! (1 ∷ 0 ∷ []) $ join ! $ frame ! $ feqI ! (List Val) (vptr b₀ o₀ ∷ []) (vptr b₀ o₀ ∷ []) refl $ fjoin3 ! $ nothing ! $ owned ! Z.the-row (Is Z.the-row) (LL.makes Z.the-type Z′.the-plain 𝓤 H A) z _ iz $ fjoin ! $ move ! (4 ∷ 0 ∷ []) $ fjoin ! $ move ! (3 ∷ 0 ∷ []) $ fjoin ! $ move ! (2 ∷ 0 ∷ []) $ fjoin ! $ move ! (1 ∷ 0 ∷ []) $ fjoin ! $ owned ! F.the-row (Is F.the-row) (EL.makes F.the-type F′.the-plain 𝓤 H A) answer _ is $ move ! (1 ∷ 0 ∷ []) $ done !
 
-  module _ (C : Calls 𝓤 H) (Λ : Loops 𝓤 H) (fm : FmC 𝓤 H (W .laws) C) (known-core : Triple 𝓤 (C #calls·format) (CoreC 𝓤 H A mem′ run)) (known-test : Triple 𝓤 (C #index·is-formatted) (TestC 𝓤 H A mem′ run)) (known-idle : Triple 𝓤 (C #records·idle) (IdleC 𝓤 H A mem′ run)) (known-fill : Triple 𝓤 (C #index·fill) (FillC 𝓤 H A mem′ run)) where
+  module _ (C : Calls 𝓤 H) (Λ : Loops 𝓤 H) (fm : FmC 𝓤 H (W .laws) C) (known-core : Triple 𝓤 (C #calls·format) (CoreC 𝓤 H A mem′ run)) (known-test : Triple 𝓤 (C #marks·is-formatted) (TestC 𝓤 H A mem′ run)) (known-idle : Triple 𝓤 (C #records·idle) (IdleC 𝓤 H A mem′ run)) (known-fill : Triple 𝓤 (C #index·fill) (FillC 𝓤 H A mem′ run)) where
     walk : ent 𝓤 (onEntry 𝓤 H A it.signature (κ₀, (κ₁, (κ₂, (κ₃, tt)))) (q₀, (q₁, (q₂, (q₃, tt)))) a vals) (WpFn 𝓤 H C Λ code.function (vptr b₀ o₀ ∷ s₁ ∷ s₂ ∷ s₃ ∷ Z′.lowered z ∷ []) Post)
     walk =
         qed W ((‵ (flft κ₀ q₀) ⊛ ‵ (flft κ₁ q₁) ⊛ ‵ (flft κ₂ q₂) ⊛ ‵ (flft κ₃ q₃) ⊛ ‵ ftrue) ∷ ‵ (owns (MutRef (named 0) κ₀ R.the-row ∷ MutSlice (named 1) κ₁ P.the-row ∷ MutSlice (named 2) κ₂ u32 ∷ MutSlice (named 3) κ₃ u32 ∷ Z.the-row ∷ []) a vals) ∷ []) ∵
@@ -287,7 +287,7 @@ module _ {M : Type 1} (𝓤 : URA M) (H : Heap 𝓤) (A : Atoms 𝓤) (W : Given
         owned ! R.the-row (Is R.the-row) (LL.makes R.the-type R′.the-plain 𝓤 H A) (x .root) _ (X-root x ix) $
         move ! (10 ∷ 0 ∷ 11 ∷ 12 ∷ 13 ∷ []) $
         closes ! tt R.the-row (x .root) (R′.lowered (x .root) ∷ []) b₀ o₀ $
-        -- `index::is_formatted`
+        -- `marks::is_formatted`
         use0 W (raw (TestC 𝓤 H A mem′ run .pre (to-test (x .answer)))) (goes-test (x .answer) (X-answer x ix)) $
         calls-at ! fm (TestC 𝓤 H A mem′ run) known-test (to-test (x .answer)) (and-then ! (load ! (from ! (fld ! refl (stop !))) (look-in ! 37 (sub ! 1 refl (whole !)))) (no-more !)) (λ ret′.
         use1 W (later (some (λ (t : Bool). (‵ ftrue ⊛ ‵ (bool .own t (ret′ ∷ []))) ⊛ raw (ensured 𝓤 H A test.ended (test.clauses 𝓤 H A mem′ run) tt (test-args (x .answer)) tt t)))) (id⊢ 𝓤 _) $ await ! tt $ pick ! (λ t.
@@ -437,7 +437,7 @@ module _ {M : Type 1} (𝓤 : URA M) (H : Heap 𝓤) (A : Atoms 𝓤) (W : Given
         by ! (exits (x .root) ps (zs .1 .1 .1 .0) (zs .1 .1 .1 .1 .0) (x .answer) refl e₂ e₃ (X-answer x ix) (format-refused h ps ls gs z x _ _ t told refused said)))))))))))))))))))))))))))))))))))
 
 module _ {M : Type 1} (𝓤 : URA M) (H : Heap 𝓤) (A : Atoms 𝓤) (W : Given 𝓤 H A) (mem′ : Memory → SProp 𝓤) (run : Routine → Fun 𝓤) where
-  walks : (C : Calls 𝓤 H) (Λ : Loops 𝓤 H) → FmC 𝓤 H (W .laws) C → Triple 𝓤 (C #calls·format) (CoreC 𝓤 H A mem′ run) → Triple 𝓤 (C #index·is-formatted) (TestC 𝓤 H A mem′ run) → Triple 𝓤 (C #records·idle) (IdleC 𝓤 H A mem′ run) → Triple 𝓤 (C #index·fill) (FillC 𝓤 H A mem′ run)
+  walks : (C : Calls 𝓤 H) (Λ : Loops 𝓤 H) → FmC 𝓤 H (W .laws) C → Triple 𝓤 (C #calls·format) (CoreC 𝓤 H A mem′ run) → Triple 𝓤 (C #marks·is-formatted) (TestC 𝓤 H A mem′ run) → Triple 𝓤 (C #records·idle) (IdleC 𝓤 H A mem′ run) → Triple 𝓤 (C #index·fill) (FillC 𝓤 H A mem′ run)
       → Walks 𝓤 H A it.ended stayed (WpFn 𝓤 H C Λ code.function) (it.clauses 𝓤 H A mem′ run)
   walks C Λ fm known-core known-test known-idle known-fill = walked 𝓤 H A it.ended stayed (it.clauses 𝓤 H A mem′ run) (WpFn 𝓤 H C Λ code.function)
       (λ κs. (ptr-vals, (slice-vals, (slice-vals, (slice-vals, ((λ d. Z′.lowered d ∷ []), tt))))))
@@ -448,7 +448,7 @@ module _ {M : Type 1} (𝓤 : URA M) (H : Heap 𝓤) (A : Atoms 𝓤) (W : Given
   goes = (goes-ref 𝓤 H A W 4 0 tt (plain (λ _. R.the-row)), (goes-gave-slice 𝓤 H A W 4 1 tt (plain (λ _. P.the-row)), (goes-gave-slice 𝓤 H A W 4 2 tt (plain (λ _. u32)), (goes-gave-slice 𝓤 H A W 4 3 tt (plain (λ _. u32)), (goes-none 𝓤 H A W 4 (λ _. Z.the-row) yes (λ κs x f. refl), tt)))))
 
 meets : {M : Type 1} (𝓤 : URA M) (H : Heap 𝓤) (A : Atoms 𝓤) → Given 𝓤 H A → (mem′ : Memory → SProp 𝓤) (run : Routine → Fun 𝓤) (𝓣 : Tables 𝓤 H)
-    → Triple 𝓤 (𝓣 .C #calls·format) (CoreC 𝓤 H A mem′ run) → Triple 𝓤 (𝓣 .C #index·is-formatted) (TestC 𝓤 H A mem′ run) → Triple 𝓤 (𝓣 .C #records·idle) (IdleC 𝓤 H A mem′ run) → Triple 𝓤 (𝓣 .C #index·fill) (FillC 𝓤 H A mem′ run) → Meets 𝓤 H A it.signature (WpFn 𝓤 H (𝓣 .C) (𝓣 .Λ) code.function) (it.spec 𝓤 H A mem′ run)
+    → Triple 𝓤 (𝓣 .C #calls·format) (CoreC 𝓤 H A mem′ run) → Triple 𝓤 (𝓣 .C #marks·is-formatted) (TestC 𝓤 H A mem′ run) → Triple 𝓤 (𝓣 .C #records·idle) (IdleC 𝓤 H A mem′ run) → Triple 𝓤 (𝓣 .C #index·fill) (FillC 𝓤 H A mem′ run) → Meets 𝓤 H A it.signature (WpFn 𝓤 H (𝓣 .C) (𝓣 .Λ) code.function) (it.spec 𝓤 H A mem′ run)
 meets 𝓤 H A W mem′ run 𝓣 known-core known-test known-idle known-fill =
     walk-meets 𝓤 H A it.ended stayed W (goes 𝓤 H A W mem′ run) (it.clauses 𝓤 H A mem′ run) (WpFn 𝓤 H (𝓣 .C) (𝓣 .Λ) code.function) (WpFn-mono 𝓤 H (W .laws) 𝓣 code.function)
     (walks 𝓤 H A W mem′ run (𝓣 .C) (𝓣 .Λ) (fmOf 𝓤 H (W .laws) 𝓣) known-core known-test known-idle known-fill)
@@ -460,6 +460,6 @@ format-spec 𝓤 H 𝓜 𝓖 𝓡 =
     (tables 𝓤 H 𝓜 𝓡 code.env .C) (tables 𝓤 H 𝓜 𝓡 code.env .Λ) #index·format code.function (code.unfolded 𝓤 H 𝓜 𝓡)
     (meets 𝓤 H (𝓖 .A) (givenOf 𝓤 H 𝓜 𝓖) (𝓜 .mem) (𝓡 .run) (tablesOf 𝓤 H 𝓜 (tables 𝓤 H 𝓜 𝓡 code.env))
     (cited 𝓤 H (CoreC 𝓤 H (𝓖 .A) (𝓜 .mem) (𝓡 .run)) 𝓜 𝓡 code.env #calls·format core-def.routine code.calls-calls·format (core-thm.met 𝓤 H 𝓜 𝓖 𝓡))
-    (cited 𝓤 H (TestC 𝓤 H (𝓖 .A) (𝓜 .mem) (𝓡 .run)) 𝓜 𝓡 code.env #index·is-formatted test-def.routine code.calls-index·is-formatted (test-thm.met 𝓤 H 𝓜 𝓖 𝓡))
+    (cited 𝓤 H (TestC 𝓤 H (𝓖 .A) (𝓜 .mem) (𝓡 .run)) 𝓜 𝓡 code.env #marks·is-formatted test-def.routine code.calls-marks·is-formatted (test-thm.met 𝓤 H 𝓜 𝓖 𝓡))
     (cited 𝓤 H (IdleC 𝓤 H (𝓖 .A) (𝓜 .mem) (𝓡 .run)) 𝓜 𝓡 code.env #records·idle idle-def.routine code.calls-records·idle (idle-thm.met 𝓤 H 𝓜 𝓖 𝓡))
     (cited 𝓤 H (FillC 𝓤 H (𝓖 .A) (𝓜 .mem) (𝓡 .run)) 𝓜 𝓡 code.env #index·fill fill-def.routine code.calls-index·fill (fill-thm.met 𝓤 H 𝓜 𝓖 𝓡)))

@@ -55,9 +55,9 @@ use Rattle.model.proofs.Party.Laws as P′
 use Rattle.model.specs.declared.StepAnswer.{StepAnswer}
 use Rattle.model.proofs.StepAnswer as N
 use Rattle.model.proofs.StepAnswer.Laws as N′
-use Rattle.index.specs.declared.Mark.{Mark}
-use Rattle.index.proofs.Mark as K
-use Rattle.index.proofs.Mark.Laws as K′
+use Rattle.marks.specs.declared.Mark.{Mark}
+use Rattle.marks.proofs.Mark as K
+use Rattle.marks.proofs.Mark.Laws as K′
 use Rattle.model.specs.declared.Stepped.{Stepped}
 use Rattle.model.proofs.Stepped as X
 use Rattle.model.proofs.Stepped.Laws as X′
@@ -66,25 +66,26 @@ use Rattle.model.specs.Memory.{partyAt}
 use Rattle.model.specs.Calls.{called, stepCall}
 use Rattle.calls.specs.Lent.{lent}
 use lib.Seq.{set-getD}
-use Rattle.index.specs.Marks.{markOf, rootBy, partyBy}
-use Rattle.index.proofs.Ends.{place-fits, wide-fits, StepSaid, PastSaid, step-past}
-use Rattle.index.proofs.Marks.{step-stored}
+use Rattle.marks.specs.Marks.{markOf, rootBy, partyBy}
+use Rattle.stores.proofs.Ends.{place-fits}
+use Rattle.index.proofs.Ends.{wide-fits, StepSaid, PastSaid, step-past}
+use Rattle.index.proofs.Stored.{step-stored}
 use Rattle.calls.proofs.step as core
 use Rattle.calls.proofs.step.Symbol as core-def
 use Rattle.calls.proofs.step.Symbol.{name as #calls·step}
 use Rattle.calls.proofs.step.Met as core-thm
-use Rattle.index.proofs.marked as mark
-use Rattle.index.proofs.marked.Symbol as mark-def
-use Rattle.index.proofs.marked.Symbol.{name as #index·marked}
-use Rattle.index.proofs.marked.Met as mark-thm
-use Rattle.index.proofs.put_root as put-root
-use Rattle.index.proofs.put_root.Symbol as put-root-def
-use Rattle.index.proofs.put_root.Symbol.{name as #index·put-root}
-use Rattle.index.proofs.put_root.Met as put-root-thm
-use Rattle.index.proofs.put_party as put-party
-use Rattle.index.proofs.put_party.Symbol as put-party-def
-use Rattle.index.proofs.put_party.Symbol.{name as #index·put-party}
-use Rattle.index.proofs.put_party.Met as put-party-thm
+use Rattle.marks.proofs.marked as mark
+use Rattle.marks.proofs.marked.Symbol as mark-def
+use Rattle.marks.proofs.marked.Symbol.{name as #marks·marked}
+use Rattle.marks.proofs.marked.Met as mark-thm
+use Rattle.stores.proofs.put_root as put-root
+use Rattle.stores.proofs.put_root.Symbol as put-root-def
+use Rattle.stores.proofs.put_root.Symbol.{name as #stores·put-root}
+use Rattle.stores.proofs.put_root.Met as put-root-thm
+use Rattle.stores.proofs.put_party as put-party
+use Rattle.stores.proofs.put_party.Symbol as put-party-def
+use Rattle.stores.proofs.put_party.Symbol.{name as #stores·put-party}
+use Rattle.stores.proofs.put_party.Met as put-party-thm
 use Rattle.calls.proofs.step_past as beyond
 use Rattle.calls.proofs.step_past.Symbol as beyond-def
 use Rattle.calls.proofs.step_past.Symbol.{name as #calls·step-past}
@@ -176,7 +177,7 @@ module _ {M : Type 1} (𝓤 : URA M) (H : Heap 𝓤) (A : Atoms 𝓤) (W : Given
   goes-core p is ip =
       qed W ((‵ (flft κ₂ q₂) ⊛ ‵ (flft κ₃ q₃)) ∷ (‵ (MutSlice (named 2) κ₂ u32 .own x₂ (s₂ ∷ [])) ⊛ ‵ (MutSlice (named 3) κ₃ u32 .own x₃ (s₃ ∷ []))) ∷ []) ∵ split ! $ move ! (2 ∷ []) $ split ! $ nothing ! $ move ! (4 ∷ 0 ∷ []) $ join ! $ move ! (3 ∷ 0 ∷ []) $ join ! $ nothing ! $ move ! (3 ∷ 0 ∷ []) $ fjoin ! $ move ! (2 ∷ 0 ∷ []) $ fjoin ! $ owned ! u32 (Is u32) (uint-makes 𝓤 H A W w32) i _ (refl, i-fits) $ fjoin ! $ owned ! usize (Is usize) (uint-makes 𝓤 H A W w64) (length ps) _ (refl, room₁ .0) $ fjoin ! $ owned ! P.the-row (Is P.the-row) (LL.makes P.the-type P′.the-plain 𝓤 H A) p _ ip $ fjoin ! $ owned ! R.the-row (Is R.the-row) (LL.makes R.the-type R′.the-plain 𝓤 H A) h _ is $ fjoin ! $ move ! (1 ∷ 0 ∷ []) $ join ! $ frame ! $ done !
 
-  -- the call of `index::marked`: what it is passed, and that it may be entered
+  -- the call of `marks::marked`: what it is passed, and that it may be entered
   abbrev mark-args : ℕ → StepAnswer → ℕ × (StepAnswer × Unit {0})
   mark-args k answer = (k, (answer, tt))
 
@@ -187,7 +188,7 @@ module _ {M : Type 1} (𝓤 : URA M) (H : Heap 𝓤) (A : Atoms 𝓤) (W : Given
   goes-mark k answer ik ia =
       qed W [] ∵ nothing ! $ nothing ! $ owned ! N.the-row (Is N.the-row) (EL.makes N.the-type N′.the-plain 𝓤 H A) answer _ ia $ fjoin ! $ owned ! u32 (Is u32) (uint-makes 𝓤 H A W w32) k _ ik $ fjoin ! $ move ! (1 ∷ 0 ∷ []) $ join ! $ frame ! $ done !
 
-  -- the call of `index::put_root`: what it is passed, and that it may be entered
+  -- the call of `stores::put_root`: what it is passed, and that it may be entered
   abbrev put-root-args : Root → Mark → RefT (Root) × (Root × (Mark × Unit {0}))
   put-root-args r m = (x₀, (r, (m, tt)))
 
@@ -198,7 +199,7 @@ module _ {M : Type 1} (𝓤 : URA M) (H : Heap 𝓤) (A : Atoms 𝓤) (W : Given
   goes-put-root r m ir im =
       qed W ((‵ (flft κ₀ q₀)) ∷ (‵ (MutRef (named 0) κ₀ R.the-row .own x₀ (vptr b₀ o₀ ∷ []))) ∷ []) ∵ nothing ! $ move ! (1 ∷ 0 ∷ []) $ join ! $ nothing ! $ owned ! K.the-row (Is K.the-row) (EL.makes K.the-type K′.the-plain 𝓤 H A) m _ im $ fjoin ! $ owned ! R.the-row (Is R.the-row) (LL.makes R.the-type R′.the-plain 𝓤 H A) r _ ir $ fjoin ! $ move ! (2 ∷ 0 ∷ []) $ fjoin ! $ move ! (1 ∷ 0 ∷ []) $ join ! $ frame ! $ done !
 
-  -- the call of `index::put_party`: what it is passed, and that it may be entered
+  -- the call of `stores::put_party`: what it is passed, and that it may be entered
   abbrev put-party-args : Party → Mark → RefT (List Party) × (ℕ × (Party × (Mark × Unit {0})))
   put-party-args p m = (x₁, (i, (p, (m, tt))))
 
@@ -228,7 +229,7 @@ module _ {M : Type 1} (𝓤 : URA M) (H : Heap 𝓤) (A : Atoms 𝓤) (W : Given
       suffices ! _ (ends-at 𝓤 H A it.ended stayed (it.clauses 𝓤 H A mem′ run) W (((κ₀, (κ₁, (κ₂, (κ₃, tt)))), (q₀, (q₁, (q₂, (q₃, tt)))), tt, a, vals), tt) (N′.lowered answer) answer (h′, (ps′, (ls′, (gs′, (tt, tt))))) (tt, (e₁, (e₂, (e₃, (tt, tt)))))) $ says ! ends $
       nothing ! $ move ! (4 ∷ 0 ∷ []) $ join ! $ move ! (3 ∷ 0 ∷ []) $ join ! $ move ! (2 ∷ 0 ∷ []) $ join ! $ move ! (1 ∷ 0 ∷ []) $ join ! $ frame ! $ nothing ! $ owned ! u32 (Is u32) (uint-makes 𝓤 H A W w32) i _ (refl, i-fits) $ fjoin ! $ move ! (4 ∷ 0 ∷ []) $ fjoin ! $ move ! (3 ∷ 0 ∷ []) $ fjoin ! $ move ! (2 ∷ 0 ∷ []) $ fjoin ! $ move ! (1 ∷ 0 ∷ []) $ fjoin ! $ owned ! N.the-row (Is N.the-row) (EL.makes N.the-type N′.the-plain 𝓤 H A) answer _ is $ move ! (1 ∷ 0 ∷ []) $ done !
 
-  module _ (C : Calls 𝓤 H) (Λ : Loops 𝓤 H) (fm : FmC 𝓤 H (W .laws) C) (known-core : Triple 𝓤 (C #calls·step) (CoreC 𝓤 H A mem′ run)) (known-mark : Triple 𝓤 (C #index·marked) (MarkC 𝓤 H A mem′ run)) (known-put-root : Triple 𝓤 (C #index·put-root) (PutRootC 𝓤 H A mem′ run)) (known-put-party : Triple 𝓤 (C #index·put-party) (PutPartyC 𝓤 H A mem′ run)) (known-beyond : Triple 𝓤 (C #calls·step-past) (BeyondC 𝓤 H A mem′ run)) where
+  module _ (C : Calls 𝓤 H) (Λ : Loops 𝓤 H) (fm : FmC 𝓤 H (W .laws) C) (known-core : Triple 𝓤 (C #calls·step) (CoreC 𝓤 H A mem′ run)) (known-mark : Triple 𝓤 (C #marks·marked) (MarkC 𝓤 H A mem′ run)) (known-put-root : Triple 𝓤 (C #stores·put-root) (PutRootC 𝓤 H A mem′ run)) (known-put-party : Triple 𝓤 (C #stores·put-party) (PutPartyC 𝓤 H A mem′ run)) (known-beyond : Triple 𝓤 (C #calls·step-past) (BeyondC 𝓤 H A mem′ run)) where
     walk : ent 𝓤 (onEntry 𝓤 H A it.signature (κ₀, (κ₁, (κ₂, (κ₃, tt)))) (q₀, (q₁, (q₂, (q₃, tt)))) a vals) (WpFn 𝓤 H C Λ code.function (vptr b₀ o₀ ∷ s₁ ∷ s₂ ∷ s₃ ∷ vint w32 i ∷ []) Post)
     walk =
         qed W ((‵ (flft κ₀ q₀) ⊛ ‵ (flft κ₁ q₁) ⊛ ‵ (flft κ₂ q₂) ⊛ ‵ (flft κ₃ q₃) ⊛ ‵ ftrue) ∷ ‵ (owns (MutRef (named 0) κ₀ R.the-row ∷ MutSlice (named 1) κ₁ P.the-row ∷ MutSlice (named 2) κ₂ u32 ∷ MutSlice (named 3) κ₃ u32 ∷ u32 ∷ []) a vals) ∷ []) ∵
@@ -337,7 +338,7 @@ module _ {M : Type 1} (𝓤 : URA M) (H : Heap 𝓤) (A : Atoms 𝓤) (W : Given
         land ! (from ! (stop !)) (init ! 53 refl (LL.lawful X.the-type X′.the-laws 𝓤 H A W .typed x _ ix .0)) $
         rewrite ! 53 (λ (u : Val). ‵ (fat fullShare X′.mir l₉ 0 u)) (ap only ((X′.lowers .val-is) x _ ix)) refl $
         drop ! $
-        -- `index::marked`
+        -- `marks::marked`
         use0 W (raw (MarkC 𝓤 H A mem′ run .pre (to-mark ((partyAt ps i) .step) (x .answer)))) (goes-mark ((partyAt ps i) .step) (x .answer) (P-step (partyAt ps i) ip) (X-answer x ix)) $
         calls-at ! fm (MarkC 𝓤 H A mem′ run) known-mark (to-mark ((partyAt ps i) .step) (x .answer)) (and-then ! (load ! (from ! (fld ! refl (stop !))) (look-in ! 55 (sub ! 2 refl (whole !)))) (and-then ! (load ! (from ! (fld ! refl (stop !))) (look-in ! 53 (sub ! 2 refl (whole !)))) (no-more !))) (λ ret′.
         use1 W (later (some (λ (m : Mark). (‵ ftrue ⊛ ‵ (K.the-row .own m (ret′ ∷ []))) ⊛ raw (ensured 𝓤 H A mark.ended (mark.clauses 𝓤 H A mem′ run) tt (mark-args ((partyAt ps i) .step) (x .answer)) tt m)))) (id⊢ 𝓤 _) $ await ! tt $ pick ! (λ m.
@@ -357,7 +358,7 @@ module _ {M : Type 1} (𝓤 : URA M) (H : Heap 𝓤) (A : Atoms 𝓤) (W : Given
         move ! (15 ∷ 16 ∷ []) $
         feqI ! (List Val) (vptr b₀ o₀ ∷ []) (vptr b₀ o₀ ∷ []) refl $ fjoin3 ! $
         assigns ! (addr ! (from ! (hop ! (look ! 69 refl) (stop !)))) (from ! (stop !)) (init ! 29 refl (tt, tt)) $
-        -- `index::put_root`
+        -- `stores::put_root`
         move ! (16 ∷ 0 ∷ []) $
         use2 W (raw (PutRootC 𝓤 H A mem′ run .pre (to-put-root (x .root) m))) (goes-put-root (x .root) m (X-root x ix) (subst (Is K.the-row m) (K′.lowers .val-is m _ im) im)) $
         calls-at ! fm (PutRootC 𝓤 H A mem′ run) known-put-root (to-put-root (x .root) m) (and-then ! (load ! (from ! (stop !)) (look ! 28 refl)) (and-then ! (load ! (from ! (fld ! refl (stop !))) (look-in ! 52 (sub ! 0 refl (whole !)))) (and-then ! (load ! (from ! (stop !)) (look ! 50 refl)) (no-more !)))) (λ ret″.
@@ -382,7 +383,7 @@ module _ {M : Type 1} (𝓤 : URA M) (H : Heap 𝓤) (A : Atoms 𝓤) (W : Given
         pureI ! (at-slice P.the-row x₁ (s₁ ∷ [])) (tt, (tt, tt)) (refl, room₁) $ fjoin ! $
         assigns ! (addr ! (from ! (fld ! refl (hop ! (look-in ! 68 (sub ! 0 refl (whole !))) (stop !))))) (from ! (stop !)) (init ! 28 refl (tt, tt)) $
         assigns ! (agg ! (and-then ! (load ! (from ! (stop !)) (look ! 28 refl)) (and-then ! (load ! (from ! (fld ! refl (stop !))) (look-in ! 68 (sub ! 1 refl (whole !)))) (no-more !)))) (from ! (stop !)) (init ! 26 refl (tt, (tt, (record { fits = room₁ .0 }, tt)))) $
-        -- `index::put_party`
+        -- `stores::put_party`
         move ! (17 ∷ 0 ∷ []) $
         use2 W (raw (PutPartyC 𝓤 H A mem′ run .pre (to-put-party (x .party) m))) (goes-put-party (x .party) m (X-party x ix) (subst (Is K.the-row m) (K′.lowers .val-is m _ im) im)) $
         calls-at ! fm (PutPartyC 𝓤 H A mem′ run) known-put-party (to-put-party (x .party) m) (and-then ! (load ! (from ! (stop !)) (look ! 25 refl)) (and-then ! (load ! (from ! (stop !)) (look ! 57 refl)) (and-then ! (load ! (from ! (fld ! refl (stop !))) (look-in ! 53 (sub ! 1 refl (whole !)))) (and-then ! (load ! (from ! (stop !)) (look ! 51 refl)) (no-more !))))) (λ ret‴.
@@ -546,7 +547,7 @@ module _ {M : Type 1} (𝓤 : URA M) (H : Heap 𝓤) (A : Atoms 𝓤) (W : Given
         by ! (exits h ps ls gs x refl refl refl (subst (Is N.the-row x) (N′.lowers .val-is x _ ix) ix) (step-past h ps ls gs i x (nltb→le i (length ps) past) said)))))))))))))))))))))))))))))))))))))
 
 module _ {M : Type 1} (𝓤 : URA M) (H : Heap 𝓤) (A : Atoms 𝓤) (W : Given 𝓤 H A) (mem′ : Memory → SProp 𝓤) (run : Routine → Fun 𝓤) where
-  walks : (C : Calls 𝓤 H) (Λ : Loops 𝓤 H) → FmC 𝓤 H (W .laws) C → Triple 𝓤 (C #calls·step) (CoreC 𝓤 H A mem′ run) → Triple 𝓤 (C #index·marked) (MarkC 𝓤 H A mem′ run) → Triple 𝓤 (C #index·put-root) (PutRootC 𝓤 H A mem′ run) → Triple 𝓤 (C #index·put-party) (PutPartyC 𝓤 H A mem′ run) → Triple 𝓤 (C #calls·step-past) (BeyondC 𝓤 H A mem′ run)
+  walks : (C : Calls 𝓤 H) (Λ : Loops 𝓤 H) → FmC 𝓤 H (W .laws) C → Triple 𝓤 (C #calls·step) (CoreC 𝓤 H A mem′ run) → Triple 𝓤 (C #marks·marked) (MarkC 𝓤 H A mem′ run) → Triple 𝓤 (C #stores·put-root) (PutRootC 𝓤 H A mem′ run) → Triple 𝓤 (C #stores·put-party) (PutPartyC 𝓤 H A mem′ run) → Triple 𝓤 (C #calls·step-past) (BeyondC 𝓤 H A mem′ run)
       → Walks 𝓤 H A it.ended stayed (WpFn 𝓤 H C Λ code.function) (it.clauses 𝓤 H A mem′ run)
   walks C Λ fm known-core known-mark known-put-root known-put-party known-beyond = walked 𝓤 H A it.ended stayed (it.clauses 𝓤 H A mem′ run) (WpFn 𝓤 H C Λ code.function)
       (λ κs. (ptr-vals, (slice-vals, (slice-vals, (slice-vals, ((uint-vals w32), tt))))))
@@ -557,7 +558,7 @@ module _ {M : Type 1} (𝓤 : URA M) (H : Heap 𝓤) (A : Atoms 𝓤) (W : Given
   goes = (goes-gave-ref 𝓤 H A W 4 0 tt (plain (λ _. R.the-row)), (goes-gave-slice 𝓤 H A W 4 1 tt (plain (λ _. P.the-row)), (goes-gave-slice 𝓤 H A W 4 2 tt (plain (λ _. u32)), (goes-gave-slice 𝓤 H A W 4 3 tt (plain (λ _. u32)), (goes-none 𝓤 H A W 4 (λ _. u32) yes (λ κs x f. refl), tt)))))
 
 meets : {M : Type 1} (𝓤 : URA M) (H : Heap 𝓤) (A : Atoms 𝓤) → Given 𝓤 H A → (mem′ : Memory → SProp 𝓤) (run : Routine → Fun 𝓤) (𝓣 : Tables 𝓤 H)
-    → Triple 𝓤 (𝓣 .C #calls·step) (CoreC 𝓤 H A mem′ run) → Triple 𝓤 (𝓣 .C #index·marked) (MarkC 𝓤 H A mem′ run) → Triple 𝓤 (𝓣 .C #index·put-root) (PutRootC 𝓤 H A mem′ run) → Triple 𝓤 (𝓣 .C #index·put-party) (PutPartyC 𝓤 H A mem′ run) → Triple 𝓤 (𝓣 .C #calls·step-past) (BeyondC 𝓤 H A mem′ run) → Meets 𝓤 H A it.signature (WpFn 𝓤 H (𝓣 .C) (𝓣 .Λ) code.function) (it.spec 𝓤 H A mem′ run)
+    → Triple 𝓤 (𝓣 .C #calls·step) (CoreC 𝓤 H A mem′ run) → Triple 𝓤 (𝓣 .C #marks·marked) (MarkC 𝓤 H A mem′ run) → Triple 𝓤 (𝓣 .C #stores·put-root) (PutRootC 𝓤 H A mem′ run) → Triple 𝓤 (𝓣 .C #stores·put-party) (PutPartyC 𝓤 H A mem′ run) → Triple 𝓤 (𝓣 .C #calls·step-past) (BeyondC 𝓤 H A mem′ run) → Meets 𝓤 H A it.signature (WpFn 𝓤 H (𝓣 .C) (𝓣 .Λ) code.function) (it.spec 𝓤 H A mem′ run)
 meets 𝓤 H A W mem′ run 𝓣 known-core known-mark known-put-root known-put-party known-beyond =
     walk-meets 𝓤 H A it.ended stayed W (goes 𝓤 H A W mem′ run) (it.clauses 𝓤 H A mem′ run) (WpFn 𝓤 H (𝓣 .C) (𝓣 .Λ) code.function) (WpFn-mono 𝓤 H (W .laws) 𝓣 code.function)
     (walks 𝓤 H A W mem′ run (𝓣 .C) (𝓣 .Λ) (fmOf 𝓤 H (W .laws) 𝓣) known-core known-mark known-put-root known-put-party known-beyond)
@@ -569,7 +570,7 @@ step-spec 𝓤 H 𝓜 𝓖 𝓡 =
     (tables 𝓤 H 𝓜 𝓡 code.env .C) (tables 𝓤 H 𝓜 𝓡 code.env .Λ) #index·step code.function (code.unfolded 𝓤 H 𝓜 𝓡)
     (meets 𝓤 H (𝓖 .A) (givenOf 𝓤 H 𝓜 𝓖) (𝓜 .mem) (𝓡 .run) (tablesOf 𝓤 H 𝓜 (tables 𝓤 H 𝓜 𝓡 code.env))
     (cited 𝓤 H (CoreC 𝓤 H (𝓖 .A) (𝓜 .mem) (𝓡 .run)) 𝓜 𝓡 code.env #calls·step core-def.routine code.calls-calls·step (core-thm.met 𝓤 H 𝓜 𝓖 𝓡))
-    (cited 𝓤 H (MarkC 𝓤 H (𝓖 .A) (𝓜 .mem) (𝓡 .run)) 𝓜 𝓡 code.env #index·marked mark-def.routine code.calls-index·marked (mark-thm.met 𝓤 H 𝓜 𝓖 𝓡))
-    (cited 𝓤 H (PutRootC 𝓤 H (𝓖 .A) (𝓜 .mem) (𝓡 .run)) 𝓜 𝓡 code.env #index·put-root put-root-def.routine code.calls-index·put-root (put-root-thm.met 𝓤 H 𝓜 𝓖 𝓡))
-    (cited 𝓤 H (PutPartyC 𝓤 H (𝓖 .A) (𝓜 .mem) (𝓡 .run)) 𝓜 𝓡 code.env #index·put-party put-party-def.routine code.calls-index·put-party (put-party-thm.met 𝓤 H 𝓜 𝓖 𝓡))
+    (cited 𝓤 H (MarkC 𝓤 H (𝓖 .A) (𝓜 .mem) (𝓡 .run)) 𝓜 𝓡 code.env #marks·marked mark-def.routine code.calls-marks·marked (mark-thm.met 𝓤 H 𝓜 𝓖 𝓡))
+    (cited 𝓤 H (PutRootC 𝓤 H (𝓖 .A) (𝓜 .mem) (𝓡 .run)) 𝓜 𝓡 code.env #stores·put-root put-root-def.routine code.calls-stores·put-root (put-root-thm.met 𝓤 H 𝓜 𝓖 𝓡))
+    (cited 𝓤 H (PutPartyC 𝓤 H (𝓖 .A) (𝓜 .mem) (𝓡 .run)) 𝓜 𝓡 code.env #stores·put-party put-party-def.routine code.calls-stores·put-party (put-party-thm.met 𝓤 H 𝓜 𝓖 𝓡))
     (cited 𝓤 H (BeyondC 𝓤 H (𝓖 .A) (𝓜 .mem) (𝓡 .run)) 𝓜 𝓡 code.env #calls·step-past beyond-def.routine code.calls-calls·step-past (beyond-thm.met 𝓤 H 𝓜 𝓖 𝓡)))

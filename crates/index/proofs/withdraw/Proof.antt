@@ -64,7 +64,8 @@ use Rattle.model.specs.Records as Records
 use Rattle.model.specs.Memory.{partyAt}
 use Rattle.model.specs.Calls.{called, withdrawCall}
 use Rattle.calls.specs.Lent.{lent}
-use Rattle.index.proofs.Ends.{place-fits, wide-fits, WithdrawSaid, PastWithdrawSaid, withdraw-inside, withdraw-past}
+use Rattle.stores.proofs.Ends.{place-fits}
+use Rattle.index.proofs.Ends.{wide-fits, WithdrawSaid, PastWithdrawSaid, withdraw-inside, withdraw-past}
 use Rattle.calls.proofs.withdraw as core
 use Rattle.calls.proofs.withdraw.Symbol as core-def
 use Rattle.calls.proofs.withdraw.Symbol.{name as #calls·withdraw}

@@ -1,6 +1,6 @@
 -- `merge_write::step_29` meets its contract.
 use mathlib.Core.Path.{_≡_, sym, ap, _∙_}
-use mathlib.Core.Bool.{true}
+use mathlib.Core.Bool.{Bool, true}
 use native.Mathlib.Omega.{arith}
 use borrow.Author.Tests.{not-false}
 use Rattle.model.specs.declared.Root.{Root}
@@ -44,7 +44,9 @@ returns c =
     let r = rootIn (a .root .now) in
     let v = seen r (a .party .now) (a .q) (a .locks .now) (a .pages .now) in
     let er = at-root-of .root-of .ensures in
-    unsound-link-refused v (at-load .load .ensures) (at-link-sound .link-sound .ensures ∙ ap (λ (x : Root). linkSound x (partyIn (a .party .now) .old)) er) (c .if1 .taken)
+    let tested : _≡_ {A = Bool} (at-link-sound .link-sound .result) (linkSound (at-root-of .root-of .result) (partyIn (a .party .now) .old))
+    = at-link-sound .link-sound .ensures in
+    unsound-link-refused v (at-load .load .ensures) (tested ∙ ap (λ (x : Root). linkSound x (partyIn (a .party .now) .old)) er) (c .if1 .taken)
 
 page-sound-requires : tie.Need-page-sound-requires
 page-sound-requires c κs = search needs

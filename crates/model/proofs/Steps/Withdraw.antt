@@ -21,9 +21,10 @@ use Rattle.model.specs.Records.{idle, withFreeList}
 use Rattle.model.specs.LockWords.{Claim}
 use Rattle.model.specs.Pages.{pageOf, withPage, scratchPage, linkOf, linkToFirst, pageSound, zeroPage}
 use Rattle.model.specs.Chains.{sound, listFrom}
-use Rattle.model.specs.Outcome.{View}
+use Rattle.model.specs.Outcome.{View, withParty, withLocks}
 use Rattle.model.specs.FreeList.{roomToGiveBack, givenBack, pagesGivenBack}
 use Rattle.model.specs.LockRequests.{heldAll, givenUp}
+use Rattle.model.specs.ScratchPages.{withScratch}
 use Rattle.model.specs.Claims.{Claims, claimTable, noLock, claims}
 use Rattle.model.specs.Withdraw.{isDecided, builtPages, takenBack, takenBackSoundly, Withdrawal, withdrawal, withdrawn}
 use Rattle.model.specs.Memory.{Memory, viewOf, afterStep}
@@ -62,11 +63,15 @@ leftBy v xs =
       pages = withPage (g .pages) (scratchPage (v .root) (v .number)) zeroPage;
     }
 
+-- The locks given up once other words have changed, the record and the scratch page zeroed: the lock words are as if
+-- nothing had.
+cleared-is : (cs : List Claim) (v w : View) → w .locks ≡ v .locks → w .number ≡ v .number
+    → withParty idle (withScratch zeroPage (givenUp cs w)) ≡ withParty idle (withScratch zeroPage (withLocks (givenUp cs v .locks) w))
+cleared-is cs v w e n = rw (given-up-rest cs w, given-up-alike cs v w e n) refl
+
 pub taken-back-is : (v : View) (xs : List ℕ) → takenBack v xs ≡ leftBy v xs
 unfolding takenBack pagesGivenBack
-taken-back-is v xs =
-    let cs = claims (v .root) (v .party) in
-    rw (given-up-rest cs (pagesGivenBack (reverse xs) v), given-up-alike cs v (pagesGivenBack (reverse xs) v) refl refl) refl
+taken-back-is v xs = cleared-is (claims (v .root) (v .party)) v (pagesGivenBack (reverse xs) v) refl refl
 
 -- ---- Before the decisive step
 

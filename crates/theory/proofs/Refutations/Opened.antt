@@ -92,14 +92,15 @@ unfolding Rattle.model.specs.Addresses.span Rattle.model.specs.Addresses.hashO
     Rattle.theory.specs.Links.walkedFrom Rattle.theory.specs.Links.traceNine Rattle.theory.specs.Links.traceFourteen Rattle.theory.specs.Links.traceTwentyNine
     Rattle.theory.specs.Links.traceOf Rattle.theory.specs.Links.clockStart Rattle.theory.specs.Links.traceOfStep Rattle.theory.specs.Links.traceAnswered
     Rattle.theory.specs.Links.traceOfWithdraw Rattle.theory.specs.Links.traceOfCall Rattle.theory.specs.Links.ticked Rattle.theory.specs.Links.clockAfter
-    Rattle.theory.specs.Links.allFresh Rattle.theory.specs.Links.linksFresh Rattle.theory.specs.NoPage.noneWrote Rattle.theory.specs.NoPage.isWriting
-    Rattle.theory.specs.NoPage.wroteBegin Rattle.theory.specs.NoPage.wroteStep Rattle.theory.specs.NoPage.wroteAfter Rattle.theory.specs.NoPage.endsNoPage
-    Rattle.theory.specs.NoPage.noPageRight Rattle.theory.specs.NoPage.noPageKept Rattle.theory.specs.PlainMap.emptyMap Rattle.theory.specs.PlainMap.plainAnswer
-    Rattle.theory.specs.PlainMap.plainAfter Rattle.theory.specs.PlainMap.mayLackPages Rattle.theory.specs.PlainMap.isNoPage
-    Rattle.theory.specs.PlainMap.answersAsMap Rattle.theory.specs.PlainMap.mapLeftBy Rattle.theory.specs.Reads.isAccepted Rattle.theory.specs.Reads.pagesFollowed
-    Rattle.theory.specs.Reads.followedBy Rattle.theory.specs.Reads.takenBy Rattle.theory.specs.Reads.readBy Rattle.theory.specs.Reads.walkedBack
-    Rattle.theory.specs.Reads.isOverflowPage Rattle.theory.specs.Reads.isOpen Rattle.theory.specs.Sequential.pagesNeeded Rattle.theory.specs.Sequential.chainsAt
-    Rattle.theory.specs.Sequential.hashed Rattle.theory.specs.Sequential.chainsIn Rattle.theory.specs.Sequential.homeIn Rattle.theory.specs.Sequential.recordsAt
+    Rattle.theory.specs.Links.allFresh Rattle.theory.specs.Links.linksFresh Rattle.theory.specs.Made.looksMade Rattle.theory.specs.Made.looksRight
+    Rattle.theory.specs.NoPage.noneWrote Rattle.theory.specs.NoPage.isWriting Rattle.theory.specs.NoPage.wroteBegin Rattle.theory.specs.NoPage.wroteStep
+    Rattle.theory.specs.NoPage.wroteAfter Rattle.theory.specs.NoPage.endsNoPage Rattle.theory.specs.NoPage.noPageRight Rattle.theory.specs.NoPage.noPageKept
+    Rattle.theory.specs.PlainMap.emptyMap Rattle.theory.specs.PlainMap.plainAnswer Rattle.theory.specs.PlainMap.plainAfter
+    Rattle.theory.specs.PlainMap.mayLackPages Rattle.theory.specs.PlainMap.isNoPage Rattle.theory.specs.PlainMap.answersAsMap
+    Rattle.theory.specs.PlainMap.mapLeftBy Rattle.theory.specs.Reads.isAccepted Rattle.theory.specs.Reads.pagesFollowed Rattle.theory.specs.Reads.followedBy
+    Rattle.theory.specs.Reads.takenBy Rattle.theory.specs.Reads.readBy Rattle.theory.specs.Reads.walkedBack Rattle.theory.specs.Reads.isOverflowPage
+    Rattle.theory.specs.Reads.isOpen Rattle.theory.specs.Sequential.pagesNeeded Rattle.theory.specs.Sequential.chainsAt Rattle.theory.specs.Sequential.hashed
+    Rattle.theory.specs.Sequential.chainsIn Rattle.theory.specs.Sequential.homeIn Rattle.theory.specs.Sequential.recordsAt
     Rattle.theory.specs.Sequential.withRecords Rattle.theory.specs.Sequential.passing Rattle.theory.specs.Sequential.pagesInUse
     Rattle.theory.specs.Sequential.freeIn Rattle.theory.specs.Sequential.shortOf Rattle.theory.specs.Sequential.parted Rattle.theory.specs.Sequential.splitFile
     Rattle.theory.specs.Sequential.lastIn Rattle.theory.specs.Sequential.targetIn Rattle.theory.specs.Sequential.rejoined Rattle.theory.specs.Sequential.mergeFile

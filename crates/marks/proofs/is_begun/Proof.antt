@@ -1,8 +1,8 @@
--- `index::is_begun` meets its contract.
+-- `marks::is_begun` meets its contract.
 use mathlib.Core.Path.{refl}
 use borrow.Author.Needs.{needs}
-use Rattle.index.proofs.is_begun.Statement.{statement}
-use Rattle.index.proofs.is_begun.Tie as tie
+use Rattle.marks.proofs.is_begun.Statement.{statement}
+use Rattle.marks.proofs.is_begun.Tie as tie
 
 enum-told : tie.Need-enum-told
 enum-told c = search needs

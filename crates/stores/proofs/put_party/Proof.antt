@@ -1,4 +1,4 @@
--- `index::put_party` meets its contract: a walk of its MIR, made by tools/walks/put_party.py.
+-- `stores::put_party` meets its contract: a walk of its MIR, made by tools/walks/put_party.py.
 -- The row's borrow is opened and the record taken out; by the mark nothing is stored, or four words, or the zero record, or
 -- seven words; the borrow is closed.
 use mathlib.Core.Path.{_≡_, refl, sym, _∙_, ap, subst}
@@ -48,23 +48,23 @@ use denote.Enum.Laws as EL
 use Rattle.model.specs.declared.Party.{Party}
 use Rattle.model.proofs.Party as P
 use Rattle.model.proofs.Party.Laws as P′
-use Rattle.index.specs.declared.Mark.{Mark}
-use Rattle.index.proofs.Mark as K
-use Rattle.index.proofs.Mark.Laws as K′
-use Rattle.index.specs.declared.Mark.the-variants as Mark
+use Rattle.marks.specs.declared.Mark.{Mark}
+use Rattle.marks.proofs.Mark as K
+use Rattle.marks.proofs.Mark.Laws as K′
+use Rattle.marks.specs.declared.Mark.the-variants as Mark
 use Rattle.model.specs.Records as Records
 use Rattle.model.specs.Memory.{partyAt}
-use Rattle.index.specs.Marks.{locatedIn, changedIn, partyBy}
-use Rattle.index.proofs.Ends.{place-fits, set-past}
-use Rattle.index.proofs.Stored.{tagOf, party-by}
+use Rattle.marks.specs.Marks.{locatedIn, changedIn, partyBy}
+use Rattle.stores.proofs.Ends.{place-fits, set-past}
+use Rattle.stores.proofs.Tags.{tagOf, party-by}
 use Rattle.records.proofs.idle as idle
 use Rattle.records.proofs.idle.Symbol as idle-def
 use Rattle.records.proofs.idle.Symbol.{name as #records·idle}
 use Rattle.records.proofs.idle.Met as idle-thm
-use Rattle.index.proofs.put_party.Key.{name as #index·put-party}
-use Rattle.index.proofs.put_party as it
-use Rattle.index.proofs.put_party.Statement as stated
-use Rattle.index.proofs.put_party.Code as code
+use Rattle.stores.proofs.put_party.Key.{name as #stores·put-party}
+use Rattle.stores.proofs.put_party as it
+use Rattle.stores.proofs.put_party.Statement as stated
+use Rattle.stores.proofs.put_party.Code as code
 
 abbrev stayed : Stays (it.ended .signature .params) (it.ended .kept)
 stayed = (stay-slice (0 ∷ []) tt (plain (λ _. P.the-row)), (stay-none (λ _. usize) yes, (stay-none (λ _. P.the-row) yes, (stay-none (λ _. K.the-row) yes, tt))))
@@ -501,6 +501,6 @@ pub put-party-spec : {M : Type 1} → stated.statement M
 unfolding code.routine tablesOf
 put-party-spec 𝓤 H 𝓜 𝓖 𝓡 =
     entered 𝓤 H (tripleOf 𝓤 H (𝓖 .A) it.signature (it.spec 𝓤 H (𝓖 .A) (𝓜 .mem) (𝓡 .run)))
-    (tables 𝓤 H 𝓜 𝓡 code.env .C) (tables 𝓤 H 𝓜 𝓡 code.env .Λ) #index·put-party code.function (code.unfolded 𝓤 H 𝓜 𝓡)
+    (tables 𝓤 H 𝓜 𝓡 code.env .C) (tables 𝓤 H 𝓜 𝓡 code.env .Λ) #stores·put-party code.function (code.unfolded 𝓤 H 𝓜 𝓡)
     (meets 𝓤 H (𝓖 .A) (givenOf 𝓤 H 𝓜 𝓖) (𝓜 .mem) (𝓡 .run) (tablesOf 𝓤 H 𝓜 (tables 𝓤 H 𝓜 𝓡 code.env))
     (cited 𝓤 H (IdleC 𝓤 H (𝓖 .A) (𝓜 .mem) (𝓡 .run)) 𝓜 𝓡 code.env #records·idle idle-def.routine code.calls-records·idle (idle-thm.met 𝓤 H 𝓜 𝓖 𝓡)))

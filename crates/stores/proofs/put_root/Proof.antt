@@ -1,4 +1,4 @@
--- `index::put_root` meets its contract: a walk of its MIR, made by tools/walks/put_root.py.
+-- `stores::put_root` meets its contract: a walk of its MIR, made by tools/walks/put_root.py.
 -- The root's borrow is opened; where the mark asks for it, four words are stored; the borrow is closed.
 use mathlib.Core.Path.{_≡_, refl}
 use Prim.Native.Nat.{ℕ}
@@ -40,16 +40,16 @@ use denote.Enum.Laws as EL
 use Rattle.model.specs.declared.Root.{Root}
 use Rattle.model.proofs.Root as R
 use Rattle.model.proofs.Root.Laws as R′
-use Rattle.index.specs.declared.Mark.{Mark}
-use Rattle.index.proofs.Mark as K
-use Rattle.index.proofs.Mark.Laws as K′
-use Rattle.index.specs.declared.Mark.the-variants as Mark
-use Rattle.index.specs.Marks.{movedIn, rootBy}
-use Rattle.index.proofs.Stored.{tagOf, root-kept, root-moved}
-use Rattle.index.proofs.put_root.Key.{name as #index·put-root}
-use Rattle.index.proofs.put_root as it
-use Rattle.index.proofs.put_root.Statement as stated
-use Rattle.index.proofs.put_root.Code as code
+use Rattle.marks.specs.declared.Mark.{Mark}
+use Rattle.marks.proofs.Mark as K
+use Rattle.marks.proofs.Mark.Laws as K′
+use Rattle.marks.specs.declared.Mark.the-variants as Mark
+use Rattle.marks.specs.Marks.{movedIn, rootBy}
+use Rattle.stores.proofs.Tags.{tagOf, root-kept, root-moved}
+use Rattle.stores.proofs.put_root.Key.{name as #stores·put-root}
+use Rattle.stores.proofs.put_root as it
+use Rattle.stores.proofs.put_root.Statement as stated
+use Rattle.stores.proofs.put_root.Code as code
 
 abbrev stayed : Stays (it.ended .signature .params) (it.ended .kept)
 stayed = (stay-ref (0 ∷ []) tt (plain (λ _. R.the-row)), (stay-none (λ _. R.the-row) yes, (stay-none (λ _. K.the-row) yes, tt)))
@@ -203,5 +203,5 @@ pub put-root-spec : {M : Type 1} → stated.statement M
 unfolding code.routine tablesOf
 put-root-spec 𝓤 H 𝓜 𝓖 𝓡 =
     entered 𝓤 H (tripleOf 𝓤 H (𝓖 .A) it.signature (it.spec 𝓤 H (𝓖 .A) (𝓜 .mem) (𝓡 .run)))
-    (tables 𝓤 H 𝓜 𝓡 code.env .C) (tables 𝓤 H 𝓜 𝓡 code.env .Λ) #index·put-root code.function (code.unfolded 𝓤 H 𝓜 𝓡)
+    (tables 𝓤 H 𝓜 𝓡 code.env .C) (tables 𝓤 H 𝓜 𝓡 code.env .Λ) #stores·put-root code.function (code.unfolded 𝓤 H 𝓜 𝓡)
     (meets 𝓤 H (𝓖 .A) (givenOf 𝓤 H 𝓜 𝓖) (𝓜 .mem) (𝓡 .run) (tablesOf 𝓤 H 𝓜 (tables 𝓤 H 𝓜 𝓡 code.env)))

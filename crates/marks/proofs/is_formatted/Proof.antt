@@ -1,7 +1,8 @@
--- `index::is_formatted` meets its contract.
+-- `marks::is_formatted` meets its contract.
+use mathlib.Core.Path.{refl}
 use borrow.Author.Needs.{needs}
-use Rattle.index.proofs.is_formatted.Statement.{statement}
-use Rattle.index.proofs.is_formatted.Tie as tie
+use Rattle.marks.proofs.is_formatted.Statement.{statement}
+use Rattle.marks.proofs.is_formatted.Tie as tie
 
 enum-told : tie.Need-enum-told
 enum-told c = search needs
@@ -10,10 +11,10 @@ enum-told-2 : tie.Need-enum-told-2
 enum-told-2 c = search needs
 
 returns : tie.Need-returns
-returns c = rw (c .enum-told .given .1)
+returns c = rw (c .enum-told .given .1) refl
 
 returns-2 : tie.Need-returns-2
-returns-2 c = rw (c .enum-told2 .given .1)
+returns-2 c = rw (c .enum-told2 .given .1) refl
 
 pub is-formatted-spec : {M : Type 1} → statement M
 is-formatted-spec = tie.close (tie.spec enum-told enum-told-2 returns returns-2)

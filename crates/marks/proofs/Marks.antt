@@ -1,32 +1,21 @@
 -- A step changes no word of the root or of its party's record but those that its mark names: by the table of the
 -- steps, whose column `writes` is true of every step (model's Exits).
--- Main statements: step-marked (every step number, all views); step-stored (the call's equation, where only the marked
--- words are stored).
-use mathlib.Core.Path.{_≡_, refl, sym, ap, _∙_, subst}
+-- Main statements: step-marked (every step number, all views).
+use mathlib.Core.Path.{_≡_, refl, sym, ap, _∙_}
 use mathlib.Core.Bool.{Bool, true, false, cond, not, _||_, false≢true}
-use mathlib.Core.List.{List}
-use Prim.Native.Nat.{ℕ, _<_}
-use lib.ListN.{length, set}
+use Prim.Native.Nat.{ℕ}
 use Rattle.model.specs.declared.Root.{Root}
 use Rattle.model.specs.declared.Party.{Party}
 use Rattle.model.specs.declared.StepAnswer.{StepAnswer}
 use Rattle.model.specs.declared.StepAnswer.the-variants as StepAnswer
-use Rattle.model.specs.declared.Stepped.{Stepped}
 use Rattle.model.specs.Outcome.{View, Outcome, moved}
 use Rattle.model.specs.Steps.Table.{answerWord, oldWord, owedWord, levelWord, nextWord, freeWord}
 use Rattle.model.specs.Steps.Dispatch.{stepOf, writesTable, writes}
 use Rattle.model.specs.FreeList.{isAmong}
-use Rattle.model.specs.Memory.{Memory, partyAt, viewOf}
-use Rattle.model.specs.Calls.{Called, called, stepped, stepCall}
 use Rattle.model.proofs.Laws.Lists.{allPass}
-use Rattle.model.proofs.Effects.Kept.{row-same}
 use Rattle.model.proofs.Exits.Statement.{Kept, keptBy, none-writes, Exit, refusing, waiting, taking, moving, looking, ending}
 use Rattle.model.proofs.Exits.{step-exits}
-use Rattle.theory.proofs.Alters.{Tested, turned-away, let-through, tested}
-use Rattle.calls.specs.Lent.{lent}
-use Rattle.index.specs.declared.Mark.{Mark}
-use Rattle.index.specs.Marks.{locates, markOf, locatedIn, changedIn, movedIn, rootBy, partyBy}
-use Rattle.index.proofs.Ends.{StepSaid, step-inside}
+use Rattle.marks.specs.Marks.{locates, markOf, locatedIn, changedIn, movedIn, rootBy, partyBy}
 
 -- ---- What a step leaves
 
@@ -107,42 +96,3 @@ by-exit v k o (ending a s u w e) =
 
 pub step-marked : (k : ℕ) (v : View) → Marked v k (stepOf k v)
 step-marked k v = by-exit v k (stepOf k v) (step-exits k v)
-
--- ---- The call's equation, where only the marked words are stored
-
-module _ (r : Root) (ps : List Party) (ls gs : List ℕ) (q : ℕ) (inside : q < length ps) (x : Stepped) (ls′ gs′ : List ℕ)
-    (said : StepSaid r (partyAt ps q) (length ps) q ls gs x ls′ gs′) where
-  abbrev m : Memory
-  m = lent r ps ls gs
-
-  abbrev p : Party
-  p = partyAt ps q
-
-  abbrev Left : Root → List Party → Called StepAnswer
-  Left r′ ps′ = called (x .answer) (lent r′ ps′ ls′ gs′)
-
-  -- What the call over values left of both records, from what the call comes to.
-  core-marked : Leaves r p (p .step) (x .answer) (x .root) (x .party)
-  unfolding stepped
-  core-marked = go (tested m q)
-    where
-      carried : (c : Called StepAnswer) → stepCall m q ≡ c → (p′ : Party) → partyAt (c .memory .parties) q ≡ p′
-          → Leaves r p (p .step) (c .answer) (c .memory .root) p′ → Leaves r p (p .step) (x .answer) (x .root) (x .party)
-      carried c e p′ has l =
-          let left = step-inside r ps ls gs q x ls′ gs′ said ∙ e in
-          let party = sym (row-same ps q (x .party) inside) ∙ ap (λ (y : Called StepAnswer). partyAt (y .memory .parties) q) left ∙ has in
-          rw (ap (λ (y : Called StepAnswer). y .answer) left, ap (λ (y : Called StepAnswer). y .memory .root) left, party) l
-
-      go : Tested m q → Leaves r p (p .step) (x .answer) (x .root) (x .party)
-      go (turned-away n e) = carried _ e p refl (record { root= = refl; party= = refl })
-      go (let-through _ e) =
-          let marked = step-marked (p .step) (viewOf m q) in
-          let p′ = stepOf (p .step) (viewOf m q) .after .party in
-          carried _ e p′ (subst (λ (i : ℕ). partyAt (set ps i p′) q ≡ p′) (sym (marked .number=)) (row-same ps q p′ inside)) (marked .leaves)
-
-  pub step-stored : (k : Mark) → k ≡ markOf (p .step) (x .answer) → (r′ : Root) (ps′ : List Party) → r′ ≡ rootBy k r (x .root)
-      → ps′ ≡ set ps q (partyBy k (partyAt ps q) (x .party)) → called (x .answer) (lent r′ ps′ ls′ gs′) ≡ stepCall (lent r ps ls gs) q
-  step-stored k told r′ ps′ er ep =
-      ap (λ (y : Root). Left y ps′) (er ∙ ap (λ (j : Mark). rootBy j r (x .root)) told ∙ core-marked .root=)
-      ∙ ap (λ (y : List Party). Left (x .root) y) (ep ∙ ap (λ (j : Mark). set ps q (partyBy j p (x .party))) told ∙ ap (set ps q) (core-marked .party=))
-      ∙ step-inside r ps ls gs q x ls′ gs′ said

@@ -10,8 +10,8 @@ use Rattle.model.specs.declared.Party.{Party}
 use Rattle.model.specs.declared.StepAnswer.{StepAnswer}
 use Rattle.model.specs.declared.StepAnswer.the-variants as StepAnswer
 use Rattle.model.specs.Records.{idle}
-use Rattle.index.specs.declared.Mark.{Mark}
-use Rattle.index.specs.declared.Mark.the-variants as Mark
+use Rattle.marks.specs.declared.Mark.{Mark}
+use Rattle.marks.specs.declared.Mark.the-variants as Mark
 
 -- Whether a step locates: 1 to 9.
 abbrev pub locates : ℕ → Bool

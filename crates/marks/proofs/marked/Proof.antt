@@ -1,9 +1,9 @@
--- `index::marked` meets its contract.
+-- `marks::marked` meets its contract.
 use mathlib.Core.Path.{refl}
 use borrow.Author.Tests.{lt-ltb, le-ltb}
 use borrow.Author.Needs.{needs}
-use Rattle.index.proofs.marked.Statement.{statement}
-use Rattle.index.proofs.marked.Tie as tie
+use Rattle.marks.proofs.marked.Statement.{statement}
+use Rattle.marks.proofs.marked.Tie as tie
 
 enum-told : tie.Need-enum-told
 enum-told c = search needs

@@ -1,0 +1,3 @@
+-- What the functions of this crate and of those above it are stated with.
+pub mod Answered
+pub mod Marks
