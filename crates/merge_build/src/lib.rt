@@ -64,16 +64,13 @@ pub fn step_26(
     if addresses::merge_barred(root) {
         return StepAnswer::Refused(DAMAGE);
     }
-    match chain_scan::look_through(root, ChainAddress(party[CHAIN]), 0, &pages[..]) {
-        Scan::Damaged => StepAnswer::Refused(DAMAGE),
-        Scan::Sound(t) => match chain_scan::look_through(
-            root,
-            ChainAddress(party[OTHER]),
-            0,
-            &pages[..],
-        ) {
-            Scan::Damaged => StepAnswer::Refused(DAMAGE),
-            Scan::Sound(u) => combine(root, party, q, t, u, locks, pages),
-        },
-    }
+    let Scan::Sound(t) = chain_scan::look_through(root, ChainAddress(party[CHAIN]), 0, &pages[..])
+    else {
+        return StepAnswer::Refused(DAMAGE);
+    };
+    let Scan::Sound(u) = chain_scan::look_through(root, ChainAddress(party[OTHER]), 0, &pages[..])
+    else {
+        return StepAnswer::Refused(DAMAGE);
+    };
+    combine(root, party, q, t, u, locks, pages)
 }

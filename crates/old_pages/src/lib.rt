@@ -83,8 +83,8 @@ pub fn step_14(
     if !chains::names_overflow(r, party[OLD]) {
         return StepAnswer::Refused(DAMAGE);
     }
-    match chains::count_pages(r, &pages[..], party[OLD]) {
-        Walked::Damaged => StepAnswer::Refused(DAMAGE),
-        Walked::Pages(n) => old_given_back(root, party, q, n, locks, pages),
-    }
+    let Walked::Pages(n) = chains::count_pages(r, &pages[..], party[OLD]) else {
+        return StepAnswer::Refused(DAMAGE);
+    };
+    old_given_back(root, party, q, n, locks, pages)
 }

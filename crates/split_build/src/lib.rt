@@ -166,17 +166,19 @@ pub fn step_17(
     let p = records::party_of(&party[..]);
     let link = free_list::link_at(&pages[..], PageAddress(p.chain));
     match divide(r, p, q, pages) {
-        Divided::Damaged => StepAnswer::Refused(DAMAGE),
+        Divided::Damaged => {
+            return StepAnswer::Refused(DAMAGE);
+        }
         Divided::TooFew => {
             let made = Restructuring::SplitSkipped;
-            last_locks::ended_with_split(r, party, q, locks, pages, made)
+            return last_locks::ended_with_split(r, party, q, locks, pages, made);
         }
         Divided::Written(m) => {
             root[HEAD] = m.head;
             root[FREE] = m.free;
             party[OLD] = link;
             records::at_step(party, 18);
-            StepAnswer::Moved
+            return StepAnswer::Moved;
         }
     }
 }

@@ -50,24 +50,11 @@ count-pages-requires c κs =
     let named = sym (rw er at (at-names-overflow .names-overflow .ensures)) ∙ not-false _ (at-if1 .if1 .left) in
     rw er (named-sound r (p .old) named, omega (arith, pre .1 .ready .pages-fit))
 
-enum-told : tie.Need-enum-told
-enum-told c = search needs
-
 enum-known-n : tie.Need-enum-known-n
 enum-known-n c = search needs
 
-old-given-back-requires : tie.Need-old-given-back-requires
-old-given-back-requires c κs =
-    let at-n = c .before .before .before .before .before in
-    let at-count-pages = at-n .before .before in
-    let at-if1 = at-count-pages .before .before .before in
-    let at-names-overflow = at-if1 .before in
-    let at-root-of = at-names-overflow .before .before in
-    let start = at-root-of .before .before .before .before .before .before in
-    let pre = start .pre in
-    let er = at-root-of .root-of .ensures in
-    let named = sym (rw er at (at-names-overflow .names-overflow .ensures)) ∙ not-false _ (at-if1 .if1 .left) in
-    (pre .0, pre .1, named, sym (rw er at (at-count-pages .count-pages .ensures)) ∙ at-n .n .given .1)
+enum-told : tie.Need-enum-told
+enum-told c = search needs
 
 same-length-2 : tie.Need-same-length-2
 same-length-2 c = search needs
@@ -89,6 +76,19 @@ returns-2 c =
     let named = sym (rw er at (at-names-overflow .names-overflow .ensures)) ∙ not-false _ (at-if1 .if1 .left) in
     let bad = sym (rw er at (at-count-pages .count-pages .ensures)) ∙ c .enum-told .given .1 in
     damaged-refused r p (a .q) (a .locks .now) (a .pages .now) named bad
+
+old-given-back-requires : tie.Need-old-given-back-requires
+old-given-back-requires c κs =
+    let at-n = c .before .before .before .before .before in
+    let at-count-pages = at-n .before .before in
+    let at-if1 = at-count-pages .before .before .before in
+    let at-names-overflow = at-if1 .before in
+    let at-root-of = at-names-overflow .before .before in
+    let start = at-root-of .before .before .before .before .before .before in
+    let pre = start .pre in
+    let er = at-root-of .root-of .ensures in
+    let named = sym (rw er at (at-names-overflow .names-overflow .ensures)) ∙ not-false _ (at-if1 .if1 .left) in
+    (pre .0, pre .1, named, sym (rw er at (at-count-pages .count-pages .ensures)) ∙ at-n .n .given .1)
 
 same-length-4 : tie.Need-same-length-4
 same-length-4 c = search needs
@@ -130,12 +130,12 @@ step-14-spec =
     returns
     slice-read-count-pages
     count-pages-requires
-    enum-told
     enum-known-n
-    old-given-back-requires
+    enum-told
     same-length-2
     same-length-3
     returns-2
+    old-given-back-requires
     same-length-4
     same-length-5
     same-length-6

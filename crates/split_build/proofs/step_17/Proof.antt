@@ -63,42 +63,6 @@ divide-requires c κs =
 enum-told : tie.Need-enum-told
 enum-told c = search needs
 
-enum-told-2 : tie.Need-enum-told-2
-enum-told-2 c = search needs
-
-ended-with-split-requires : tie.Need-ended-with-split-requires
-ended-with-split-requires c κs =
-    let at-divide = c .before .before .before .before .before .before .before in
-    let at-party-of = at-divide .before .before .before .before in
-    let at-if1 = at-party-of .before .before in
-    let at-split-barred = at-if1 .before in
-    let at-root-of = at-split-barred .before in
-    let start = at-root-of .before .before .before .before .before .before in
-    let a = start .args in
-    rw (at-root-of .root-of .ensures) (still-at-hand (at-divide .divide .kept .1 .1 .1 .0) (start .pre .1))
-
-enum-known-m : tie.Need-enum-known-m
-enum-known-m c = search needs
-
-slice-write-root : tie.Need-slice-write-root
-slice-write-root c = search needs
-
-slice-write-root-2 : tie.Need-slice-write-root-2
-slice-write-root-2 c =
-    let start = c .before .before .before .before .before .before .before .before .before .before .before .before .before .before .before .before .before .before .before in
-    simp length-set (omega (arith, start .pre .0))
-
-slice-write-party : tie.Need-slice-write-party
-slice-write-party c =
-    let start = c .before .before .before .before .before .before .before .before .before .before .before .before .before .before .before .before .before .before .before in
-    omega (arith, start .pre .1 .words)
-
-at-step-requires : tie.Need-at-step-requires
-at-step-requires c κs =
-    let at-link-at = c .before .before .before .before .before .before .before .before in
-    let start = at-link-at .before .before .before .before .before .before .before .before .before .before .before .before in
-    length-set (start .args .party .now) 6 (at-link-at .link-at .result) ∙ start .pre .1 .words
-
 same-length-2 : tie.Need-same-length-2
 same-length-2 c = search needs
 
@@ -123,6 +87,20 @@ returns-2 c =
     let er = at-root-of .root-of .ensures in
     let ep = at-party-of .party-of .ensures in
     damage-met r p (a .q) (a .locks .now) (a .pages .now) _ _ er ep e (c .enum-told .given .1)
+
+enum-told-2 : tie.Need-enum-told-2
+enum-told-2 c = search needs
+
+ended-with-split-requires : tie.Need-ended-with-split-requires
+ended-with-split-requires c κs =
+    let at-divide = c .before .before .before .before .before .before .before in
+    let at-party-of = at-divide .before .before .before .before in
+    let at-if1 = at-party-of .before .before in
+    let at-split-barred = at-if1 .before in
+    let at-root-of = at-split-barred .before in
+    let start = at-root-of .before .before .before .before .before .before in
+    let a = start .args in
+    rw (at-root-of .root-of .ensures) (still-at-hand (at-divide .divide .kept .1 .1 .1 .0) (start .pre .1))
 
 same-length-5 : tie.Need-same-length-5
 same-length-5 c = search needs
@@ -154,6 +132,28 @@ returns-3 c =
     let ep = at-party-of .party-of .ensures in
     let ended = rw er at (at-ended-with-split .ended-with-split .ensures) in
     ended ∙ split-skipped r p (a .q) (a .locks .now) (a .pages .now) _ _ er ep e (at-enum-told2 .enum-told2 .given .1)
+
+enum-known-m : tie.Need-enum-known-m
+enum-known-m c = search needs
+
+slice-write-root : tie.Need-slice-write-root
+slice-write-root c = search needs
+
+slice-write-root-2 : tie.Need-slice-write-root-2
+slice-write-root-2 c =
+    let start = c .before .before .before .before .before .before .before .before .before .before .before .before .before .before .before .before .before .before .before in
+    simp length-set (omega (arith, start .pre .0))
+
+slice-write-party : tie.Need-slice-write-party
+slice-write-party c =
+    let start = c .before .before .before .before .before .before .before .before .before .before .before .before .before .before .before .before .before .before .before in
+    omega (arith, start .pre .1 .words)
+
+at-step-requires : tie.Need-at-step-requires
+at-step-requires c κs =
+    let at-link-at = c .before .before .before .before .before .before .before .before in
+    let start = at-link-at .before .before .before .before .before .before .before .before .before .before .before .before in
+    length-set (start .args .party .now) 6 (at-link-at .link-at .result) ∙ start .pre .1 .words
 
 same-length-9 : tie.Need-same-length-9
 same-length-9 c = search needs
@@ -203,22 +203,22 @@ step-17-spec =
     link-at-requires
     divide-requires
     enum-told
-    enum-told-2
-    ended-with-split-requires
-    enum-known-m
-    slice-write-root
-    slice-write-root-2
-    slice-write-party
-    at-step-requires
     same-length-2
     same-length-3
     same-length-4
     returns-2
+    enum-told-2
+    ended-with-split-requires
     same-length-5
     same-length-6
     same-length-7
     same-length-8
     returns-3
+    enum-known-m
+    slice-write-root
+    slice-write-root-2
+    slice-write-party
+    at-step-requires
     same-length-9
     same-length-10
     same-length-11
