@@ -4,7 +4,8 @@ from shapes import Declared, U32
 
 ROOT_FIELDS = ('originals', 'capacity', 'primaries', 'overflow', 'parties', 'level', 'next', 'head', 'free')
 PARTY_FIELDS = ('operation', 'key', 'step', 'lev', 'chain', 'other', 'old', 'owed', 'answer', 'setting')
-LOCATED, CHANGED, MOVED = PARTY_FIELDS[2:6], PARTY_FIELDS[2:9], ROOT_FIELDS[5:]
+ADVANCED, LOCATED, CHANGED = PARTY_FIELDS[2:3], PARTY_FIELDS[2:6], PARTY_FIELDS[2:3] + PARTY_FIELDS[4:9]
+MOVED = ROOT_FIELDS[5:]
 
 
 class Fielded(Declared):
@@ -42,6 +43,6 @@ class Tagged(Declared):
 
 
 root_fields = Fielded(ROOT, ROOT_FIELDS, ROOT_FIELDS, {'movedIn': MOVED})
-party_fields = Fielded(PARTY, PARTY_FIELDS, PARTY_FIELDS, {'locatedIn': LOCATED, 'changedIn': CHANGED})
+party_fields = Fielded(PARTY, PARTY_FIELDS, PARTY_FIELDS, {'advancedIn': ADVANCED, 'locatedIn': LOCATED, 'changedIn': CHANGED})
 party_step = Fielded(PARTY, PARTY_FIELDS, ('step',), {})
-mark_tags = Tagged(MARK, 'tagOf', ('Kept', 'Located', 'Ended', 'Changed'))
+mark_tags = Tagged(MARK, 'tagOf', ('Advanced', 'Located', 'Ended', 'Changed'))

@@ -9,13 +9,13 @@ use Rattle.model.specs.declared.Party.{Party}
 use Rattle.model.specs.declared.StepAnswer.{StepAnswer}
 use Rattle.model.specs.declared.StepAnswer.the-variants as StepAnswer
 use Rattle.model.specs.Outcome.{View, Outcome, moved}
-use Rattle.model.specs.Steps.Table.{answerWord, oldWord, owedWord, levelWord, nextWord, freeWord}
+use Rattle.model.specs.Steps.Table.{answerWord, levWord, chainsWord, oldWord, owedWord, levelWord, nextWord, freeWord}
 use Rattle.model.specs.Steps.Dispatch.{stepOf, writesTable, writes}
 use Rattle.model.specs.FreeList.{isAmong}
 use Rattle.model.proofs.Laws.Lists.{allPass}
 use Rattle.model.proofs.Exits.Statement.{Kept, keptBy, none-writes, Exit, refusing, waiting, taking, moving, looking, ending}
 use Rattle.model.proofs.Exits.{step-exits}
-use Rattle.marks.specs.Marks.{locates, markOf, locatedIn, changedIn, movedIn, rootBy, partyBy}
+use Rattle.marks.specs.Marks.{locates, advances, markOf, advancedIn, locatedIn, changedIn, movedIn, rootBy, partyBy}
 
 -- ---- What a step leaves
 
@@ -48,40 +48,67 @@ module _ (v u : View) (k : ℕ) (kept : keptBy k u ≡ keptBy k v) where
         sym (ap (λ (x : Kept). x .sizes .parties) kept),
       ) refl
 
-  changed-party : changedIn (v .party) (u .party) ≡ u .party
-  changed-party = rw (sym (ap (λ (x : Kept). x .operation) kept), sym (ap (λ (x : Kept). x .key) kept), sym (ap (λ (x : Kept). x .setting) kept)) refl
+  operation= : v .party .operation ≡ u .party .operation
+  operation= = sym (ap (λ (x : Kept). x .operation) kept)
 
-  -- A step that locates writes none of the other words.
-  module _ (early : not (locates k) ≡ false) where
-    kept-word : (w : ℕ) → allPass (λ j ws. not (locates j) || not (isAmong w ws)) 0 writesTable ≡ true → (x y : ℕ)
-        → cond (writes k w) 0 x ≡ cond (writes k w) 0 y → x ≡ y
-    kept-word w column x y e = word-kept (writes k w) x y (none-writes (λ j. not (locates j)) w column k early) e
+  key= : v .party .key ≡ u .party .key
+  key= = sym (ap (λ (x : Kept). x .key) kept)
 
-    same-root : v .root ≡ u .root
-    unfolding writesTable isAmong
-    same-root =
-        let level = kept-word levelWord refl _ _ (ap (λ (x : Kept). x .level) kept) in
-        let next = kept-word nextWord refl _ _ (ap (λ (x : Kept). x .next) kept) in
-        let head = kept-word freeWord refl _ _ (ap (λ (x : Kept). x .head) kept) in
-        let free = kept-word freeWord refl _ _ (ap (λ (x : Kept). x .free) kept) in
+  setting= : v .party .setting ≡ u .party .setting
+  setting= = sym (ap (λ (x : Kept). x .setting) kept)
+
+  -- Words that no step without the test t writes, and k is without it.
+  module _ (t : ℕ → Bool) (without : t k ≡ false) where
+    abbrev Unwritten : ℕ → Type 0
+    Unwritten w = allPass (λ j ws. t j || not (isAmong w ws)) 0 writesTable ≡ true
+
+    kept-word : (w : ℕ) → Unwritten w → (x y : ℕ) → cond (writes k w) 0 x ≡ cond (writes k w) 0 y → x ≡ y
+    kept-word w column x y e = word-kept (writes k w) x y (none-writes t w column k without) e
+
+    same-root : Unwritten levelWord → Unwritten nextWord → Unwritten freeWord → v .root ≡ u .root
+    same-root l n f =
+        let level = kept-word levelWord l _ _ (ap (λ (x : Kept). x .level) kept) in
+        let next = kept-word nextWord n _ _ (ap (λ (x : Kept). x .next) kept) in
+        let head = kept-word freeWord f _ _ (ap (λ (x : Kept). x .head) kept) in
+        let free = kept-word freeWord f _ _ (ap (λ (x : Kept). x .free) kept) in
         let back : v .root ≡ movedIn (v .root) (u .root) = rw (level, next, head, free) refl in
         back ∙ moved-root
 
-    located-party : locatedIn (v .party) (u .party) ≡ u .party
-    unfolding writesTable isAmong
-    located-party =
-        let old = kept-word oldWord refl _ _ (ap (λ (x : Kept). x .old) kept) in
-        let owed = kept-word owedWord refl _ _ (ap (λ (x : Kept). x .owed) kept) in
-        let answer = kept-word answerWord refl _ _ (ap (λ (x : Kept). x .answer) kept) in
-        let back : locatedIn (v .party) (u .party) ≡ changedIn (v .party) (u .party) = rw (old, owed, answer) refl in
-        back ∙ changed-party
+    lev= : Unwritten levWord → v .party .lev ≡ u .party .lev
+    lev= l = sym (kept-word levWord l _ _ (ap (λ (x : Kept). x .lev) kept))
+
+    changed-party : Unwritten levWord → changedIn (v .party) (u .party) ≡ u .party
+    changed-party l = rw (operation=, key=, setting=, lev= l) refl
+
+    located-party : Unwritten oldWord → Unwritten owedWord → Unwritten answerWord → locatedIn (v .party) (u .party) ≡ u .party
+    located-party o w a =
+        let old = sym (kept-word oldWord o _ _ (ap (λ (x : Kept). x .old) kept)) in
+        let owed = sym (kept-word owedWord w _ _ (ap (λ (x : Kept). x .owed) kept)) in
+        let answer = sym (kept-word answerWord a _ _ (ap (λ (x : Kept). x .answer) kept)) in
+        rw (operation=, key=, setting=, old, owed, answer) refl
+
+    advanced-party : Unwritten levWord → Unwritten chainsWord → locatedIn (v .party) (u .party) ≡ u .party → advancedIn (v .party) (u .party) ≡ u .party
+    advanced-party l c located =
+        let chain = kept-word chainsWord c _ _ (ap (λ (x : Kept). x .chain) kept) in
+        let other = kept-word chainsWord c _ _ (ap (λ (x : Kept). x .other) kept) in
+        let back : advancedIn (v .party) (u .party) ≡ locatedIn (v .party) (u .party) = rw (sym (lev= l), chain, other) refl in
+        back ∙ located
 
   moved-marked : Marked v k (moved u)
-  moved-marked = record { number= = ap (λ (x : Kept). x .number) kept; leaves = go (locates k) refl }
+  unfolding writesTable isAmong
+  moved-marked = record { number= = ap (λ (x : Kept). x .number) kept; leaves = go (locates k) refl (advances k) refl }
     where
-      go : (b : Bool) → locates k ≡ b → Leaves (v .root) (v .party) k StepAnswer.Moved (u .root) (u .party)
-      go true e = record { root= = rw e (same-root (ap not e)); party= = rw e (located-party (ap not e)) }
-      go false e = record { root= = rw e moved-root; party= = rw e changed-party }
+      go : (b : Bool) → locates k ≡ b → (c : Bool) → advances k ≡ c → Leaves (v .root) (v .party) k StepAnswer.Moved (u .root) (u .party)
+      go true e c f =
+          let root = same-root (λ j. not (locates j)) (ap not e) refl refl refl in
+          let party = located-party (λ j. not (locates j)) (ap not e) refl refl refl in
+          record { root= = rw e root; party= = rw e party }
+      go false e true f =
+          let root = same-root (λ j. not (advances j)) (ap not f) refl refl refl in
+          let located = located-party (λ j. not (advances j)) (ap not f) refl refl refl in
+          let party = advanced-party (λ j. not (advances j)) (ap not f) refl refl located in
+          record { root= = rw (e, f) root; party= = rw (e, f) party }
+      go false e false f = record { root= = rw (e, f) moved-root; party= = rw (e, f) (changed-party locates e refl) }
 
 -- ---- Every step
 

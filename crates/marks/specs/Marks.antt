@@ -1,10 +1,11 @@
 -- What a step can have changed of the root and of its party's record, by its number and its answer; and what both
 -- records are where only those words are stored.
--- Main definitions: locates, markOf; locatedIn, changedIn, movedIn (a record with the words that such a step changes);
--- rootBy, partyBy (what is stored by a mark). That a step changes no other word: proofs/Marks.antt.
-use mathlib.Core.Bool.{Bool, cond}
+-- Main definitions: locates, advances, markOf; advancedIn, locatedIn, changedIn, movedIn (a record with the words that
+-- such a step changes); rootBy, partyBy (what is stored by a mark). That a step changes no other word:
+-- proofs/Marks.antt.
+use mathlib.Core.Bool.{Bool, cond, _||_}
 use Prim.Native.Nat.{ℕ}
-use lib.Dec.{ltb}
+use lib.Dec.{ltb, eqb}
 use Rattle.model.specs.declared.Root.{Root}
 use Rattle.model.specs.declared.Party.{Party}
 use Rattle.model.specs.declared.StepAnswer.{StepAnswer}
@@ -17,12 +18,35 @@ use Rattle.marks.specs.declared.Mark.the-variants as Mark
 abbrev pub locates : ℕ → Bool
 locates k = ltb k 10
 
+-- Whether a step from 10 on changes the step number alone.
+abbrev pub advances : ℕ → Bool
+advances k =
+    let change = (eqb k 11 || eqb k 12) || eqb k 13 in
+    let split = (eqb k 15 || eqb k 18) || eqb k 19 in
+    let merge = (eqb k 23 || eqb k 25) || eqb k 28 in
+    (change || split) || merge
+
 -- The mark of step k that answered so.
 abbrev pub markOf : ℕ → StepAnswer → Mark
-markOf k StepAnswer.Waiting = Mark.Kept
-markOf k StepAnswer.Moved = cond (locates k) Mark.Located Mark.Changed
+markOf k StepAnswer.Waiting = Mark.Advanced
+markOf k StepAnswer.Moved = cond (locates k) Mark.Located (cond (advances k) Mark.Advanced Mark.Changed)
 markOf k (StepAnswer.Done a s) = Mark.Ended
-markOf k (StepAnswer.Refused n) = Mark.Kept
+markOf k (StepAnswer.Refused n) = Mark.Advanced
+
+-- The record p with the step of x.
+abbrev pub advancedIn : Party → Party → Party
+advancedIn p x = record {
+  operation = p .operation;
+  key = p .key;
+  step = x .step;
+  lev = p .lev;
+  chain = p .chain;
+  other = p .other;
+  old = p .old;
+  owed = p .owed;
+  answer = p .answer;
+  setting = p .setting;
+}
 
 -- The record p with step, lev, chain and other of x.
 abbrev pub locatedIn : Party → Party → Party
@@ -39,13 +63,13 @@ locatedIn p x = record {
   setting = p .setting;
 }
 
--- The record p with step to answer of x.
+-- The record p with step, chain, other, old, owed and answer of x.
 abbrev pub changedIn : Party → Party → Party
 changedIn p x = record {
   operation = p .operation;
   key = p .key;
   step = x .step;
-  lev = x .lev;
+  lev = p .lev;
   chain = x .chain;
   other = x .other;
   old = x .old;
@@ -70,14 +94,14 @@ movedIn r x = record {
 
 -- The root r, where of x only the words are stored that a step with this mark can have changed.
 abbrev pub rootBy : Mark → Root → Root → Root
-rootBy Mark.Kept r x = r
+rootBy Mark.Advanced r x = r
 rootBy Mark.Located r x = r
 rootBy Mark.Ended r x = movedIn r x
 rootBy Mark.Changed r x = movedIn r x
 
 -- The record p, where only those of x are stored.
 abbrev pub partyBy : Mark → Party → Party → Party
-partyBy Mark.Kept p x = p
+partyBy Mark.Advanced p x = advancedIn p x
 partyBy Mark.Located p x = locatedIn p x
 partyBy Mark.Ended p x = idle
 partyBy Mark.Changed p x = changedIn p x

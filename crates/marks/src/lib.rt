@@ -5,7 +5,7 @@
 
 ghost use mathlib.Core.Path.{_≡_};
 ghost use Rattle.marks.specs.Answered.{isFormatted, isBegun};
-ghost use Rattle.marks.specs.Marks.{markOf};
+ghost use Rattle.marks.specs.Marks.{advances, markOf};
 use model::BeginAnswer;
 use model::FormatAnswer;
 use model::StepAnswer;
@@ -32,14 +32,24 @@ pub fn is_begun(answer: BeginAnswer) -> bool
 
 // What a step can have changed of the root and of its party's record.
 pub enum Mark {
-    // Nothing.
-    Kept,
+    // The step number, or nothing.
+    Advanced,
     // Step, lev, chain and other of the record.
     Located,
     // The record, which is zero then, and level, next, head and free of the root.
     Ended,
-    // Step to answer of the record, and level, next, head and free of the root.
+    // Step, chain, other, old, owed and answer of the record, and level, next, head and free of the root.
     Changed,
+}
+
+// Whether a step from 10 on changes the step number alone.
+fn advances(k: u32) -> bool
+    ensures { λ r. ⌜ r ≡ advances k ⌝ }
+{
+    let change = (k == 11) | (k == 12) | (k == 13);
+    let split = (k == 15) | (k == 18) | (k == 19);
+    let merge = (k == 23) | (k == 25) | (k == 28);
+    change | split | merge
 }
 
 // The mark of a step with this number that answered so. Steps 1 to 9 locate.
@@ -47,9 +57,17 @@ pub fn marked(k: u32, answer: StepAnswer) -> Mark
     ensures { λ r. ⌜ r ≡ markOf k answer ⌝ }
 {
     match answer {
-        StepAnswer::Waiting => Mark::Kept,
-        StepAnswer::Moved => { if k < 10 { Mark::Located } else { Mark::Changed } }
+        StepAnswer::Waiting => Mark::Advanced,
+        StepAnswer::Moved => {
+            if k < 10 {
+                Mark::Located
+            } else if advances(k) {
+                Mark::Advanced
+            } else {
+                Mark::Changed
+            }
+        }
         StepAnswer::Done(_, _) => Mark::Ended,
-        StepAnswer::Refused(_) => Mark::Kept,
+        StepAnswer::Refused(_) => Mark::Advanced,
     }
 }

@@ -11,19 +11,19 @@ use Rattle.marks.specs.Marks.{movedIn, rootBy, partyBy}
 
 -- The place of a mark among the variants, and the mark at a place.
 abbrev pub tagOf : Mark → ℕ
-tagOf Mark.Kept = 0
+tagOf Mark.Advanced = 0
 tagOf Mark.Located = 1
 tagOf Mark.Ended = 2
 tagOf Mark.Changed = 3
 
 abbrev pub markAt : ℕ → Mark
-markAt zero = Mark.Kept
+markAt zero = Mark.Advanced
 markAt (suc zero) = Mark.Located
 markAt (suc (suc zero)) = Mark.Ended
 markAt (suc (suc (suc n))) = Mark.Changed
 
 at-tag : (m : Mark) → markAt (tagOf m) ≡ m
-at-tag Mark.Kept = refl
+at-tag Mark.Advanced = refl
 at-tag Mark.Located = refl
 at-tag Mark.Ended = refl
 at-tag Mark.Changed = refl

@@ -14,7 +14,7 @@ pub fn put_root(root: &mut Root, r: Root, mark: Mark)
     ensures { λ _. ⌜ now (root .exit) ≡ rootBy mark (now (root .entry)) r ⌝ }
 {
     match mark {
-        Mark::Kept | Mark::Located => {
+        Mark::Advanced | Mark::Located => {
             return;
         }
         Mark::Ended | Mark::Changed => {
@@ -33,7 +33,8 @@ pub fn put_party(parties: &mut [Party], at: usize, p: Party, mark: Mark)
 {
     if at < parties.len() {
         match mark {
-            Mark::Kept => {
+            Mark::Advanced => {
+                parties[at].step = p.step;
                 return;
             }
             Mark::Located => {
@@ -49,7 +50,6 @@ pub fn put_party(parties: &mut [Party], at: usize, p: Party, mark: Mark)
             }
             Mark::Changed => {
                 parties[at].step = p.step;
-                parties[at].lev = p.lev;
                 parties[at].chain = p.chain;
                 parties[at].other = p.other;
                 parties[at].old = p.old;

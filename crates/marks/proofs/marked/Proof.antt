@@ -1,5 +1,5 @@
 -- `marks::marked` meets its contract.
-use mathlib.Core.Path.{refl}
+use mathlib.Core.Path.{refl, sym, _∙_}
 use borrow.Author.Tests.{lt-ltb, le-ltb}
 use borrow.Author.Needs.{needs}
 use Rattle.marks.proofs.marked.Statement.{statement}
@@ -10,6 +10,9 @@ enum-told c = search needs
 
 enum-told-2 : tie.Need-enum-told-2
 enum-told-2 c = search needs
+
+advances-requires : tie.Need-advances-requires
+advances-requires c κs = search needs
 
 enum-told-3 : tie.Need-enum-told-3
 enum-told-3 c = search needs
@@ -24,13 +27,22 @@ returns-2 : tie.Need-returns-2
 returns-2 c = rw (c .before .enum-told2 .given .1, lt-ltb _ _ (c .if1 .taken)) refl
 
 returns-3 : tie.Need-returns-3
-returns-3 c = rw (c .before .enum-told2 .given .1, le-ltb _ _ (c .if1 .left)) refl
+returns-3 c =
+    let at-advances = c .before in
+    let at-if1 = at-advances .before in
+    rw (at-if1 .before .enum-told2 .given .1, le-ltb _ _ (at-if1 .if1 .left), sym (at-advances .advances .ensures) ∙ c .if2 .taken) refl
 
 returns-4 : tie.Need-returns-4
-returns-4 c = search needs
+returns-4 c =
+    let at-advances = c .before in
+    let at-if1 = at-advances .before in
+    rw (at-if1 .before .enum-told2 .given .1, le-ltb _ _ (at-if1 .if1 .left), sym (at-advances .advances .ensures) ∙ c .if2 .left) refl
 
 returns-5 : tie.Need-returns-5
 returns-5 c = search needs
+
+returns-6 : tie.Need-returns-6
+returns-6 c = search needs
 
 pub marked-spec : {M : Type 1} → statement M
 marked-spec =
@@ -38,10 +50,12 @@ marked-spec =
     (tie.spec
     enum-told
     enum-told-2
+    advances-requires
     enum-told-3
     enum-told-4
     returns
     returns-2
     returns-3
     returns-4
-    returns-5)
+    returns-5
+    returns-6)

@@ -1,6 +1,6 @@
 -- `stores::put_party` meets its contract: a walk of its MIR, made by tools/walks/put_party.py.
--- The row's borrow is opened and the record taken out; by the mark nothing is stored, or four words, or the zero record, or
--- seven words; the borrow is closed.
+-- The row's borrow is opened and the record taken out; by the mark one word is stored, or four, or the zero record, or
+-- six words; the borrow is closed.
 use mathlib.Core.Path.{_≡_, refl, sym, _∙_, ap, subst}
 use Prim.Native.Nat.{ℕ, _<_, _^_}
 use mathlib.Core.List.{[], _∷_, List}
@@ -54,7 +54,7 @@ use Rattle.marks.proofs.Mark.Laws as K′
 use Rattle.marks.specs.declared.Mark.the-variants as Mark
 use Rattle.model.specs.Records as Records
 use Rattle.model.specs.Memory.{partyAt}
-use Rattle.marks.specs.Marks.{locatedIn, changedIn, partyBy}
+use Rattle.marks.specs.Marks.{advancedIn, locatedIn, changedIn, partyBy}
 use Rattle.stores.proofs.Ends.{place-fits, set-past}
 use Rattle.stores.proofs.Tags.{tagOf, party-by}
 use Rattle.records.proofs.idle as idle
@@ -70,7 +70,7 @@ abbrev stayed : Stays (it.ended .signature .params) (it.ended .kept)
 stayed = (stay-slice (0 ∷ []) tt (plain (λ _. P.the-row)), (stay-none (λ _. usize) yes, (stay-none (λ _. P.the-row) yes, (stay-none (λ _. K.the-row) yes, tt))))
 
 K-live : (x : Mark) → K′.lowered x ≡ live (tagOf x) vnil
-K-live Mark.Kept = refl
+K-live Mark.Advanced = refl
 K-live Mark.Located = refl
 K-live Mark.Ended = refl
 K-live Mark.Changed = refl
@@ -105,11 +105,14 @@ P-answer x {vs} is = LL.owed P.the-type P′.the-laws x vs is .1 .1 .1 .1 .1 .1 
 P-setting : (x : Party) {vs : List Val} → Is P.the-row x vs → Is u32 (x .setting) (vint w32 (x .setting) ∷ [])
 P-setting x {vs} is = LL.owed P.the-type P′.the-laws x vs is .1 .1 .1 .1 .1 .1 .1 .1 .1 .0
 
+P-advancedIn : (p x : Party) {vs ws : List Val} → Is P.the-row p vs → Is P.the-row x ws → Is P.the-row (advancedIn p x) (P′.lowered (advancedIn p x) ∷ [])
+P-advancedIn p x ip ix = LL.owes P.the-type P′.the-laws (advancedIn p x) (P-operation p ip, (P-key p ip, (P-step x ix, (P-lev p ip, (P-chain p ip, (P-other p ip, (P-old p ip, (P-owed p ip, (P-answer p ip, (P-setting p ip, tt))))))))))
+
 P-locatedIn : (p x : Party) {vs ws : List Val} → Is P.the-row p vs → Is P.the-row x ws → Is P.the-row (locatedIn p x) (P′.lowered (locatedIn p x) ∷ [])
 P-locatedIn p x ip ix = LL.owes P.the-type P′.the-laws (locatedIn p x) (P-operation p ip, (P-key p ip, (P-step x ix, (P-lev x ix, (P-chain x ix, (P-other x ix, (P-old p ip, (P-owed p ip, (P-answer p ip, (P-setting p ip, tt))))))))))
 
 P-changedIn : (p x : Party) {vs ws : List Val} → Is P.the-row p vs → Is P.the-row x ws → Is P.the-row (changedIn p x) (P′.lowered (changedIn p x) ∷ [])
-P-changedIn p x ip ix = LL.owes P.the-type P′.the-laws (changedIn p x) (P-operation p ip, (P-key p ip, (P-step x ix, (P-lev x ix, (P-chain x ix, (P-other x ix, (P-old x ix, (P-owed x ix, (P-answer x ix, (P-setting p ip, tt))))))))))
+P-changedIn p x ip ix = LL.owes P.the-type P′.the-laws (changedIn p x) (P-operation p ip, (P-key p ip, (P-step x ix, (P-lev p ip, (P-chain x ix, (P-other x ix, (P-old x ix, (P-owed x ix, (P-answer x ix, (P-setting p ip, tt))))))))))
 
 module _ {M : Type 1} (𝓤 : URA M) (H : Heap 𝓤) (A : Atoms 𝓤) (mem′ : Memory → SProp 𝓤) (run : Routine → Fun 𝓤) where
   -- the contracts that the proof cites
@@ -158,37 +161,42 @@ module _ {M : Type 1} (𝓤 : URA M) (H : Heap 𝓤) (A : Atoms 𝓤) (W : Given
     walk =
         qed W ((‵ (flft κ₀ q₀) ⊛ ‵ ftrue) ∷ ‵ (owns (MutSlice (named 0) κ₀ P.the-row ∷ usize ∷ P.the-row ∷ K.the-row ∷ []) a vals) ∷ []) ∵
         enter ! C Λ code.function (s₀ ∷ vint w64 i ∷ P′.lowered y ∷ K′.lowered m ∷ []) _ $
-        alloc1 ! (λ l₀. alloc1 ! (λ l₁. alloc1 ! (λ l₂. alloc1 ! (λ l₃. alloc1 ! (λ l₄. alloc1 ! (λ l₅. alloc1 ! (λ l₆. alloc1 ! (λ l₇. alloc1 ! (λ l₈. alloc1 ! (λ l₉. alloc1 ! (λ l₁₀. alloc1 ! (λ l₁₁. alloc1 ! (λ l₁₂. alloc1 ! (λ l₁₃. alloc1 ! (λ l₁₄. alloc1 ! (λ l₁₅. alloc1 ! (λ l₁₆. alloc1 ! (λ l₁₇. alloc1 ! (λ l₁₈. alloc1 ! (λ l₁₉. alloc1 ! (λ l₂₀. alloc1 ! (λ l₂₁. alloc1 ! (λ l₂₂. alloc0 ! $ params1 ! $
-        pass1 ! (init ! 42 refl (tt, (tt, (record { fits = room₀ .0 }, tt)))) $
-        pass1 ! (init ! 40 refl (tt, record { fits = i-fits })) $
-        pass1 ! (init ! 38 refl (LL.lawful P.the-type P′.the-laws 𝓤 H A W .typed y _ iy .0)) $
-        pass1 ! (init ! 36 refl (EL.lawful K.the-type K′.the-laws 𝓤 H A W tt .typed m _ im .0)) $
+        alloc1 ! (λ l₀. alloc1 ! (λ l₁. alloc1 ! (λ l₂. alloc1 ! (λ l₃. alloc1 ! (λ l₄. alloc1 ! (λ l₅. alloc1 ! (λ l₆. alloc1 ! (λ l₇. alloc1 ! (λ l₈. alloc1 ! (λ l₉. alloc1 ! (λ l₁₀. alloc1 ! (λ l₁₁. alloc1 ! (λ l₁₂. alloc1 ! (λ l₁₃. alloc1 ! (λ l₁₄. alloc1 ! (λ l₁₅. alloc1 ! (λ l₁₆. alloc1 ! (λ l₁₇. alloc1 ! (λ l₁₈. alloc1 ! (λ l₁₉. alloc1 ! (λ l₂₀. alloc1 ! (λ l₂₁. alloc1 ! (λ l₂₂. alloc1 ! (λ l₂₃. alloc0 ! $ params1 ! $
+        pass1 ! (init ! 44 refl (tt, (tt, (record { fits = room₀ .0 }, tt)))) $
+        pass1 ! (init ! 42 refl (tt, record { fits = i-fits })) $
+        pass1 ! (init ! 40 refl (LL.lawful P.the-type P′.the-laws 𝓤 H A W .typed y _ iy .0)) $
+        pass1 ! (init ! 38 refl (EL.lawful K.the-type K′.the-laws 𝓤 H A W tt .typed m _ im .0)) $
         pass0 ! $
-        move ! (46 ∷ []) $
-        split ! $
         move ! (48 ∷ []) $
+        split ! $
+        move ! (50 ∷ []) $
         fsplit ! $
         fsplit ! $
         drop ! $
         fsplit ! $
-        assigns ! (of-opd ! (load ! (from ! (fld ! refl (stop !))) (look-in ! 47 (sub ! 1 refl (whole !))))) (from ! (stop !)) (init ! 39 refl (tt, record { fits = room₀ .0 })) $
-        assigns ! (bin ! (load ! (from ! (stop !)) (look ! 45 refl)) (load ! (from ! (stop !)) (look ! 39 refl)) tt) (from ! (stop !)) (init ! 37 refl (tt, tt)) $
-        first ! $ branches ! (load ! (from ! (stop !)) (look ! 37 refl))
+        assigns ! (of-opd ! (load ! (from ! (fld ! refl (stop !))) (look-in ! 49 (sub ! 1 refl (whole !))))) (from ! (stop !)) (init ! 41 refl (tt, record { fits = room₀ .0 })) $
+        assigns ! (bin ! (load ! (from ! (stop !)) (look ! 47 refl)) (load ! (from ! (stop !)) (look ! 41 refl)) tt) (from ! (stop !)) (init ! 39 refl (tt, tt)) $
+        first ! $ branches ! (load ! (from ! (stop !)) (look ! 39 refl))
         (λ may.
         move ! (0 ∷ 1 ∷ 3 ∷ []) $
         opens-slice ! tt P.the-row ps b₀ o₀ $
         elem-out ! P.the-row (Is P.the-row) (shows 𝓤 H A P.the-row) (λ d. P′.lowered d ∷ []) (P′.lowers .val-is) fullShare ps i Records.idle b₀ o₀ (ltb→lt i (length ps) may) (λ ip.
-        rewrite ! 44 (λ (u : Val). ‵ (fat fullShare K′.mir l₄ 0 u)) (K-live m) refl $
-        by-variants ! 44 (whole !) (load ! (from ! (vrt ! refl (fld ! refl (stop !)))) (look-tag ! 44 (whole !))) tt (
+        rewrite ! 46 (λ (u : Val). ‵ (fat fullShare K′.mir l₄ 0 u)) (K-live m) refl $
+        by-variants ! 46 (whole !) (load ! (from ! (vrt ! refl (fld ! refl (stop !)))) (look-tag ! 46 (whole !))) tt (
           (λ e.
-              assigns ! (of-opd ! (unit-lit !)) (from ! (stop !)) (init ! 52 refl (tt, tt)) $
+              assigns ! (bin ! (load ! (from ! (stop !)) (look ! 50 refl)) (lit ! tt) (record { fits = place-fits i (length ps) (ltb→lt i (length ps) may) (room₀ .1) })) (from ! (stop !)) (init ! 40 refl (tt, record { fits = place-fits i (length ps) (ltb→lt i (length ps) may) (room₀ .1) })) $
+              assigns ! (bin ! (load ! (from ! (fld ! refl (stop !))) (look-in ! 52 (sub ! 0 refl (whole !)))) (load ! (from ! (stop !)) (look ! 40 refl)) tt) (from ! (stop !)) (init ! 38 refl (tt, tt)) $
+              rewrite ! 38 (λ (x : ℕ). ‵ (fat fullShare tyPtr l₈ 0 (vptr b₀ x))) (sym (place-is 40 o₀ i)) refl $
+              assigns ! (of-opd ! (load ! (from ! (fld ! refl (stop !))) (look-in ! 48 (sub ! 2 refl (whole !))))) (from ! (hop ! (look ! 38 refl) (fld ! refl (stop !)))) (store-in ! 0 (sub ! 2 refl (whole !)) (uint-lawful 𝓤 H A W w32 .typed (y .step) _ (P-step y iy) .0)) $
+              assigns ! (of-opd ! (unit-lit !)) (from ! (stop !)) (init ! 54 refl (tt, tt)) $
               move ! (1 ∷ []) $
               drop ! $
-              owned ! P.the-row (Is P.the-row) (LL.makes P.the-type P′.the-plain 𝓤 H A) (partyAt ps i) _ ip $
+              owned ! P.the-row (Is P.the-row) (LL.makes P.the-type P′.the-plain 𝓤 H A) (advancedIn (partyAt ps i) y) _ (P-advancedIn (partyAt ps i) y ip iy) $
               move ! (1 ∷ 0 ∷ 2 ∷ []) $
-              elem-put ! P.the-row fullShare ps i (partyAt ps i) (P′.lowered (partyAt ps i) ∷ []) b₀ o₀ (ltb→lt i (length ps) may) $
-              closes-slice ! tt P.the-row ps (set ps i (partyAt ps i)) (length-set ps i (partyAt ps i)) b₀ o₀ $
-              returns-within ! Post refl (look ! 49 refl) $
+              elem-put ! P.the-row fullShare ps i (advancedIn (partyAt ps i) y) (P′.lowered (advancedIn (partyAt ps i) y) ∷ []) b₀ o₀ (ltb→lt i (length ps) may) $
+              closes-slice ! tt P.the-row ps (set ps i (advancedIn (partyAt ps i) y)) (length-set ps i (advancedIn (partyAt ps i) y)) b₀ o₀ $
+              returns-within ! Post refl (look ! 51 refl) $
+              forget ! 35 refl $
               forget ! 37 refl $
               forget ! 39 refl $
               forget ! 41 refl $
@@ -196,7 +204,9 @@ module _ {M : Type 1} (𝓤 : URA M) (H : Heap 𝓤) (A : Atoms 𝓤) (W : Given
               forget ! 45 refl $
               forget ! 47 refl $
               forget ! 49 refl $
-              move ! (49 ∷ 50 ∷ 47 ∷ 48 ∷ 45 ∷ 46 ∷ 43 ∷ 44 ∷ 41 ∷ 42 ∷ 39 ∷ 40 ∷ 37 ∷ 38 ∷ 35 ∷ 36 ∷ 33 ∷ 34 ∷ 31 ∷ 32 ∷ 29 ∷ 30 ∷ 27 ∷ 28 ∷ 25 ∷ 26 ∷ 23 ∷ 24 ∷ 21 ∷ 22 ∷ 19 ∷ 20 ∷ 17 ∷ 18 ∷ 15 ∷ 16 ∷ 13 ∷ 14 ∷ 11 ∷ 12 ∷ 9 ∷ 10 ∷ 7 ∷ 8 ∷ 5 ∷ 6 ∷ []) $
+              forget ! 51 refl $
+              move ! (51 ∷ 52 ∷ 49 ∷ 50 ∷ 47 ∷ 48 ∷ 45 ∷ 46 ∷ 43 ∷ 44 ∷ 41 ∷ 42 ∷ 39 ∷ 40 ∷ 37 ∷ 38 ∷ 35 ∷ 36 ∷ 33 ∷ 34 ∷ 31 ∷ 32 ∷ 29 ∷ 30 ∷ 27 ∷ 28 ∷ 25 ∷ 26 ∷ 23 ∷ 24 ∷ 21 ∷ 22 ∷ 19 ∷ 20 ∷ 17 ∷ 18 ∷ 15 ∷ 16 ∷ 13 ∷ 14 ∷ 11 ∷ 12 ∷ 9 ∷ 10 ∷ 7 ∷ 8 ∷ 5 ∷ 6 ∷ []) $
+              free1 ! $
               free1 ! $
               free1 ! $
               free1 ! $
@@ -222,46 +232,47 @@ module _ {M : Type 1} (𝓤 : URA M) (H : Heap 𝓤) (A : Atoms 𝓤) (W : Given
               free1 ! $
               free0 ! $
               keep ! (2 ∷ 0 ∷ 1 ∷ []) $
-              by ! (exits (set ps i (partyAt ps i)) tt (length-set ps i (partyAt ps i)) tt (ap (set ps i) (party-by m 0 e (partyAt ps i) y)))),
+              by ! (exits (set ps i (advancedIn (partyAt ps i) y)) tt (length-set ps i (advancedIn (partyAt ps i) y)) tt (ap (set ps i) (party-by m 0 e (partyAt ps i) y)))),
           (
             (λ e.
-                assigns ! (bin ! (load ! (from ! (stop !)) (look ! 48 refl)) (lit ! tt) (record { fits = place-fits i (length ps) (ltb→lt i (length ps) may) (room₀ .1) })) (from ! (stop !)) (init ! 38 refl (tt, record { fits = place-fits i (length ps) (ltb→lt i (length ps) may) (room₀ .1) })) $
-                assigns ! (bin ! (load ! (from ! (fld ! refl (stop !))) (look-in ! 50 (sub ! 0 refl (whole !)))) (load ! (from ! (stop !)) (look ! 38 refl)) tt) (from ! (stop !)) (init ! 36 refl (tt, tt)) $
-                rewrite ! 36 (λ (x : ℕ). ‵ (fat fullShare tyPtr l₈ 0 (vptr b₀ x))) (sym (place-is 40 o₀ i)) refl $
-                assigns ! (of-opd ! (load ! (from ! (fld ! refl (stop !))) (look-in ! 46 (sub ! 2 refl (whole !))))) (from ! (hop ! (look ! 36 refl) (fld ! refl (stop !)))) (store-in ! 0 (sub ! 2 refl (whole !)) (uint-lawful 𝓤 H A W w32 .typed (y .step) _ (P-step y iy) .0)) $
-                assigns ! (bin ! (load ! (from ! (stop !)) (look ! 48 refl)) (lit ! tt) (record { fits = place-fits i (length ps) (ltb→lt i (length ps) may) (room₀ .1) })) (from ! (stop !)) (store ! 38 refl (tt, record { fits = place-fits i (length ps) (ltb→lt i (length ps) may) (room₀ .1) })) $
-                assigns ! (bin ! (load ! (from ! (fld ! refl (stop !))) (look-in ! 50 (sub ! 0 refl (whole !)))) (load ! (from ! (stop !)) (look ! 38 refl)) tt) (from ! (stop !)) (init ! 34 refl (tt, tt)) $
-                rewrite ! 34 (λ (x : ℕ). ‵ (fat fullShare tyPtr l₉ 0 (vptr b₀ x))) (sym (place-is 40 o₀ i)) refl $
-                assigns ! (of-opd ! (load ! (from ! (fld ! refl (stop !))) (look-in ! 46 (sub ! 3 refl (whole !))))) (from ! (hop ! (look ! 34 refl) (fld ! refl (stop !)))) (store-in ! 0 (sub ! 3 refl (whole !)) (uint-lawful 𝓤 H A W w32 .typed (y .lev) _ (P-lev y iy) .0)) $
-                assigns ! (bin ! (load ! (from ! (stop !)) (look ! 48 refl)) (lit ! tt) (record { fits = place-fits i (length ps) (ltb→lt i (length ps) may) (room₀ .1) })) (from ! (stop !)) (store ! 38 refl (tt, record { fits = place-fits i (length ps) (ltb→lt i (length ps) may) (room₀ .1) })) $
-                assigns ! (bin ! (load ! (from ! (fld ! refl (stop !))) (look-in ! 50 (sub ! 0 refl (whole !)))) (load ! (from ! (stop !)) (look ! 38 refl)) tt) (from ! (stop !)) (init ! 32 refl (tt, tt)) $
-                rewrite ! 32 (λ (x : ℕ). ‵ (fat fullShare tyPtr l₁₀ 0 (vptr b₀ x))) (sym (place-is 40 o₀ i)) refl $
-                assigns ! (of-opd ! (load ! (from ! (fld ! refl (stop !))) (look-in ! 46 (sub ! 4 refl (whole !))))) (from ! (hop ! (look ! 32 refl) (fld ! refl (stop !)))) (store-in ! 0 (sub ! 4 refl (whole !)) (uint-lawful 𝓤 H A W w32 .typed (y .chain) _ (P-chain y iy) .0)) $
-                assigns ! (bin ! (load ! (from ! (stop !)) (look ! 48 refl)) (lit ! tt) (record { fits = place-fits i (length ps) (ltb→lt i (length ps) may) (room₀ .1) })) (from ! (stop !)) (store ! 38 refl (tt, record { fits = place-fits i (length ps) (ltb→lt i (length ps) may) (room₀ .1) })) $
-                assigns ! (bin ! (load ! (from ! (fld ! refl (stop !))) (look-in ! 50 (sub ! 0 refl (whole !)))) (load ! (from ! (stop !)) (look ! 38 refl)) tt) (from ! (stop !)) (init ! 30 refl (tt, tt)) $
-                rewrite ! 30 (λ (x : ℕ). ‵ (fat fullShare tyPtr l₁₁ 0 (vptr b₀ x))) (sym (place-is 40 o₀ i)) refl $
-                assigns ! (of-opd ! (load ! (from ! (fld ! refl (stop !))) (look-in ! 46 (sub ! 5 refl (whole !))))) (from ! (hop ! (look ! 30 refl) (fld ! refl (stop !)))) (store-in ! 0 (sub ! 5 refl (whole !)) (uint-lawful 𝓤 H A W w32 .typed (y .other) _ (P-other y iy) .0)) $
-                assigns ! (of-opd ! (unit-lit !)) (from ! (stop !)) (init ! 52 refl (tt, tt)) $
+                assigns ! (bin ! (load ! (from ! (stop !)) (look ! 50 refl)) (lit ! tt) (record { fits = place-fits i (length ps) (ltb→lt i (length ps) may) (room₀ .1) })) (from ! (stop !)) (init ! 36 refl (tt, record { fits = place-fits i (length ps) (ltb→lt i (length ps) may) (room₀ .1) })) $
+                assigns ! (bin ! (load ! (from ! (fld ! refl (stop !))) (look-in ! 52 (sub ! 0 refl (whole !)))) (load ! (from ! (stop !)) (look ! 36 refl)) tt) (from ! (stop !)) (init ! 34 refl (tt, tt)) $
+                rewrite ! 34 (λ (x : ℕ). ‵ (fat fullShare tyPtr l₁₀ 0 (vptr b₀ x))) (sym (place-is 40 o₀ i)) refl $
+                assigns ! (of-opd ! (load ! (from ! (fld ! refl (stop !))) (look-in ! 48 (sub ! 2 refl (whole !))))) (from ! (hop ! (look ! 34 refl) (fld ! refl (stop !)))) (store-in ! 0 (sub ! 2 refl (whole !)) (uint-lawful 𝓤 H A W w32 .typed (y .step) _ (P-step y iy) .0)) $
+                assigns ! (bin ! (load ! (from ! (stop !)) (look ! 50 refl)) (lit ! tt) (record { fits = place-fits i (length ps) (ltb→lt i (length ps) may) (room₀ .1) })) (from ! (stop !)) (store ! 36 refl (tt, record { fits = place-fits i (length ps) (ltb→lt i (length ps) may) (room₀ .1) })) $
+                assigns ! (bin ! (load ! (from ! (fld ! refl (stop !))) (look-in ! 52 (sub ! 0 refl (whole !)))) (load ! (from ! (stop !)) (look ! 36 refl)) tt) (from ! (stop !)) (init ! 32 refl (tt, tt)) $
+                rewrite ! 32 (λ (x : ℕ). ‵ (fat fullShare tyPtr l₁₁ 0 (vptr b₀ x))) (sym (place-is 40 o₀ i)) refl $
+                assigns ! (of-opd ! (load ! (from ! (fld ! refl (stop !))) (look-in ! 48 (sub ! 3 refl (whole !))))) (from ! (hop ! (look ! 32 refl) (fld ! refl (stop !)))) (store-in ! 0 (sub ! 3 refl (whole !)) (uint-lawful 𝓤 H A W w32 .typed (y .lev) _ (P-lev y iy) .0)) $
+                assigns ! (bin ! (load ! (from ! (stop !)) (look ! 50 refl)) (lit ! tt) (record { fits = place-fits i (length ps) (ltb→lt i (length ps) may) (room₀ .1) })) (from ! (stop !)) (store ! 36 refl (tt, record { fits = place-fits i (length ps) (ltb→lt i (length ps) may) (room₀ .1) })) $
+                assigns ! (bin ! (load ! (from ! (fld ! refl (stop !))) (look-in ! 52 (sub ! 0 refl (whole !)))) (load ! (from ! (stop !)) (look ! 36 refl)) tt) (from ! (stop !)) (init ! 30 refl (tt, tt)) $
+                rewrite ! 30 (λ (x : ℕ). ‵ (fat fullShare tyPtr l₁₂ 0 (vptr b₀ x))) (sym (place-is 40 o₀ i)) refl $
+                assigns ! (of-opd ! (load ! (from ! (fld ! refl (stop !))) (look-in ! 48 (sub ! 4 refl (whole !))))) (from ! (hop ! (look ! 30 refl) (fld ! refl (stop !)))) (store-in ! 0 (sub ! 4 refl (whole !)) (uint-lawful 𝓤 H A W w32 .typed (y .chain) _ (P-chain y iy) .0)) $
+                assigns ! (bin ! (load ! (from ! (stop !)) (look ! 50 refl)) (lit ! tt) (record { fits = place-fits i (length ps) (ltb→lt i (length ps) may) (room₀ .1) })) (from ! (stop !)) (store ! 36 refl (tt, record { fits = place-fits i (length ps) (ltb→lt i (length ps) may) (room₀ .1) })) $
+                assigns ! (bin ! (load ! (from ! (fld ! refl (stop !))) (look-in ! 52 (sub ! 0 refl (whole !)))) (load ! (from ! (stop !)) (look ! 36 refl)) tt) (from ! (stop !)) (init ! 28 refl (tt, tt)) $
+                rewrite ! 28 (λ (x : ℕ). ‵ (fat fullShare tyPtr l₁₃ 0 (vptr b₀ x))) (sym (place-is 40 o₀ i)) refl $
+                assigns ! (of-opd ! (load ! (from ! (fld ! refl (stop !))) (look-in ! 48 (sub ! 5 refl (whole !))))) (from ! (hop ! (look ! 28 refl) (fld ! refl (stop !)))) (store-in ! 0 (sub ! 5 refl (whole !)) (uint-lawful 𝓤 H A W w32 .typed (y .other) _ (P-other y iy) .0)) $
+                assigns ! (of-opd ! (unit-lit !)) (from ! (stop !)) (init ! 54 refl (tt, tt)) $
                 move ! (1 ∷ []) $
                 drop ! $
                 owned ! P.the-row (Is P.the-row) (LL.makes P.the-type P′.the-plain 𝓤 H A) (locatedIn (partyAt ps i) y) _ (P-locatedIn (partyAt ps i) y ip iy) $
                 move ! (1 ∷ 0 ∷ 2 ∷ []) $
                 elem-put ! P.the-row fullShare ps i (locatedIn (partyAt ps i) y) (P′.lowered (locatedIn (partyAt ps i) y) ∷ []) b₀ o₀ (ltb→lt i (length ps) may) $
                 closes-slice ! tt P.the-row ps (set ps i (locatedIn (partyAt ps i) y)) (length-set ps i (locatedIn (partyAt ps i) y)) b₀ o₀ $
-                returns-within ! Post refl (look ! 49 refl) $
+                returns-within ! Post refl (look ! 51 refl) $
+                forget ! 25 refl $
                 forget ! 27 refl $
                 forget ! 29 refl $
                 forget ! 31 refl $
                 forget ! 33 refl $
-                forget ! 35 refl $
-                forget ! 37 refl $
                 forget ! 39 refl $
                 forget ! 41 refl $
                 forget ! 43 refl $
                 forget ! 45 refl $
                 forget ! 47 refl $
                 forget ! 49 refl $
-                move ! (49 ∷ 50 ∷ 47 ∷ 48 ∷ 45 ∷ 46 ∷ 43 ∷ 44 ∷ 41 ∷ 42 ∷ 39 ∷ 40 ∷ 37 ∷ 38 ∷ 35 ∷ 36 ∷ 33 ∷ 34 ∷ 31 ∷ 32 ∷ 29 ∷ 30 ∷ 27 ∷ 28 ∷ 25 ∷ 26 ∷ 23 ∷ 24 ∷ 21 ∷ 22 ∷ 19 ∷ 20 ∷ 17 ∷ 18 ∷ 15 ∷ 16 ∷ 13 ∷ 14 ∷ 11 ∷ 12 ∷ 9 ∷ 10 ∷ 7 ∷ 8 ∷ 5 ∷ 6 ∷ []) $
+                forget ! 51 refl $
+                move ! (51 ∷ 52 ∷ 49 ∷ 50 ∷ 47 ∷ 48 ∷ 45 ∷ 46 ∷ 43 ∷ 44 ∷ 41 ∷ 42 ∷ 39 ∷ 40 ∷ 37 ∷ 38 ∷ 35 ∷ 36 ∷ 33 ∷ 34 ∷ 31 ∷ 32 ∷ 29 ∷ 30 ∷ 27 ∷ 28 ∷ 25 ∷ 26 ∷ 23 ∷ 24 ∷ 21 ∷ 22 ∷ 19 ∷ 20 ∷ 17 ∷ 18 ∷ 15 ∷ 16 ∷ 13 ∷ 14 ∷ 11 ∷ 12 ∷ 9 ∷ 10 ∷ 7 ∷ 8 ∷ 5 ∷ 6 ∷ []) $
+                free1 ! $
                 free1 ! $
                 free1 ! $
                 free1 ! $
@@ -304,14 +315,14 @@ module _ {M : Type 1} (𝓤 : URA M) (H : Heap 𝓤) (A : Atoms 𝓤) (W : Given
                   split ! $
                   move ! (1 ∷ []) $
                   peeks ! P.the-row (Is P.the-row) (shows 𝓤 H A P.the-row) z (ret ∷ []) (λ iz.
-                  land ! (from ! (stop !)) (init ! 31 refl (LL.lawful P.the-type P′.the-laws 𝓤 H A W .typed z _ iz .0)) $
-                  rewrite ! 31 (λ (u : Val). ‵ (fat fullShare P′.mir l₁₂ 0 u)) (ap only ((P′.lowers .val-is) z _ iz)) refl $
+                  land ! (from ! (stop !)) (init ! 29 refl (LL.lawful P.the-type P′.the-laws 𝓤 H A W .typed z _ iz .0)) $
+                  rewrite ! 29 (λ (u : Val). ‵ (fat fullShare P′.mir l₁₄ 0 u)) (ap only ((P′.lowers .val-is) z _ iz)) refl $
                   drop ! $
-                  assigns ! (bin ! (load ! (from ! (stop !)) (look ! 50 refl)) (lit ! tt) (record { fits = place-fits i (length ps) (ltb→lt i (length ps) may) (room₀ .1) })) (from ! (stop !)) (init ! 28 refl (tt, record { fits = place-fits i (length ps) (ltb→lt i (length ps) may) (room₀ .1) })) $
-                  assigns ! (bin ! (load ! (from ! (fld ! refl (stop !))) (look-in ! 52 (sub ! 0 refl (whole !)))) (load ! (from ! (stop !)) (look ! 28 refl)) tt) (from ! (stop !)) (init ! 26 refl (tt, tt)) $
-                  rewrite ! 26 (λ (x : ℕ). ‵ (fat fullShare tyPtr l₁₄ 0 (vptr b₀ x))) (sym (place-is 40 o₀ i)) refl $
-                  assigns ! (of-opd ! (load ! (from ! (stop !)) (look ! 30 refl))) (from ! (hop ! (look ! 26 refl) (stop !))) (store-raw ! 2 refl (LL.lawful P.the-type P′.the-laws 𝓤 H A W .typed z _ (subst (Is P.the-row z) (P′.lowers .val-is z _ iz) iz) .0)) $
-                  assigns ! (of-opd ! (unit-lit !)) (from ! (stop !)) (init ! 54 refl (tt, tt)) $
+                  assigns ! (bin ! (load ! (from ! (stop !)) (look ! 52 refl)) (lit ! tt) (record { fits = place-fits i (length ps) (ltb→lt i (length ps) may) (room₀ .1) })) (from ! (stop !)) (init ! 26 refl (tt, record { fits = place-fits i (length ps) (ltb→lt i (length ps) may) (room₀ .1) })) $
+                  assigns ! (bin ! (load ! (from ! (fld ! refl (stop !))) (look-in ! 54 (sub ! 0 refl (whole !)))) (load ! (from ! (stop !)) (look ! 26 refl)) tt) (from ! (stop !)) (init ! 24 refl (tt, tt)) $
+                  rewrite ! 24 (λ (x : ℕ). ‵ (fat fullShare tyPtr l₁₆ 0 (vptr b₀ x))) (sym (place-is 40 o₀ i)) refl $
+                  assigns ! (of-opd ! (load ! (from ! (stop !)) (look ! 28 refl))) (from ! (hop ! (look ! 24 refl) (stop !))) (store-raw ! 2 refl (LL.lawful P.the-type P′.the-laws 𝓤 H A W .typed z _ (subst (Is P.the-row z) (P′.lowers .val-is z _ iz) iz) .0)) $
+                  assigns ! (of-opd ! (unit-lit !)) (from ! (stop !)) (init ! 56 refl (tt, tt)) $
                   move ! (3 ∷ []) $
                   drop ! $
                   owned ! P.the-row (Is P.the-row) (LL.makes P.the-type P′.the-plain 𝓤 H A) z _ (subst (Is P.the-row z) (P′.lowers .val-is z _ iz) iz) $
@@ -319,18 +330,19 @@ module _ {M : Type 1} (𝓤 : URA M) (H : Heap 𝓤) (A : Atoms 𝓤) (W : Given
                   elem-put ! P.the-row fullShare ps i z (P′.lowered z ∷ []) b₀ o₀ (ltb→lt i (length ps) may) $
                   move ! (0 ∷ 3 ∷ 4 ∷ 5 ∷ []) $
                   closes-slice ! tt P.the-row ps (set ps i z) (length-set ps i z) b₀ o₀ $
-                  returns-within ! Post refl (look ! 51 refl) $
+                  returns-within ! Post refl (look ! 53 refl) $
+                  forget ! 21 refl $
                   forget ! 23 refl $
                   forget ! 25 refl $
-                  forget ! 27 refl $
-                  forget ! 39 refl $
                   forget ! 41 refl $
                   forget ! 43 refl $
                   forget ! 45 refl $
                   forget ! 47 refl $
                   forget ! 49 refl $
                   forget ! 51 refl $
-                  move ! (51 ∷ 52 ∷ 49 ∷ 50 ∷ 47 ∷ 48 ∷ 45 ∷ 46 ∷ 43 ∷ 44 ∷ 41 ∷ 42 ∷ 39 ∷ 40 ∷ 37 ∷ 38 ∷ 35 ∷ 36 ∷ 33 ∷ 34 ∷ 31 ∷ 32 ∷ 29 ∷ 30 ∷ 27 ∷ 28 ∷ 25 ∷ 26 ∷ 23 ∷ 24 ∷ 21 ∷ 22 ∷ 19 ∷ 20 ∷ 17 ∷ 18 ∷ 15 ∷ 16 ∷ 13 ∷ 14 ∷ 11 ∷ 12 ∷ 9 ∷ 10 ∷ 7 ∷ 8 ∷ []) $
+                  forget ! 53 refl $
+                  move ! (53 ∷ 54 ∷ 51 ∷ 52 ∷ 49 ∷ 50 ∷ 47 ∷ 48 ∷ 45 ∷ 46 ∷ 43 ∷ 44 ∷ 41 ∷ 42 ∷ 39 ∷ 40 ∷ 37 ∷ 38 ∷ 35 ∷ 36 ∷ 33 ∷ 34 ∷ 31 ∷ 32 ∷ 29 ∷ 30 ∷ 27 ∷ 28 ∷ 25 ∷ 26 ∷ 23 ∷ 24 ∷ 21 ∷ 22 ∷ 19 ∷ 20 ∷ 17 ∷ 18 ∷ 15 ∷ 16 ∷ 13 ∷ 14 ∷ 11 ∷ 12 ∷ 9 ∷ 10 ∷ 7 ∷ 8 ∷ []) $
+                  free1 ! $
                   free1 ! $
                   free1 ! $
                   free1 ! $
@@ -359,42 +371,38 @@ module _ {M : Type 1} (𝓤 : URA M) (H : Heap 𝓤) (A : Atoms 𝓤) (W : Given
                   by ! (exits (set ps i z) tt (length-set ps i z) tt (ap (set ps i) (is-idle ∙ party-by m 2 e (partyAt ps i) y))))))))),
               (
                 (λ e.
-                    assigns ! (bin ! (load ! (from ! (stop !)) (look ! 48 refl)) (lit ! tt) (record { fits = place-fits i (length ps) (ltb→lt i (length ps) may) (room₀ .1) })) (from ! (stop !)) (init ! 22 refl (tt, record { fits = place-fits i (length ps) (ltb→lt i (length ps) may) (room₀ .1) })) $
-                    assigns ! (bin ! (load ! (from ! (fld ! refl (stop !))) (look-in ! 50 (sub ! 0 refl (whole !)))) (load ! (from ! (stop !)) (look ! 22 refl)) tt) (from ! (stop !)) (init ! 20 refl (tt, tt)) $
-                    rewrite ! 20 (λ (x : ℕ). ‵ (fat fullShare tyPtr l₁₆ 0 (vptr b₀ x))) (sym (place-is 40 o₀ i)) refl $
-                    assigns ! (of-opd ! (load ! (from ! (fld ! refl (stop !))) (look-in ! 46 (sub ! 2 refl (whole !))))) (from ! (hop ! (look ! 20 refl) (fld ! refl (stop !)))) (store-in ! 0 (sub ! 2 refl (whole !)) (uint-lawful 𝓤 H A W w32 .typed (y .step) _ (P-step y iy) .0)) $
-                    assigns ! (bin ! (load ! (from ! (stop !)) (look ! 48 refl)) (lit ! tt) (record { fits = place-fits i (length ps) (ltb→lt i (length ps) may) (room₀ .1) })) (from ! (stop !)) (store ! 22 refl (tt, record { fits = place-fits i (length ps) (ltb→lt i (length ps) may) (room₀ .1) })) $
-                    assigns ! (bin ! (load ! (from ! (fld ! refl (stop !))) (look-in ! 50 (sub ! 0 refl (whole !)))) (load ! (from ! (stop !)) (look ! 22 refl)) tt) (from ! (stop !)) (init ! 18 refl (tt, tt)) $
-                    rewrite ! 18 (λ (x : ℕ). ‵ (fat fullShare tyPtr l₁₇ 0 (vptr b₀ x))) (sym (place-is 40 o₀ i)) refl $
-                    assigns ! (of-opd ! (load ! (from ! (fld ! refl (stop !))) (look-in ! 46 (sub ! 3 refl (whole !))))) (from ! (hop ! (look ! 18 refl) (fld ! refl (stop !)))) (store-in ! 0 (sub ! 3 refl (whole !)) (uint-lawful 𝓤 H A W w32 .typed (y .lev) _ (P-lev y iy) .0)) $
-                    assigns ! (bin ! (load ! (from ! (stop !)) (look ! 48 refl)) (lit ! tt) (record { fits = place-fits i (length ps) (ltb→lt i (length ps) may) (room₀ .1) })) (from ! (stop !)) (store ! 22 refl (tt, record { fits = place-fits i (length ps) (ltb→lt i (length ps) may) (room₀ .1) })) $
-                    assigns ! (bin ! (load ! (from ! (fld ! refl (stop !))) (look-in ! 50 (sub ! 0 refl (whole !)))) (load ! (from ! (stop !)) (look ! 22 refl)) tt) (from ! (stop !)) (init ! 16 refl (tt, tt)) $
-                    rewrite ! 16 (λ (x : ℕ). ‵ (fat fullShare tyPtr l₁₈ 0 (vptr b₀ x))) (sym (place-is 40 o₀ i)) refl $
-                    assigns ! (of-opd ! (load ! (from ! (fld ! refl (stop !))) (look-in ! 46 (sub ! 4 refl (whole !))))) (from ! (hop ! (look ! 16 refl) (fld ! refl (stop !)))) (store-in ! 0 (sub ! 4 refl (whole !)) (uint-lawful 𝓤 H A W w32 .typed (y .chain) _ (P-chain y iy) .0)) $
-                    assigns ! (bin ! (load ! (from ! (stop !)) (look ! 48 refl)) (lit ! tt) (record { fits = place-fits i (length ps) (ltb→lt i (length ps) may) (room₀ .1) })) (from ! (stop !)) (store ! 22 refl (tt, record { fits = place-fits i (length ps) (ltb→lt i (length ps) may) (room₀ .1) })) $
-                    assigns ! (bin ! (load ! (from ! (fld ! refl (stop !))) (look-in ! 50 (sub ! 0 refl (whole !)))) (load ! (from ! (stop !)) (look ! 22 refl)) tt) (from ! (stop !)) (init ! 14 refl (tt, tt)) $
-                    rewrite ! 14 (λ (x : ℕ). ‵ (fat fullShare tyPtr l₁₉ 0 (vptr b₀ x))) (sym (place-is 40 o₀ i)) refl $
-                    assigns ! (of-opd ! (load ! (from ! (fld ! refl (stop !))) (look-in ! 46 (sub ! 5 refl (whole !))))) (from ! (hop ! (look ! 14 refl) (fld ! refl (stop !)))) (store-in ! 0 (sub ! 5 refl (whole !)) (uint-lawful 𝓤 H A W w32 .typed (y .other) _ (P-other y iy) .0)) $
-                    assigns ! (bin ! (load ! (from ! (stop !)) (look ! 48 refl)) (lit ! tt) (record { fits = place-fits i (length ps) (ltb→lt i (length ps) may) (room₀ .1) })) (from ! (stop !)) (store ! 22 refl (tt, record { fits = place-fits i (length ps) (ltb→lt i (length ps) may) (room₀ .1) })) $
-                    assigns ! (bin ! (load ! (from ! (fld ! refl (stop !))) (look-in ! 50 (sub ! 0 refl (whole !)))) (load ! (from ! (stop !)) (look ! 22 refl)) tt) (from ! (stop !)) (init ! 12 refl (tt, tt)) $
-                    rewrite ! 12 (λ (x : ℕ). ‵ (fat fullShare tyPtr l₂₀ 0 (vptr b₀ x))) (sym (place-is 40 o₀ i)) refl $
-                    assigns ! (of-opd ! (load ! (from ! (fld ! refl (stop !))) (look-in ! 46 (sub ! 6 refl (whole !))))) (from ! (hop ! (look ! 12 refl) (fld ! refl (stop !)))) (store-in ! 0 (sub ! 6 refl (whole !)) (uint-lawful 𝓤 H A W w32 .typed (y .old) _ (P-old y iy) .0)) $
-                    assigns ! (bin ! (load ! (from ! (stop !)) (look ! 48 refl)) (lit ! tt) (record { fits = place-fits i (length ps) (ltb→lt i (length ps) may) (room₀ .1) })) (from ! (stop !)) (store ! 22 refl (tt, record { fits = place-fits i (length ps) (ltb→lt i (length ps) may) (room₀ .1) })) $
-                    assigns ! (bin ! (load ! (from ! (fld ! refl (stop !))) (look-in ! 50 (sub ! 0 refl (whole !)))) (load ! (from ! (stop !)) (look ! 22 refl)) tt) (from ! (stop !)) (init ! 10 refl (tt, tt)) $
-                    rewrite ! 10 (λ (x : ℕ). ‵ (fat fullShare tyPtr l₂₁ 0 (vptr b₀ x))) (sym (place-is 40 o₀ i)) refl $
-                    assigns ! (of-opd ! (load ! (from ! (fld ! refl (stop !))) (look-in ! 46 (sub ! 7 refl (whole !))))) (from ! (hop ! (look ! 10 refl) (fld ! refl (stop !)))) (store-in ! 0 (sub ! 7 refl (whole !)) (uint-lawful 𝓤 H A W w32 .typed (y .owed) _ (P-owed y iy) .0)) $
-                    assigns ! (bin ! (load ! (from ! (stop !)) (look ! 48 refl)) (lit ! tt) (record { fits = place-fits i (length ps) (ltb→lt i (length ps) may) (room₀ .1) })) (from ! (stop !)) (store ! 22 refl (tt, record { fits = place-fits i (length ps) (ltb→lt i (length ps) may) (room₀ .1) })) $
-                    assigns ! (bin ! (load ! (from ! (fld ! refl (stop !))) (look-in ! 50 (sub ! 0 refl (whole !)))) (load ! (from ! (stop !)) (look ! 22 refl)) tt) (from ! (stop !)) (init ! 8 refl (tt, tt)) $
-                    rewrite ! 8 (λ (x : ℕ). ‵ (fat fullShare tyPtr l₂₂ 0 (vptr b₀ x))) (sym (place-is 40 o₀ i)) refl $
-                    assigns ! (of-opd ! (load ! (from ! (fld ! refl (stop !))) (look-in ! 46 (sub ! 8 refl (whole !))))) (from ! (hop ! (look ! 8 refl) (fld ! refl (stop !)))) (store-in ! 0 (sub ! 8 refl (whole !)) (uint-lawful 𝓤 H A W w32 .typed (y .answer) _ (P-answer y iy) .0)) $
-                    assigns ! (of-opd ! (unit-lit !)) (from ! (stop !)) (init ! 52 refl (tt, tt)) $
+                    assigns ! (bin ! (load ! (from ! (stop !)) (look ! 50 refl)) (lit ! tt) (record { fits = place-fits i (length ps) (ltb→lt i (length ps) may) (room₀ .1) })) (from ! (stop !)) (init ! 20 refl (tt, record { fits = place-fits i (length ps) (ltb→lt i (length ps) may) (room₀ .1) })) $
+                    assigns ! (bin ! (load ! (from ! (fld ! refl (stop !))) (look-in ! 52 (sub ! 0 refl (whole !)))) (load ! (from ! (stop !)) (look ! 20 refl)) tt) (from ! (stop !)) (init ! 18 refl (tt, tt)) $
+                    rewrite ! 18 (λ (x : ℕ). ‵ (fat fullShare tyPtr l₁₈ 0 (vptr b₀ x))) (sym (place-is 40 o₀ i)) refl $
+                    assigns ! (of-opd ! (load ! (from ! (fld ! refl (stop !))) (look-in ! 48 (sub ! 2 refl (whole !))))) (from ! (hop ! (look ! 18 refl) (fld ! refl (stop !)))) (store-in ! 0 (sub ! 2 refl (whole !)) (uint-lawful 𝓤 H A W w32 .typed (y .step) _ (P-step y iy) .0)) $
+                    assigns ! (bin ! (load ! (from ! (stop !)) (look ! 50 refl)) (lit ! tt) (record { fits = place-fits i (length ps) (ltb→lt i (length ps) may) (room₀ .1) })) (from ! (stop !)) (store ! 20 refl (tt, record { fits = place-fits i (length ps) (ltb→lt i (length ps) may) (room₀ .1) })) $
+                    assigns ! (bin ! (load ! (from ! (fld ! refl (stop !))) (look-in ! 52 (sub ! 0 refl (whole !)))) (load ! (from ! (stop !)) (look ! 20 refl)) tt) (from ! (stop !)) (init ! 16 refl (tt, tt)) $
+                    rewrite ! 16 (λ (x : ℕ). ‵ (fat fullShare tyPtr l₁₉ 0 (vptr b₀ x))) (sym (place-is 40 o₀ i)) refl $
+                    assigns ! (of-opd ! (load ! (from ! (fld ! refl (stop !))) (look-in ! 48 (sub ! 4 refl (whole !))))) (from ! (hop ! (look ! 16 refl) (fld ! refl (stop !)))) (store-in ! 0 (sub ! 4 refl (whole !)) (uint-lawful 𝓤 H A W w32 .typed (y .chain) _ (P-chain y iy) .0)) $
+                    assigns ! (bin ! (load ! (from ! (stop !)) (look ! 50 refl)) (lit ! tt) (record { fits = place-fits i (length ps) (ltb→lt i (length ps) may) (room₀ .1) })) (from ! (stop !)) (store ! 20 refl (tt, record { fits = place-fits i (length ps) (ltb→lt i (length ps) may) (room₀ .1) })) $
+                    assigns ! (bin ! (load ! (from ! (fld ! refl (stop !))) (look-in ! 52 (sub ! 0 refl (whole !)))) (load ! (from ! (stop !)) (look ! 20 refl)) tt) (from ! (stop !)) (init ! 14 refl (tt, tt)) $
+                    rewrite ! 14 (λ (x : ℕ). ‵ (fat fullShare tyPtr l₂₀ 0 (vptr b₀ x))) (sym (place-is 40 o₀ i)) refl $
+                    assigns ! (of-opd ! (load ! (from ! (fld ! refl (stop !))) (look-in ! 48 (sub ! 5 refl (whole !))))) (from ! (hop ! (look ! 14 refl) (fld ! refl (stop !)))) (store-in ! 0 (sub ! 5 refl (whole !)) (uint-lawful 𝓤 H A W w32 .typed (y .other) _ (P-other y iy) .0)) $
+                    assigns ! (bin ! (load ! (from ! (stop !)) (look ! 50 refl)) (lit ! tt) (record { fits = place-fits i (length ps) (ltb→lt i (length ps) may) (room₀ .1) })) (from ! (stop !)) (store ! 20 refl (tt, record { fits = place-fits i (length ps) (ltb→lt i (length ps) may) (room₀ .1) })) $
+                    assigns ! (bin ! (load ! (from ! (fld ! refl (stop !))) (look-in ! 52 (sub ! 0 refl (whole !)))) (load ! (from ! (stop !)) (look ! 20 refl)) tt) (from ! (stop !)) (init ! 12 refl (tt, tt)) $
+                    rewrite ! 12 (λ (x : ℕ). ‵ (fat fullShare tyPtr l₂₁ 0 (vptr b₀ x))) (sym (place-is 40 o₀ i)) refl $
+                    assigns ! (of-opd ! (load ! (from ! (fld ! refl (stop !))) (look-in ! 48 (sub ! 6 refl (whole !))))) (from ! (hop ! (look ! 12 refl) (fld ! refl (stop !)))) (store-in ! 0 (sub ! 6 refl (whole !)) (uint-lawful 𝓤 H A W w32 .typed (y .old) _ (P-old y iy) .0)) $
+                    assigns ! (bin ! (load ! (from ! (stop !)) (look ! 50 refl)) (lit ! tt) (record { fits = place-fits i (length ps) (ltb→lt i (length ps) may) (room₀ .1) })) (from ! (stop !)) (store ! 20 refl (tt, record { fits = place-fits i (length ps) (ltb→lt i (length ps) may) (room₀ .1) })) $
+                    assigns ! (bin ! (load ! (from ! (fld ! refl (stop !))) (look-in ! 52 (sub ! 0 refl (whole !)))) (load ! (from ! (stop !)) (look ! 20 refl)) tt) (from ! (stop !)) (init ! 10 refl (tt, tt)) $
+                    rewrite ! 10 (λ (x : ℕ). ‵ (fat fullShare tyPtr l₂₂ 0 (vptr b₀ x))) (sym (place-is 40 o₀ i)) refl $
+                    assigns ! (of-opd ! (load ! (from ! (fld ! refl (stop !))) (look-in ! 48 (sub ! 7 refl (whole !))))) (from ! (hop ! (look ! 10 refl) (fld ! refl (stop !)))) (store-in ! 0 (sub ! 7 refl (whole !)) (uint-lawful 𝓤 H A W w32 .typed (y .owed) _ (P-owed y iy) .0)) $
+                    assigns ! (bin ! (load ! (from ! (stop !)) (look ! 50 refl)) (lit ! tt) (record { fits = place-fits i (length ps) (ltb→lt i (length ps) may) (room₀ .1) })) (from ! (stop !)) (store ! 20 refl (tt, record { fits = place-fits i (length ps) (ltb→lt i (length ps) may) (room₀ .1) })) $
+                    assigns ! (bin ! (load ! (from ! (fld ! refl (stop !))) (look-in ! 52 (sub ! 0 refl (whole !)))) (load ! (from ! (stop !)) (look ! 20 refl)) tt) (from ! (stop !)) (init ! 8 refl (tt, tt)) $
+                    rewrite ! 8 (λ (x : ℕ). ‵ (fat fullShare tyPtr l₂₃ 0 (vptr b₀ x))) (sym (place-is 40 o₀ i)) refl $
+                    assigns ! (of-opd ! (load ! (from ! (fld ! refl (stop !))) (look-in ! 48 (sub ! 8 refl (whole !))))) (from ! (hop ! (look ! 8 refl) (fld ! refl (stop !)))) (store-in ! 0 (sub ! 8 refl (whole !)) (uint-lawful 𝓤 H A W w32 .typed (y .answer) _ (P-answer y iy) .0)) $
+                    assigns ! (of-opd ! (unit-lit !)) (from ! (stop !)) (init ! 54 refl (tt, tt)) $
                     move ! (1 ∷ []) $
                     drop ! $
                     owned ! P.the-row (Is P.the-row) (LL.makes P.the-type P′.the-plain 𝓤 H A) (changedIn (partyAt ps i) y) _ (P-changedIn (partyAt ps i) y ip iy) $
                     move ! (1 ∷ 0 ∷ 2 ∷ []) $
                     elem-put ! P.the-row fullShare ps i (changedIn (partyAt ps i) y) (P′.lowered (changedIn (partyAt ps i) y) ∷ []) b₀ o₀ (ltb→lt i (length ps) may) $
                     closes-slice ! tt P.the-row ps (set ps i (changedIn (partyAt ps i) y)) (length-set ps i (changedIn (partyAt ps i) y)) b₀ o₀ $
-                    returns-within ! Post refl (look ! 49 refl) $
+                    returns-within ! Post refl (look ! 51 refl) $
                     forget ! 5 refl $
                     forget ! 7 refl $
                     forget ! 9 refl $
@@ -402,15 +410,15 @@ module _ {M : Type 1} (𝓤 : URA M) (H : Heap 𝓤) (A : Atoms 𝓤) (W : Given
                     forget ! 13 refl $
                     forget ! 15 refl $
                     forget ! 17 refl $
-                    forget ! 19 refl $
-                    forget ! 37 refl $
                     forget ! 39 refl $
                     forget ! 41 refl $
                     forget ! 43 refl $
                     forget ! 45 refl $
                     forget ! 47 refl $
                     forget ! 49 refl $
-                    move ! (49 ∷ 50 ∷ 47 ∷ 48 ∷ 45 ∷ 46 ∷ 43 ∷ 44 ∷ 41 ∷ 42 ∷ 39 ∷ 40 ∷ 37 ∷ 38 ∷ 35 ∷ 36 ∷ 33 ∷ 34 ∷ 31 ∷ 32 ∷ 29 ∷ 30 ∷ 27 ∷ 28 ∷ 25 ∷ 26 ∷ 23 ∷ 24 ∷ 21 ∷ 22 ∷ 19 ∷ 20 ∷ 17 ∷ 18 ∷ 15 ∷ 16 ∷ 13 ∷ 14 ∷ 11 ∷ 12 ∷ 9 ∷ 10 ∷ 7 ∷ 8 ∷ 5 ∷ 6 ∷ []) $
+                    forget ! 51 refl $
+                    move ! (51 ∷ 52 ∷ 49 ∷ 50 ∷ 47 ∷ 48 ∷ 45 ∷ 46 ∷ 43 ∷ 44 ∷ 41 ∷ 42 ∷ 39 ∷ 40 ∷ 37 ∷ 38 ∷ 35 ∷ 36 ∷ 33 ∷ 34 ∷ 31 ∷ 32 ∷ 29 ∷ 30 ∷ 27 ∷ 28 ∷ 25 ∷ 26 ∷ 23 ∷ 24 ∷ 21 ∷ 22 ∷ 19 ∷ 20 ∷ 17 ∷ 18 ∷ 15 ∷ 16 ∷ 13 ∷ 14 ∷ 11 ∷ 12 ∷ 9 ∷ 10 ∷ 7 ∷ 8 ∷ 5 ∷ 6 ∷ []) $
+                    free1 ! $
                     free1 ! $
                     free1 ! $
                     free1 ! $
@@ -443,16 +451,17 @@ module _ {M : Type 1} (𝓤 : URA M) (H : Heap 𝓤) (A : Atoms 𝓤) (W : Given
           ),
         )))
         (λ past.
-        assigns ! (of-opd ! (unit-lit !)) (from ! (stop !)) (init ! 49 refl (tt, tt)) $
-        returns-within ! Post refl (look ! 49 refl) $
-        forget ! 37 refl $
+        assigns ! (of-opd ! (unit-lit !)) (from ! (stop !)) (init ! 51 refl (tt, tt)) $
+        returns-within ! Post refl (look ! 51 refl) $
         forget ! 39 refl $
         forget ! 41 refl $
         forget ! 43 refl $
         forget ! 45 refl $
         forget ! 47 refl $
         forget ! 49 refl $
-        move ! (49 ∷ 50 ∷ 47 ∷ 48 ∷ 45 ∷ 46 ∷ 43 ∷ 44 ∷ 41 ∷ 42 ∷ 39 ∷ 40 ∷ 37 ∷ 38 ∷ 35 ∷ 36 ∷ 33 ∷ 34 ∷ 31 ∷ 32 ∷ 29 ∷ 30 ∷ 27 ∷ 28 ∷ 25 ∷ 26 ∷ 23 ∷ 24 ∷ 21 ∷ 22 ∷ 19 ∷ 20 ∷ 17 ∷ 18 ∷ 15 ∷ 16 ∷ 13 ∷ 14 ∷ 11 ∷ 12 ∷ 9 ∷ 10 ∷ 7 ∷ 8 ∷ 5 ∷ 6 ∷ []) $
+        forget ! 51 refl $
+        move ! (51 ∷ 52 ∷ 49 ∷ 50 ∷ 47 ∷ 48 ∷ 45 ∷ 46 ∷ 43 ∷ 44 ∷ 41 ∷ 42 ∷ 39 ∷ 40 ∷ 37 ∷ 38 ∷ 35 ∷ 36 ∷ 33 ∷ 34 ∷ 31 ∷ 32 ∷ 29 ∷ 30 ∷ 27 ∷ 28 ∷ 25 ∷ 26 ∷ 23 ∷ 24 ∷ 21 ∷ 22 ∷ 19 ∷ 20 ∷ 17 ∷ 18 ∷ 15 ∷ 16 ∷ 13 ∷ 14 ∷ 11 ∷ 12 ∷ 9 ∷ 10 ∷ 7 ∷ 8 ∷ 5 ∷ 6 ∷ []) $
+        free1 ! $
         free1 ! $
         free1 ! $
         free1 ! $
@@ -478,7 +487,7 @@ module _ {M : Type 1} (𝓤 : URA M) (H : Heap 𝓤) (A : Atoms 𝓤) (W : Given
         free1 ! $
         free0 ! $
         keep ! (3 ∷ 0 ∷ 1 ∷ []) $
-        by ! (exits ps tt refl tt (sym (set-past ps i (partyBy m (partyAt ps i) y) (nltb→le i (length ps) past))))))))))))))))))))))))))))
+        by ! (exits ps tt refl tt (sym (set-past ps i (partyBy m (partyAt ps i) y) (nltb→le i (length ps) past)))))))))))))))))))))))))))))
 
 module _ {M : Type 1} (𝓤 : URA M) (H : Heap 𝓤) (A : Atoms 𝓤) (W : Given 𝓤 H A) (mem′ : Memory → SProp 𝓤) (run : Routine → Fun 𝓤) where
   walks : (C : Calls 𝓤 H) (Λ : Loops 𝓤 H) → FmC 𝓤 H (W .laws) C → Triple 𝓤 (C #records·idle) (IdleC 𝓤 H A mem′ run)

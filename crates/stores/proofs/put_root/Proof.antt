@@ -55,7 +55,7 @@ abbrev stayed : Stays (it.ended .signature .params) (it.ended .kept)
 stayed = (stay-ref (0 ∷ []) tt (plain (λ _. R.the-row)), (stay-none (λ _. R.the-row) yes, (stay-none (λ _. K.the-row) yes, tt)))
 
 K-live : (x : Mark) → K′.lowered x ≡ live (tagOf x) vnil
-K-live Mark.Kept = refl
+K-live Mark.Advanced = refl
 K-live Mark.Located = refl
 K-live Mark.Ended = refl
 K-live Mark.Changed = refl
