@@ -3,10 +3,10 @@
 -- Main statements: needed-told; splits-below-P, splits-each, split-at-P, halves-part, split-too-few, split-enough;
 -- grown-splits, not-grown, grown-skips, no-page-added, present-kept, added-behind; emptied-merges, not-emptied,
 -- merge-too-many, merge-at-N, merge-level, absent-left, no-page-removed, page-removed; found-told.
-use mathlib.Core.Path.{_≡_, refl}
+use mathlib.Core.Path.{_≡_, refl, ap}
 use mathlib.Core.List.{List, [], _∷_, map}
 use Prim.Native.Nat.{ℕ, _+_}
-use lib.ListN.{replicate}
+use lib.ListN.{getD, replicate}
 use Rattle.model.specs.declared.Root.{Root}
 use Rattle.model.specs.declared.Entry.{Entry}
 use Rattle.model.specs.declared.Operation.the-variants as Operation
@@ -35,43 +35,47 @@ none n = replicate n []
 abbrev restructured : Finished → Restructuring
 restructured y = y .restructuring
 
--- ---- Mixed keys, worked out once
+-- ---- Mixed keys, worked out once, together: the table is the same for all
+
+abbrev keys : List ℕ
+keys = 3 ∷ 5 ∷ 7 ∷ 8 ∷ 12 ∷ 19 ∷ 22 ∷ 26 ∷ 28 ∷ []
+
+abbrev mixtures : List ℕ
+mixtures = 1686307696 ∷ 92263140 ∷ 973163827 ∷ 1068989641 ∷ 3206195624 ∷ 3233053609 ∷ 1445888913 ∷ 2165953133 ∷ 455661317 ∷ []
+
+mixed-keys : map mixed keys ≡ mixtures
+unfolding opened
+mixed-keys = refl
+
+mixed-at : (i : ℕ) → getD (map mixed keys) i 0 ≡ getD mixtures i 0
+mixed-at i = ap (λ (l : List ℕ). getD l i 0) mixed-keys
 
 mixed-3 : mixed 3 ≡ 1686307696
-unfolding opened
-mixed-3 = refl
+mixed-3 = mixed-at 0
 
 mixed-5 : mixed 5 ≡ 92263140
-unfolding opened
-mixed-5 = refl
+mixed-5 = mixed-at 1
 
 mixed-7 : mixed 7 ≡ 973163827
-unfolding opened
-mixed-7 = refl
+mixed-7 = mixed-at 2
 
 mixed-8 : mixed 8 ≡ 1068989641
-unfolding opened
-mixed-8 = refl
+mixed-8 = mixed-at 3
 
 mixed-12 : mixed 12 ≡ 3206195624
-unfolding opened
-mixed-12 = refl
+mixed-12 = mixed-at 4
 
 mixed-19 : mixed 19 ≡ 3233053609
-unfolding opened
-mixed-19 = refl
+mixed-19 = mixed-at 5
 
 mixed-22 : mixed 22 ≡ 1445888913
-unfolding opened
-mixed-22 = refl
+mixed-22 = mixed-at 6
 
 mixed-26 : mixed 26 ≡ 2165953133
-unfolding opened
-mixed-26 = refl
+mixed-26 = mixed-at 7
 
 mixed-28 : mixed 28 ≡ 455661317
-unfolding opened
-mixed-28 = refl
+mixed-28 = mixed-at 8
 
 -- Every definition of the yardstick, and not that of mixed keys.
 stick : ℕ
