@@ -54,6 +54,17 @@ extern "C" {
 #define BEAD_LOCK_ROW(P) (1u + (P))
 #define BEAD_PAGE_ROW(P, V, Q) (BEAD_PAGE_WORDS * (0u + (P) + (V) + (Q)))
 
+/* The calls of bead_step that an operation takes at most, whatever the other parties do: those that are answered
+ * BEAD_MOVED or BEAD_DONE. The begin is not counted, nor are calls that wait or are refused. It holds of a file that
+ * only these calls have altered. By the sizes, with R the least number for which N * 2^R is P or more, they are at most
+ * 7 + 3 * R + V for a find, 21 + 3 * R for an insert and 19 + 3 * R for a delete; R is 8 at most, and 0 where N = P.
+ * 31 + V is reached for V = 1: with none nothing splits, and a chain that these calls have written has at most
+ * (V + 1) / 2 overflow pages. In a file taken up a chain may have all V: where N = P a find takes 7 + V calls there,
+ * for every V. An insert reaches 45, a delete 41. */
+#define BEAD_MOST_FIND(V) (31u + (V))
+#define BEAD_MOST_INSERT 45u
+#define BEAD_MOST_DELETE 43u
+
 /* ---- The lent memory
  *
  * A caller need not look at it. The specification has the layout of lock words and pages. */
@@ -187,7 +198,8 @@ uint32_t bead_begin(struct bead_root *root, struct bead_party *party_row, size_t
                     uint32_t key, uint32_t setting);
 
 /* Performs one step of a party's operation. In a file that only these calls have altered, of all parties with an
- * operation under way at least one would not wait.
+ * operation under way at least one would not wait, and a find is done after at most BEAD_MOST_FIND(V) calls that do not
+ * wait, an insert after BEAD_MOST_INSERT, a delete after BEAD_MOST_DELETE.
  * The reply's refusal is BEAD_OK or, tested in this order:
  *   BEAD_SIZE_REFUSED    a size in the root record is outside its limits: the memory was never formatted
  *   BEAD_LENGTH_REFUSED  a length is not the one that the root record asks for

@@ -100,8 +100,8 @@ pub enum Error {
         /// The first such party.
         party: u32,
     },
-    /// The party's find goes round in a circle of pages, which only something else than the library can have written.
-    /// The operation stays under way.
+    /// The operation takes more steps than [`Sizes::most_calls`](crate::Sizes::most_calls) allows, as a find does in a
+    /// circle of pages, which only something else than the library can have written. The operation stays under way.
     Circle {
         /// The party.
         party: u32,
@@ -122,7 +122,7 @@ impl fmt::Display for Error {
             ),
             Error::Circle { party } => write!(
                 out,
-                "party {party} goes round in a circle of pages: the file is damaged"
+                "party {party} takes more steps than any operation does, as in a circle of pages: the file is damaged"
             ),
         }
     }

@@ -19,7 +19,8 @@
 //!
 //! Parties share it step by step. A party [begins](File::begin) an operation, and each call of [`step`](File::step)
 //! performs one step of it. The caller picks whose step is next; locks see to it that every order comes out right. Of
-//! the parties that have an operation under way at least one can always move.
+//! the parties that have an operation under way at least one can always move, and each is done after at most as many
+//! steps that do not wait as [`Sizes::most_calls`] says.
 //!
 //! ```
 //! use bead_index::{Answer, File, Operation, Outcome, Sizes};

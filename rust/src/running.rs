@@ -5,10 +5,7 @@ use crate::error::Error;
 use crate::file::File;
 use crate::memory::Memory;
 
-/// More steps than any operation takes, besides those that walk along overflow pages.
-pub(crate) const MOST_STEPS: u32 = 64;
-
-/// Operations run to their end.
+/// Operations run to their end, each in at most as many steps as [`Sizes::most_calls`](crate::Sizes::most_calls) says.
 impl<M: Memory> File<M> {
     /// The setting of a key, as party 0; none where the key is out.
     ///
@@ -59,7 +56,8 @@ impl<M: Memory> File<M> {
         changed(self.run(party, Operation::delete(key))?)
     }
 
-    /// Begins an operation for a party and runs it to its end.
+    /// Begins an operation for a party and runs it to its end, in at most as many steps as
+    /// [`Sizes::most_calls`](crate::Sizes::most_calls) says.
     ///
     /// # Errors
     /// [`Error::Refused`] where a call is refused. [`Error::Waits`] where another party has a lock that the operation
@@ -70,7 +68,8 @@ impl<M: Memory> File<M> {
         self.finish(party)
     }
 
-    /// Runs a party's operation to its end.
+    /// Runs a party's operation to its end, in at most as many steps as
+    /// [`Sizes::most_calls`](crate::Sizes::most_calls) says, those that it has taken already among them.
     ///
     /// ```
     /// use bead_index::{Answer, Error, File, Operation, Sizes};
@@ -94,7 +93,7 @@ impl<M: Memory> File<M> {
     /// # Errors
     /// [`Error::Refused`] and [`Error::Waits`], as [`run`](File::run). [`Error::Circle`] on damaged memory.
     pub fn finish(&mut self, party: u32) -> Result<Answer, Error> {
-        for _ in 0..MOST_STEPS + self.sizes().overflow_pages {
+        for _ in 0..self.sizes().most_calls_of_all() {
             match self.step(party)? {
                 Outcome::Waiting => {
                     return Err(Error::Waits(

@@ -4,7 +4,6 @@ use crate::answers::{Answer, Outcome};
 use crate::error::{Error, FileError, Refusal};
 use crate::file::{File, FileRef};
 use crate::memory::{sizes_of, Lent, Memory, Room, RootRecord, Words};
-use crate::running::MOST_STEPS;
 use crate::sys;
 use std::io::{Read, Write};
 
@@ -139,7 +138,8 @@ impl<M: Memory> File<M> {
     }
 
     /// Brings the file to rest: withdraws every operation that has decided nothing, and steps the others to their end,
-    /// in turn. Gives the answers of those that came to an end, with their parties, in that order.
+    /// in turn. Gives the answers of those that came to an end, with their parties, in that order. In each turn of all
+    /// somebody moves, and none moves more often than [`Sizes::most_calls`](crate::Sizes::most_calls) says.
     ///
     /// This is for words that were copied or mapped between two calls of a program that is gone: [open](FileRef::open)
     /// a copy of them, settle it, and [take it up](File::take_up). Where that fails, or a call was cut in its middle,
@@ -173,9 +173,9 @@ impl<M: Memory> File<M> {
                 Err(refusal) => return Err(refusal.into()),
             }
         }
-        let most = MOST_STEPS + self.sizes().overflow_pages;
+        let most = self.sizes().most_calls_of_all() * self.sizes().parties;
         let mut answers = Vec::new();
-        for _ in 0..most * self.sizes().parties {
+        for _ in 0..most {
             let under_way = self.busy_parties();
             if under_way.is_empty() {
                 return Ok(answers);

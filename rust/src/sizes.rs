@@ -1,5 +1,6 @@
-//! The sizes of a file, their limits, and how much memory they ask for.
+//! The sizes of a file, their limits, how much memory they ask for, and how many calls an operation takes.
 
+use crate::answers::Kind;
 use crate::error::Refusal;
 use crate::memory::{PartyRecord, RootRecord};
 
@@ -115,6 +116,49 @@ impl Sizes {
         }
     }
 
+    /// How many calls of [`step`](crate::File::step) an operation takes at most, whatever the other parties do: those
+    /// that come to [`Moved`](crate::Outcome::Moved) or [`Done`](crate::Outcome::Done). The begin is not counted, nor
+    /// are calls that wait or are refused. It is proved of a file that only the library wrote, from when it was made or
+    /// taken up; the sizes are within their limits.
+    ///
+    /// With R the least number such that the original chains, doubled R times, are the most chains or more: 7 + 3 × R
+    /// and the overflow pages for a find, 21 + 3 × R for an insert, 19 + 3 × R for a delete. R is at most 8.
+    ///
+    /// ```
+    /// use bead_index::{Kind, Sizes};
+    ///
+    /// let sizes = Sizes::new().overflow_pages(100);
+    /// assert_eq!(sizes.most_calls(Kind::Find), 131); // one chain doubled eight times
+    /// assert_eq!(sizes.most_calls(Kind::Insert), 45);
+    /// assert_eq!(sizes.most_calls(Kind::Delete), 43);
+    /// assert_eq!(sizes.original_chains(256).most_calls(Kind::Find), 107); // no chain ever splits
+    /// ```
+    #[must_use]
+    pub const fn most_calls(&self, kind: Kind) -> u32 {
+        let led_on = 3 * self.most_doublings();
+        match kind {
+            Kind::Find => self.overflow_pages.saturating_add(7 + led_on),
+            Kind::Insert => 21 + led_on,
+            Kind::Delete => 19 + led_on,
+        }
+    }
+
+    /// How often the original chains double until they are the most chains: how often an operation can be led on to
+    /// another chain.
+    const fn most_doublings(&self) -> u32 {
+        let mut doublings = 0;
+        while doublings < 8 && self.original_chains << doublings < self.most_chains {
+            doublings += 1;
+        }
+        doublings
+    }
+
+    /// The most calls of any operation.
+    pub(crate) fn most_calls_of_all(&self) -> u32 {
+        self.most_calls(Kind::Find)
+            .max(self.most_calls(Kind::Insert))
+    }
+
     /// How many parties' records to lend.
     #[must_use]
     pub const fn party_records(&self) -> usize {
@@ -187,6 +231,28 @@ mod tests {
             largest.parties(17),
         ] {
             assert_eq!(sizes.check(), Err(Refusal::Size), "{sizes:?}");
+        }
+    }
+
+    #[test]
+    fn chains_double_until_there_is_no_room() {
+        for (original, most, doublings) in [
+            (1, 256, 8),
+            (1, 129, 8),
+            (1, 128, 7),
+            (1, 2, 1),
+            (1, 1, 0),
+            (5, 12, 2),
+            (5, 10, 1),
+            (128, 256, 1),
+            (256, 256, 0),
+        ] {
+            let sizes = Sizes::new()
+                .original_chains(original)
+                .most_chains(most)
+                .overflow_pages(3);
+            let most = [Kind::Find, Kind::Insert, Kind::Delete].map(|kind| sizes.most_calls(kind));
+            assert_eq!(most, [10, 21, 19].map(|calls| calls + 3 * doublings));
         }
     }
 

@@ -1,6 +1,6 @@
 //! Parties in a random order against a plain map: every answer is the one that the map gives at the operation's
-//! decisive step, a party waits exactly where it is said to, somebody can always move, and a withdrawn operation leaves
-//! the map as it was.
+//! decisive step, a party waits exactly where it is said to, somebody can always move, a withdrawn operation leaves the
+//! map as it was, and no operation takes more calls than `Sizes::most_calls` says.
 
 mod common;
 
@@ -83,6 +83,8 @@ impl Met {
 struct Run {
     file: File,
     book: Book,
+    /// The calls that each party's operation has taken.
+    taken: Vec<u32>,
     met: Met,
     random: Random,
 }
@@ -93,6 +95,7 @@ impl Run {
         Run {
             file,
             book: Book::new(sizes.parties),
+            taken: vec![0; sizes.parties as usize],
             met: Met::default(),
             random: Random::new(seed),
         }
@@ -113,6 +116,18 @@ impl Run {
             .begin(party, operation)
             .expect("the party is idle");
         self.book.notes[party as usize] = None;
+        self.taken[party as usize] = 0;
+    }
+
+    /// Counts a call that moved or is done. The one that makes up the most is done.
+    fn count(&mut self, party: u32, under_way: UnderWay, moved: bool) {
+        let most = self.file.sizes().most_calls(under_way.operation.kind());
+        let taken = &mut self.taken[party as usize];
+        *taken += 1;
+        assert!(
+            *taken + u32::from(moved) <= most,
+            "party {party}, {under_way}: {taken} calls of {most}"
+        );
     }
 
     /// One step of a party that has an operation under way.
@@ -130,6 +145,7 @@ impl Run {
             self.met.waits += 1;
             return;
         }
+        self.count(party, under_way, outcome == Outcome::Moved);
         self.book.enter(party, under_way);
         if let Outcome::Done {
             answer,

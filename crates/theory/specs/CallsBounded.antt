@@ -132,9 +132,10 @@ callsBounded most w (e ∷ es) = callBounded w (e .call) (e .reply) && callsBoun
 
 -- ---- The statement
 
--- For one list of calls: the figures, and the sharper ones by the sizes. From formatted memory no chain has more than
--- (V + 1) / 2 overflow pages, since a rebuild takes all its pages while the old ones are still out: there 31 + V is
--- met for V ≤ 1 alone, from a file taken up for every V.
+-- For one list of calls: the figures, and the sharper ones by the sizes. 31 + V is reached for V = 1: with none nothing
+-- splits; a find led on eight times ends in a chain split off after its begin, and a chain that the calls have written
+-- has at most (V + 1) / 2 overflow pages, since a rebuild takes all its pages while the old ones are still out. In a
+-- file taken up a chain may have all V: where N is P a find takes 7 + V calls there, for every V.
 pub record CallsRight (s : Start) (cs : List Call) : Type 0 where
   pub bounded : callsBounded (mostCalls (sizesOf s)) noneCounted (events (start s) cs) ≡ true
   pub by-sizes : callsBounded (mostBySizes (sizesOf s)) noneCounted (events (start s) cs) ≡ true

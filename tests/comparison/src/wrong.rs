@@ -19,6 +19,8 @@ pub enum Wrong {
     Setting,
     /// From some call on every operation under way waits.
     Wait,
+    /// From some call on every operation under way is answered moved, and nothing is altered.
+    Move,
 }
 
 impl Wrong {
@@ -28,6 +30,7 @@ impl Wrong {
             "answer" => Some(Wrong::Answer),
             "setting" => Some(Wrong::Setting),
             "wait" => Some(Wrong::Wait),
+            "move" => Some(Wrong::Move),
             _ => PART_NAMES
                 .iter()
                 .position(|known| *known == name)
@@ -42,7 +45,8 @@ const ONE_IN: u32 = 1000;
 pub struct Wronged {
     library: Library,
     wrong: Wrong,
-    waiting: bool,
+    /// What every step of an operation under way is answered, once it is.
+    stuck: Option<Reply>,
     random: Random,
 }
 
@@ -51,7 +55,7 @@ impl Wronged {
         Wronged {
             library,
             wrong,
-            waiting: false,
+            stuck: None,
             random: Random::new(seed),
         }
     }
@@ -71,9 +75,14 @@ impl Wronged {
 impl Callee for Wronged {
     fn call(&mut self, image: &mut Image, call: Call) -> Reply {
         let now = self.random.one_in(ONE_IN);
-        self.waiting |= now && matches!(self.wrong, Wrong::Wait);
-        if self.waiting && Wronged::is_step(image, call) {
-            return [0; 5];
+        match self.wrong {
+            Wrong::Wait if now => self.stuck = Some([0; 5]),
+            Wrong::Move if now => self.stuck = Some([0, 1, 0, 0, 0]),
+            _ => {}
+        }
+        match self.stuck {
+            Some(reply) if Wronged::is_step(image, call) => return reply,
+            _ => {}
         }
         let mut reply = self.library.call(image, call);
         match self.wrong {

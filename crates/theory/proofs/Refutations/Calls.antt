@@ -1,6 +1,8 @@
--- Runs with more calls than the bound, and others that callsBounded calls wrong, beside those that it calls right.
+-- Runs with more calls than the bound, and others that callsBounded calls wrong, beside those that it calls right; and
+-- the runs of programs that do in many calls what a step does in one, or do it again.
 -- Main statements: find-last, find-late; insert-last, insert-late; delete-last, delete-late and their like by the
--- sizes; what counts and what does not; others-wrong, others-uncounted (a reply to a call of another kind).
+-- sizes; chase-stays, page-copied, old-pages-singly, split-again; what counts and what does not; others-wrong,
+-- others-uncounted (a reply to a call of another kind).
 use mathlib.Core.Path.{_≡_, refl}
 use mathlib.Core.Bool.{Bool, true, false}
 use mathlib.Core.List.{List, [], _∷_, _++_}
@@ -92,6 +94,46 @@ done-within = refl
 done-late : callsBounded (λ o. 0) noneCounted (movedThen Operation.Find 0 (steps 0 isDone ∷ [])) ≡ false
 unfolding opened
 done-late = refl
+
+-- ---- Programs that take too many calls
+
+-- A step of party 0 with this number, moved.
+abbrev moves : ℕ → Event
+moves k = record { call = stepFor 0; number = k; reply = toStep StepAnswer.Moved }
+
+-- The first calls of every operation, up to 6.
+abbrev locates : List Event
+locates = moves 1 ∷ moves 2 ∷ moves 3 ∷ moves 4 ∷ moves 5 ∷ moves 6 ∷ []
+
+abbrev splits : List Event
+splits = moves 15 ∷ moves 16 ∷ moves 17 ∷ moves 18 ∷ moves 19 ∷ moves 20 ∷ moves 21 ∷ moves 22 ∷ []
+
+abbrev runOf : Operation → List Event → List Event
+runOf o es = begins 0 o BeginAnswer.Begun ∷ (locates ++ es)
+
+-- The most overflow pages that there can be.
+abbrev roomiest : Root
+roomiest = rootOfSizes 1 2 256 752 2
+
+-- A chase that raises lev by one a call and stays at 6: a find moved 31 + V times.
+chase-stays : asked widest (runOf Operation.Find (replicate 28 (moves 6))) ≡ false
+unfolding opened
+chase-stays = refl
+
+-- A 9 that copies the page that it has: a find moved 31 + V times.
+page-copied : asked widest (runOf Operation.Find (replicate 28 (moves 9))) ≡ false
+unfolding opened
+page-copied = refl
+
+-- A 14 that gives back one page a call: an insert moved 45 times.
+old-pages-singly : asked roomiest (runOf (Operation.Insert 9) (moves 10 ∷ moves 11 ∷ moves 12 ∷ moves 13 ∷ replicate 35 (moves 14))) ≡ false
+unfolding opened
+old-pages-singly = refl
+
+-- A 22 that goes to 15: an insert moved 45 times.
+split-again : asked roomiest (runOf (Operation.Insert 9) (moves 10 ∷ moves 11 ∷ moves 12 ∷ (splits ++ splits ++ splits ++ splits ++ (moves 15 ∷ moves 16 ∷ moves 17 ∷ moves 18 ∷ [])))) ≡ false
+unfolding opened
+split-again = refl
 
 -- ---- By the sizes
 

@@ -1,8 +1,9 @@
 //! Random schedules of up to sixteen parties against the book: every answer is the book's note, calls are refused where
-//! they must be and nowhere else, some operation under way can always move, take-up passes exactly where none is under
-//! way, and at rest the records in the chains are the book's map.
+//! they must be and nowhere else, some operation under way can always move, none takes more calls than the sizes allow,
+//! take-up passes exactly where none is under way, and at rest the records in the chains are the book's map.
 
 mod book;
+mod counted;
 mod pace;
 mod replaced;
 mod restored;
@@ -18,6 +19,7 @@ use crate::transcripts::forms;
 use bead_port::memory::{FIND, INSERT};
 use bead_port::reply::FOUND;
 use book::Book;
+use counted::LONGEST;
 use pace::Pace;
 use restored::{RESTORED, RESTORED_PAGES};
 
@@ -37,6 +39,8 @@ pub struct Schedules {
     trial: Image,
     sizes: [u32; 5],
     book: Book,
+    /// The calls that each party's operation has taken.
+    taken: Vec<u32>,
     calls: u64,
     operations: u64,
     trials: u64,
@@ -44,7 +48,7 @@ pub struct Schedules {
 }
 
 /// What must be met beside a wait at each requesting step.
-const NAMES: [&str; 23] = [
+const NAMES: [&str; 24] = [
     "found",
     "absent",
     "inserted",
@@ -58,6 +62,7 @@ const NAMES: [&str; 23] = [
     "merge-skipped",
     STALE,
     STALE_SETTING,
+    LONGEST,
     FULL,
     "refused 3",
     "refused 4",
@@ -94,6 +99,7 @@ impl Schedules {
             trial: Image::zero(0, 0, 0),
             sizes: [0; 5],
             book: Book::new(0),
+            taken: Vec::new(),
             calls: 0,
             operations: 0,
             trials: 0,
@@ -130,12 +136,15 @@ impl Schedules {
             self.test_progress()?;
         }
         match (call, self.call(call)) {
-            (Call::Format(sizes), [0, 0, 0, 0, 0]) => self.book = Book::new(sizes[4]),
+            (Call::Format(sizes), [0, 0, 0, 0, 0]) => self.formatted(sizes[4]),
             (Call::Begin(party, operation, key, setting), [0, 0, 0, 0, 0]) => {
                 self.begun(party, operation, key, setting)
             }
             (Call::Step(_), [0, 0, 0, 0, 0]) => return self.waited(number),
-            (Call::Step(party), [0, 1, 0, 0, 0]) => self.book.performed(party, number),
+            (Call::Step(party), [0, 1, 0, 0, 0]) => {
+                self.count(party, true)?;
+                self.book.performed(party, number)
+            }
             (Call::Step(party), reply @ [0, 2, ..]) => return self.ended(party, number, reply),
             (_, reply) => return Err(format!("{call:?}: {reply:?} at step {number}")),
         }
@@ -185,11 +194,17 @@ impl Schedules {
         }
     }
 
+    fn formatted(&mut self, parties: u32) {
+        self.book = Book::new(parties);
+        self.taken = vec![0; parties as usize];
+    }
+
     fn begun(&mut self, party: u32, operation: u32, key: u32, setting: u32) {
         if self.book.under_way().len() == 15 {
             self.met.add(FULL);
         }
         self.book.begun(party, operation, key, setting);
+        self.taken[party as usize] = 0;
     }
 
     /// Somebody under way can move, and only a step that requests a lock may wait.
@@ -203,6 +218,7 @@ impl Schedules {
     }
 
     fn ended(&mut self, party: u32, step: u32, reply: Reply) -> Outcome<()> {
+        self.count(party, false)?;
         self.book.performed(party, step);
         let entry = self.book.ended(party, reply[2], reply[4])?;
         self.operations += 1;
