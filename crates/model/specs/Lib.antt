@@ -17,6 +17,7 @@ pub mod Endings
 pub mod Steps
 pub mod Claims
 pub mod Withdraw
+pub mod WaitingRow
 pub mod Memory
 pub mod Refusals
 pub mod Calls

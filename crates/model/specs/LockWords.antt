@@ -1,7 +1,8 @@
 -- Lock words and Table I (document 01, "The lent memory" and "Addresses and locks").
 -- A lock word is read by fields: bit q marks party q as a reader, bits 16 to 20 hold the selective holder plus one, bits 21 to 25 the exclusive holder plus one.
--- Main definitions: fieldOf, withField; Claim (a lock: which word, which mode); permits (Table I); holds, grantedWord, releasedWord.
-use mathlib.Core.Bool.{Bool, _&&_}
+-- Main definitions: fieldOf, withField; Claim (a lock: which word, which mode); tableOne (Table I, its nine entries),
+-- permits (Table I against a word); holds, grantedWord, releasedWord.
+use mathlib.Core.Bool.{Bool, true, false, _&&_}
 use Prim.Native.Nat.{ℕ, _+_, _*_, _/_, _%_, _^_}
 use lib.Dec.{eqb}
 use Rattle.model.specs.declared.Mode.{Mode}
@@ -39,6 +40,19 @@ selectiveOf w = fieldOf 16 5 w
 
 abbrev pub exclusiveOf : ℕ → ℕ
 exclusiveOf w = fieldOf 21 5 w
+
+-- Table I: a request (first) beside a lock held, or one wanted by who came before (second): true to grant, false to
+-- wait.
+unfoldable pub tableOne : Mode → Mode → Bool
+tableOne Read Read = true
+tableOne Read Selective = true
+tableOne Read Exclusive = false
+tableOne Selective Read = true
+tableOne Selective Selective = false
+tableOne Selective Exclusive = false
+tableOne Exclusive Read = false
+tableOne Exclusive Selective = false
+tableOne Exclusive Exclusive = false
 
 -- Table I: whether a lock word permits a request. Read waits for an exclusive lock, selective for a selective or exclusive one, exclusive for any.
 unfoldable pub permits : ℕ → Mode → Bool
