@@ -4,7 +4,7 @@ import re
 NAMES = [
     ('mathlib.Core.Path', '_≡_ refl sym _∙_ ap subst'),
     ('Prim.Native.Nat', 'ℕ _<_ _≤_ _+_ _-_ _^_ _*_ zero-le'),
-    ('native.Mathlib.Nat', 'le-antisymm lt-of-le-of-lt'),
+    ('native.Mathlib.Nat', 'le-antisymm lt-of-le-of-lt lt-of-lt-of-le'),
     ('native.Mathlib.Numerals', 'add-one-le add-one-dec'),
     ('mathlib.Core.WellFounded', 'WellFounded InvImage·wf'),
     ('mathlib.Core.Bool', 'Bool true false not _&&_'),
@@ -32,12 +32,13 @@ NAMES = [
     ('types.Match', 'live vrt look-tag by-variants'),
     ('types.Tokens', 'lft-new lft-end'),
     ('types.SemTy', 'Arr Body'),
+    ('types.Share', 'arr-parts'),
     ('sound.WpLaws', 'FmC fmOf WpFn-mono'),
     ('denote.RattleType', 'owns'),
     ('denote.Shadow', 'pureI'),
-    ('denote.Memory', 'mem partAt pointee'),
+    ('denote.Memory', 'mem partAt shares pointee'),
     ('denote.Laws', 'Is shows'),
-    ('denote.Plain', 'uint-makes uint-vals uint-tells uint-lawful bool-makes bool-tells bool-lawful nothing-tells nothing-lawful'),
+    ('denote.Plain', 'uint-makes uint-vals uint-tells uint-lawful uint-copy bool-makes bool-tells bool-lawful nothing-tells nothing-lawful'),
     ('denote.Builtin', 'u32 usize bool unit'),
     ('denote.Ref', 'RefT MutRef ShrRef ptr-vals mut-tells shr-tells shr-copy'),
     ('denote.Slice', 'sliceTy sliceVal MutSlice ShrSlice Room finally heres codedHoleys at-slice slice-vals mut-slice-tells shr-slice-tells shr-slice-copy res-finally'),
@@ -51,7 +52,7 @@ NAMES = [
     ('denote.Triple.Call', 'calls-at'),
     ('denote.Triple.Clauses', 'ensured lasts'),
     ('denote.Triple.Table', 'entered cited'),
-    ('denote.Triple.Walked', 'says Stays stay-ref stay-slice gave-ref gave-slice stay-none stay-none-ref stay-none-slice walkOf AllGo goes-ref goes-slice goes-gave-ref '
+    ('denote.Triple.Walked', 'says needs Stays stay-ref stay-slice gave-ref gave-slice stay-none stay-none-ref stay-none-slice walkOf AllGo goes-ref goes-slice goes-gave-ref '
                              'goes-gave-slice goes-none goes-none-ref goes-none-slice Walks ends-at walked walk-meets'),
     ('denote.Exit', 'yes'),
     ('denote.Signature', 'plain'),

@@ -117,6 +117,9 @@ class Boolean:
     def typed(self, x, fact):
         return f'(bool-lawful 𝓤 H A W .typed {x} _ {fact} .0)'
 
+    def spelt(self, x, fact):
+        return f'(subst (Is {self.row} {x}) (bool-tells {x} _ {fact}) {fact})'
+
     def imports(self, crate):
         return []
 
@@ -196,9 +199,11 @@ class Lent:
 
 class Callee:
     """A function that is called. `params` are in its own order; a Lent one is that of the caller. `variables` are what the
-    call is over, with their types. `said` gives what the callee ensures, from the text of its result and of the last values."""
+    call is over, with their types. `said` gives what the callee ensures, from the text of its result and of the last values;
+    `asks` is the proof of what it requires, over the facts `given`, names and types."""
 
-    def __init__(self, alias, crate, function, params, result, said, variables=()):
+    def __init__(self, alias, crate, function, params, result, said, variables=(), asks=None, given=()):
+        self.asks, self.given = asks, list(given)
         self.alias, self.crate, self.function, self.params, self.result = alias, crate, function, params, result
         self.said, self.variables = said, list(variables)
         self.lent = [p for p in params if p.lent]
@@ -237,8 +242,9 @@ class Callee:
             f'  to-{a}{bound} = (({self.lifetimes}, {tuple_of([p.q for p in self.lent])}, tt, {applied(f"{a}-args")}, {machine}), tt)',
             '',
             f'  goes-{a} : ' + ''.join(f'({v} : {t}) → ' for v, t in self.variables) + ''.join(f'{p.row.has(p.value)} → ' for p in assumed)
+            + ''.join(f'{t} → ' for _, t in self.given)
             + f'ent 𝓤 ({given}) ({self.contract} 𝓤 H A mem′ run .pre {applied(f"to-{a}")})',
-            f'  goes-{a}{bound}' + ''.join(f' {p.fact}' for p in assumed) + ' =',
+            f'  goes-{a}{bound}' + ''.join(f' {p.fact}' for p in assumed) + ''.join(f' {name}' for name, _ in self.given) + ' =',
             f'      qed W {self.items()} ∵ ' + ' '.join(self.entering()),
             '',
         ]
@@ -265,8 +271,8 @@ class Callee:
                 w.own(p.row, p.value, p.fact, 'plain')
             w.fjoin(p.owned if p.lent else 'plain', 'owns', 'owns')
         w.join('alive', 'owns', 'all')
-        w.line('frame ! $ done !')
-        return w.lines
+        w.line('done !' if self.asks else 'frame ! $ done !')
+        return ([f'says ! {self.asks} $'] if self.asks else []) + w.lines
 
 
 def nested(parts):

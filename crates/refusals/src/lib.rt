@@ -82,7 +82,7 @@ pub fn lengths_fit(root: Root, parties: usize, locks: usize, pages: usize) -> bo
 }
 
 // N × 2^level.
-fn span(n: u32, level: u32) -> u64
+pub fn span(n: u32, level: u32) -> u64
     requires { ⌜ level ≤ 8 ⌝ }
     ensures { λ r. ⌜ (r ≡ Addresses.span n level) × (r < 2 ^ 40) ⌝ }
 {

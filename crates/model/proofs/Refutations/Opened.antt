@@ -40,26 +40,26 @@ unfolding Rattle.model.specs.Addresses.span Rattle.model.specs.A
     Rattle.model.specs.LockRequests.modeOf Rattle.model.specs.LockRequests.isGranted Rattle.model.specs.LockRequests.withHold
     Rattle.model.specs.LockRequests.request Rattle.model.specs.LockRequests.isHeld Rattle.model.specs.LockRequests.heldAll
     Rattle.model.specs.LockRequests.withoutHold Rattle.model.specs.LockRequests.givenUp Rattle.model.specs.LockRequests.release
-    Rattle.model.specs.LockWords.fieldOf Rattle.model.specs.LockWords.withField Rattle.model.specs.LockWords.permits Rattle.model.specs.LockWords.holds
-    Rattle.model.specs.LockWords.grantedWord Rattle.model.specs.LockWords.releasedWord Rattle.model.specs.LockWords.turnedSelective
-    Rattle.model.specs.Memory.freePages Rattle.model.specs.Memory.formattedRoot Rattle.model.specs.Memory.formattedPages Rattle.model.specs.Memory.formatted
-    Rattle.model.specs.Mixing.stirredLeft Rattle.model.specs.Mixing.stirredRight Rattle.model.specs.Mixing.nextWord Rattle.model.specs.Mixing.outputs
-    Rattle.model.specs.Mixing.table Rattle.model.specs.Mixing.byteOf Rattle.model.specs.Mixing.rowOf Rattle.model.specs.Mixing.tableWord
-    Rattle.model.specs.Mixing.mixed Rattle.model.specs.PagePlaces.count Rattle.model.specs.PagePlaces.pagesDrawn Rattle.model.specs.PagePlaces.freeList
-    Rattle.model.specs.PagePlaces.chainedFrom Rattle.model.specs.PagePlaces.handIf Rattle.model.specs.PagePlaces.owesOld Rattle.model.specs.PagePlaces.hasBuilt
-    Rattle.model.specs.PagePlaces.inHand Rattle.model.specs.PagePlaces.inHands Rattle.model.specs.PagePlaces.placesOf Rattle.model.specs.Pages.pageOf
-    Rattle.model.specs.Pages.withPage Rattle.model.specs.Pages.levelOf Rattle.model.specs.Pages.countOf Rattle.model.specs.Pages.linkOf
-    Rattle.model.specs.Pages.recordsIn Rattle.model.specs.Pages.entriesOf Rattle.model.specs.Pages.wordsOf Rattle.model.specs.Pages.filledPage
-    Rattle.model.specs.Pages.freePage Rattle.model.specs.Pages.zeroPage Rattle.model.specs.Pages.withLocalLevel Rattle.model.specs.Pages.linkToFirst
-    Rattle.model.specs.Pages.namesOverflow Rattle.model.specs.Pages.linkSound Rattle.model.specs.Pages.pageSound Rattle.model.specs.Progress.isEntered
-    Rattle.model.specs.Progress.underWay Rattle.model.specs.Progress.canMove Rattle.model.specs.Progress.someBelow Rattle.model.specs.Progress.progresses
-    Rattle.model.specs.Progress.alwaysProgresses Rattle.model.specs.Refusals.firstCause Rattle.model.specs.Refusals.lengthsFit
-    Rattle.model.specs.Refusals.rootSound Rattle.model.specs.Refusals.partySound Rattle.model.specs.Refusals.recordSound Rattle.model.specs.Refusals.formatRows
-    Rattle.model.specs.Refusals.beginRows Rattle.model.specs.Refusals.stepRows Rattle.model.specs.Refusals.withdrawRows Rattle.model.specs.Runs.replyTo
-    Rattle.model.specs.Runs.afterCall Rattle.model.specs.Runs.eventOf Rattle.model.specs.Runs.events Rattle.model.specs.Runs.finalMemory
-    Rattle.model.specs.ScratchPages.primaryWritten Rattle.model.specs.Sizes.withinLimits Rattle.model.specs.Steps.Chase.chase
-    Rattle.model.specs.Steps.Chase.chaseOf Rattle.model.specs.Steps.Chase.arrived Rattle.model.specs.Steps.Chase.chasing Rattle.model.specs.Steps.Chase.step06
-    Rattle.model.specs.Steps.Chase.step07 Rattle.model.specs.Steps.Chase.step08 Rattle.model.specs.Steps.Dispatch.hasStep
+    Rattle.model.specs.LockWords.fieldOf Rattle.model.specs.LockWords.withField Rattle.model.specs.LockWords.tableOne Rattle.model.specs.LockWords.permits
+    Rattle.model.specs.LockWords.holds Rattle.model.specs.LockWords.grantedWord Rattle.model.specs.LockWords.releasedWord
+    Rattle.model.specs.LockWords.turnedSelective Rattle.model.specs.Memory.freePages Rattle.model.specs.Memory.formattedRoot
+    Rattle.model.specs.Memory.formattedPages Rattle.model.specs.Memory.formatted Rattle.model.specs.Mixing.stirredLeft Rattle.model.specs.Mixing.stirredRight
+    Rattle.model.specs.Mixing.nextWord Rattle.model.specs.Mixing.outputs Rattle.model.specs.Mixing.table Rattle.model.specs.Mixing.byteOf
+    Rattle.model.specs.Mixing.rowOf Rattle.model.specs.Mixing.tableWord Rattle.model.specs.Mixing.mixed Rattle.model.specs.PagePlaces.count
+    Rattle.model.specs.PagePlaces.pagesDrawn Rattle.model.specs.PagePlaces.freeList Rattle.model.specs.PagePlaces.chainedFrom Rattle.model.specs.PagePlaces.handIf
+    Rattle.model.specs.PagePlaces.owesOld Rattle.model.specs.PagePlaces.hasBuilt Rattle.model.specs.PagePlaces.inHand Rattle.model.specs.PagePlaces.inHands
+    Rattle.model.specs.PagePlaces.placesOf Rattle.model.specs.Pages.pageOf Rattle.model.specs.Pages.withPage Rattle.model.specs.Pages.levelOf
+    Rattle.model.specs.Pages.countOf Rattle.model.specs.Pages.linkOf Rattle.model.specs.Pages.recordsIn Rattle.model.specs.Pages.entriesOf
+    Rattle.model.specs.Pages.wordsOf Rattle.model.specs.Pages.filledPage Rattle.model.specs.Pages.freePage Rattle.model.specs.Pages.zeroPage
+    Rattle.model.specs.Pages.withLocalLevel Rattle.model.specs.Pages.linkToFirst Rattle.model.specs.Pages.namesOverflow Rattle.model.specs.Pages.linkSound
+    Rattle.model.specs.Pages.pageSound Rattle.model.specs.Progress.isEntered Rattle.model.specs.Progress.underWay Rattle.model.specs.Progress.canMove
+    Rattle.model.specs.Progress.someBelow Rattle.model.specs.Progress.progresses Rattle.model.specs.Progress.alwaysProgresses
+    Rattle.model.specs.Refusals.firstCause Rattle.model.specs.Refusals.lengthsFit Rattle.model.specs.Refusals.rootSound Rattle.model.specs.Refusals.partySound
+    Rattle.model.specs.Refusals.recordSound Rattle.model.specs.Refusals.formatRows Rattle.model.specs.Refusals.beginRows Rattle.model.specs.Refusals.stepRows
+    Rattle.model.specs.Refusals.withdrawRows Rattle.model.specs.Runs.replyTo Rattle.model.specs.Runs.afterCall Rattle.model.specs.Runs.eventOf
+    Rattle.model.specs.Runs.events Rattle.model.specs.Runs.finalMemory Rattle.model.specs.ScratchPages.primaryWritten Rattle.model.specs.Sizes.withinLimits
+    Rattle.model.specs.Steps.Chase.chase Rattle.model.specs.Steps.Chase.chaseOf Rattle.model.specs.Steps.Chase.arrived Rattle.model.specs.Steps.Chase.chasing
+    Rattle.model.specs.Steps.Chase.step06 Rattle.model.specs.Steps.Chase.step07 Rattle.model.specs.Steps.Chase.step08 Rattle.model.specs.Steps.Dispatch.hasStep
     Rattle.model.specs.Steps.Dispatch.stepTable Rattle.model.specs.Steps.Dispatch.stepOf Rattle.model.specs.Steps.Dispatch.wantTable
     Rattle.model.specs.Steps.Dispatch.wants Rattle.model.specs.Steps.Dispatch.nextTable Rattle.model.specs.Steps.Dispatch.isNext
     Rattle.model.specs.Steps.Dispatch.writesTable Rattle.model.specs.Steps.Dispatch.writes Rattle.model.specs.Steps.Find.answered
@@ -86,7 +86,11 @@ unfolding Rattle.model.specs.Addresses.span Rattle.model.specs.A
     Rattle.model.specs.TakeUp.fitsIfSound Rattle.model.specs.TakeUp.chainsFit Rattle.model.specs.TakeUp.chainsSaved Rattle.model.specs.TakeUp.beyondClear
     Rattle.model.specs.TakeUp.allFree Rattle.model.specs.TakeUp.freeIfSound Rattle.model.specs.TakeUp.freeSaved Rattle.model.specs.TakeUp.eachOnce
     Rattle.model.specs.TakeUp.pagesOnce Rattle.model.specs.TakeUp.isSaved Rattle.model.specs.TakeUp.takeUpRows Rattle.model.specs.TakeUp.takeUpAnswer
-    Rattle.model.specs.TakeUp.takeUpCall Rattle.model.specs.TakeUp.recordsSaved Rattle.model.specs.TakeUp.openBook Rattle.model.specs.Withdraw.isDecided
-    Rattle.model.specs.Withdraw.builtPages Rattle.model.specs.Withdraw.takenBack Rattle.model.specs.Withdraw.takenBackSoundly
-    Rattle.model.specs.Withdraw.withdrawn
+    Rattle.model.specs.TakeUp.takeUpCall Rattle.model.specs.TakeUp.recordsSaved Rattle.model.specs.TakeUp.openBook Rattle.model.specs.WaitingRow.requests
+    Rattle.model.specs.WaitingRow.isSome Rattle.model.specs.WaitingRow.waitersIn Rattle.model.specs.WaitingRow.allZero Rattle.model.specs.WaitingRow.noneTwice
+    Rattle.model.specs.WaitingRow.allRequest Rattle.model.specs.WaitingRow.rowSound Rattle.model.specs.WaitingRow.conflicts
+    Rattle.model.specs.WaitingRow.oneBefore Rattle.model.specs.WaitingRow.behindFor Rattle.model.specs.WaitingRow.standsBehind
+    Rattle.model.specs.WaitingRow.appended Rattle.model.specs.WaitingRow.rowWith Rattle.model.specs.WaitingRow.rowWithout Rattle.model.specs.WaitingRow.rowAfter
+    Rattle.model.specs.WaitingRow.rowLeft Rattle.model.specs.Withdraw.isDecided Rattle.model.specs.Withdraw.builtPages Rattle.model.specs.Withdraw.takenBack
+    Rattle.model.specs.Withdraw.takenBackSoundly Rattle.model.specs.Withdraw.withdrawn
 opened = 0

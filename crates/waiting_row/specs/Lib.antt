@@ -1,0 +1,4 @@
+-- What the functions of this crate are stated with: a request as code has it; an entry of the row looked at, and the
+-- place of a party; the row's words.
+pub mod Requested
+pub mod Entry
