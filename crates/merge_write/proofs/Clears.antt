@@ -1,15 +1,16 @@
 -- Step 29 by its cases: which test refuses it, and what it leaves where none does.
--- Main statements: no-room-refused, all-cleared (both lists are given back); first-damaged, second-damaged, both-walked (both are walked);
--- unsound-link-refused, unsound-page-refused, sound-cleared (29).
+-- Main statements: partner-there; no-room-refused, all-cleared (both lists are given back); first-damaged,
+-- second-damaged, both-walked (both are walked); unsound-link-refused, unsound-page-refused, sound-cleared (29).
 use mathlib.Core.Path.{_≡_, refl, ap}
 use mathlib.Core.Bool.{Bool, true, false, not}
 use mathlib.Core.List.{List, _++_}
-use Prim.Native.Nat.{ℕ, _+_, _≤_, _<_}
+use Prim.Native.Nat.{ℕ, _+_, _*_, _≤_, _<_}
 use native.Mathlib.Omega.{arith}
 use lib.ListN.{length}
 use borrow.Author.Tests.{not-true, not-false, le-leb, lt-leb}
 use Rattle.model.specs.declared.Root.{Root}
 use Rattle.model.specs.declared.Party.{Party}
+use Rattle.model.specs.Sizes.{pageWords}
 use Rattle.model.specs.Records.{atStep}
 use Rattle.model.specs.Pages.{pageOf, withPage, linkOf, linkSound, pageSound, zeroPage}
 use Rattle.model.specs.Chains.{Checked, damaged, sound, soundIf, andThen, listFrom}
@@ -20,7 +21,11 @@ use Rattle.model.specs.Steps.MergeWrite.{mergedAway, partnerCleared, step29}
 use Rattle.chains.specs.Walks.{counted}
 use Rattle.chains.specs.declared.Walked.the-variants as Walked
 use Rattle.free_list.specs.Giving.{listed, Returned, returned, afterGiving}
-use Rattle.merge_write.specs.Clearing.{roomyCleared, bothCleared}
+use Rattle.merge_write.specs.Clearing.{CanClear, roomyCleared, bothCleared}
+
+-- The partner's primary page, which 29 zeroes, is in the page memory.
+pub partner-there : (r : Root) (p : Party) (ps : List ℕ) → CanClear r p ps → pageWords * (p .other + 1) ≤ length ps
+partner-there r p ps can = omega (arith, can .partner-fits, can .pages-fit)
 
 -- ---- Both lists are given back
 
