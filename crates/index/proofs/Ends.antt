@@ -1,4 +1,5 @@
--- What the walks of this crate cite that is no step of the machine: what each callee says, and that the contract's equation follows on each way.
+-- What the walks of this crate cite that is no step of the machine: what each callee says, and that the contract's
+-- equation follows on each way.
 -- Main statements: format-made, format-refused; begin-inside, begin-refused, begin-past; step-inside, step-past;
 -- withdraw-inside, withdraw-past.
 use mathlib.Core.Path.{_≡_, refl, sym, _∙_, ap, subst}

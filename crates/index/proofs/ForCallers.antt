@@ -1,9 +1,9 @@
--- What a caller reads off StartRight, FormatRight and IndexRight, of the memory that he lent, the calls that he made and
--- the events that he saw, and of nothing else.
--- Main statements: formatted-told, empty-told; singly-told (a list of operations run singly); events-told, memory-told;
--- answer-told, somebody-moves, sizes-kept, links-told, no-page-told, grants-told, alone-told (one operation run alone);
--- order-told, found-told; withdrawn-told, restored-told, merges-told, calls-told; goes-on (at rest the memory opens
--- another run, with the records of the book), first-look.
+-- What a caller reads off StartRight, FormatRight and IndexRight, of the memory that he lent, the calls that he made
+-- and the events that he saw, and of nothing else.
+-- Main statements: formatted-told, empty-told; singly-told (a list of operations run singly); events-told,
+-- memory-told; answer-told, somebody-moves, sizes-kept, links-told, no-page-told, grants-told, alone-told (one
+-- operation run alone); order-told, found-told; withdrawn-told, restored-told, merges-told, calls-told; goes-on (at
+-- rest the memory opens another run, with the records of the book), first-look.
 use mathlib.Core.Path.{_≡_, refl, sym, _∙_, ap, ap₂, subst}
 use mathlib.Core.Bool.{Bool, true, false, cond}
 use mathlib.Core.List.{List, [], _∷_, _++_}

@@ -1,10 +1,11 @@
 -- THE INDEX as its caller has it: `format`, `take_up`, `begin`, `step` and `withdraw` of src/lib.rt, called one after
 -- the other on memory that nothing else changes. Read this file first.
--- What is said of one call is the equation of that function's contract. What is said of a run is the demands of document
--- 01, of the very events and memory that the functions made.
--- Main definitions: StartRight (what holds once a way into a run was taken), FormatRight (what format gives beside it),
--- IndexRight (what holds after every list of calls); Opened, Made and Ran, which they speak of, are those of
--- crates/theory/specs/Made.antt. The theorems are proofs/TheIndex.antt; what a caller reads off them, proofs/ForCallers.antt.
+-- What is said of one call is the equation of that function's contract. What is said of a run is the demands of
+-- document 01, of the very events and memory that the functions made.
+-- Main definitions: StartRight (what holds once a way into a run was taken), FormatRight (what format gives beside
+-- it), IndexRight (what holds after every list of calls); Opened, Made and Ran, which they speak of, are those of
+-- crates/theory/specs/Made.antt. The theorems are proofs/TheIndex.antt; what a caller reads off them,
+-- proofs/ForCallers.antt.
 use mathlib.Core.Path.{_≡_}
 use mathlib.Core.Bool.{true}
 use mathlib.Core.List.{List, []}
@@ -68,16 +69,18 @@ pub record IndexRight (m₀ : Memory) (cs : List Call) (es : List Event) (m : Me
   -- Demand 2: grants and refusals; and, where nobody is under way, an operation run alone.
   pub grants : GrantsRight begins cs
   pub singly : AtRest (bookReached begins cs) → (x : Wanted) → x .party < m₀ .root .parties → RunSingly begins cs x
-  -- An order of the operations, each at one call between its begin and its answer, in which a plain map gives every answer.
+  -- An order of the operations, each at one call between its begin and its answer, in which a plain map gives every
+  -- answer.
   pub linearization : Linearization begins cs
   -- Change 1: each found answers the setting of the last insert that added its key and was not deleted since, in that
   -- order; or the one that m₀ had.
   pub founds : FoundsRight begins cs linearization
-  -- Change 2: neither a withdrawn operation nor its withdraw alters the map; and where an operation is begun, steps alone
-  -- and is withdrawn, all lent memory is what it was before its begin.
+  -- Change 2: neither a withdrawn operation nor its withdraw alters the map; and where an operation is begun, steps
+  -- alone and is withdrawn, all lent memory is what it was before its begin.
   pub withdrawals : WithdrawalsRight begins cs
   pub restores : (x : Wanted) (n : ℕ) → Restored begins cs x n
-  -- Change 4: a merge goes ahead exactly where the joined records fit the primary page, takes no page, gives back what both chains had, and leaves a chain of one page.
+  -- Change 4: a merge goes ahead exactly where the joined records fit the primary page, takes no page, gives back
+  -- what both chains had, and leaves a chain of one page.
   pub merges : mergesFit nothingHad (start begins) cs ≡ true
   -- Change 6: a file is taken up exactly where nobody is under way, before every call and after the last; every look
   -- said so. Where nobody is under way its records are the book's map.

@@ -1,7 +1,7 @@
-// What a call can have changed of the root and of its party's record, by its answer: of a step by its number too, a mark;
-// of a format and a begin all that they are for, or nothing.
-// Main statements: marked is the definition markOf, is_formatted and is_begun are isFormatted and isBegun; that a step
-// changes no word that its mark does not name is proofs/Marks.antt.
+// What a call can have changed of the root and of its party's record, by its answer: of a step by its number too, a
+// mark; of a format and a begin all that they are for, or nothing.
+// Main statements: marked is the definition markOf, is_formatted and is_begun are isFormatted and isBegun; that a
+// step changes no word that its mark does not name is proofs/Marks.antt.
 
 ghost use mathlib.Core.Path.{_≡_};
 ghost use Rattle.marks.specs.Answered.{isFormatted, isBegun};

@@ -1,5 +1,7 @@
-// Of the root and of a party's record in the row, both lent, the words stored that a step can have changed, by its mark.
-// Main statements: put_root and put_party leave rootBy and partyBy of crate `marks`, at any place of a row of any length.
+// Of the root and of a party's record in the row, both lent, the words stored that a step can have changed, by its
+// mark.
+// Main statements: put_root and put_party leave rootBy and partyBy of crate `marks`, at any place of a row of any
+// length.
 
 ghost use mathlib.Core.Path.{_≡_};
 ghost use lib.ListN.{set};

@@ -1,10 +1,10 @@
--- Every call on every memory is made, with the reply and the memory of the definitions, and with no other; every list of
--- calls is run, with the events and the memory of the definitions, and with no others, whatever looks were made; and
--- which memory a run may start from: what format made, and what passes take-up.
+-- Every call on every memory is made, with the reply and the memory of the definitions, and with no other; every list
+-- of calls is run, with the events and the memory of the definitions, and with no others, whatever looks were made;
+-- and which memory a run may start from: what format made, and what passes take-up.
 -- Main statements: made, made-reply, made-memory, made-once; look, looked-answer, looked-memory, looked-once; ran,
--- ran-looking (a look at every place), ran-events, ran-memory, ran-once, ran-both (a list behind another), calls-told;
--- format-starts, formatted-fits, formatted-once; start-opens, format-opens, OpenedAt, opened-starts; looks-right. What is
--- no call and no run: Refutations/Runs.antt.
+-- ran-looking (a look at every place), ran-events, ran-memory, ran-once, ran-both (a list behind another),
+-- calls-told; format-starts, formatted-fits, formatted-once; start-opens, format-opens, OpenedAt, opened-starts;
+-- looks-right. What is no call and no run: Refutations/Runs.antt.
 use mathlib.Core.Path.{_≡_, refl, sym, _∙_, ap, ap₂, subst}
 use mathlib.Core.Bool.{Bool, true, false, cond}
 use mathlib.Core.List.{List, [], _∷_, _++_, map}

@@ -1,9 +1,9 @@
 -- Calls as their caller has them: what was answered and what memory was left, each the equation of that call's
 -- contract; and lists of calls, made one after the other on memory that nothing else changes.
--- Main definitions: Formatted and Looked (a call of `format`, of `take_up`), Opened (the two ways into a run); Made (one
--- call), Ran (a list of calls, with looks by `take_up` among them); looksMade (how often it was looked), looksRight
--- (what every look answered). That every call is made, in one way only, and that every list is run, in one way only:
--- proofs/Made.antt.
+-- Main definitions: Formatted and Looked (a call of `format`, of `take_up`), Opened (the two ways into a run); Made
+-- (one call), Ran (a list of calls, with looks by `take_up` among them); looksMade (how often it was looked),
+-- looksRight (what every look answered). That every call is made, in one way only, and that every list is run, in one
+-- way only: proofs/Made.antt.
 use mathlib.Core.Path.{_≡_}
 use mathlib.Core.Bool.{Bool, true, cond, _&&_}
 use mathlib.Core.List.{List, [], _∷_}
