@@ -1,10 +1,10 @@
 -- Memory and calls that the definitions call wrong, beside those that they call right: made-up memory of the smallest
 -- sizes.
--- Main statements: each-waits, one-moves, nobody-waits (progress); held-by-nobody, held-by-one (a grant); begun-twice,
--- begun-once, stepped-idle, stepped-busy, withdrawn-idle, withdrawn-busy, refused-busy (a call).
+-- Main statements: each-waits, one-moves, nobody-waits (progress); holds-told, held-by-nobody, held-by-one (a grant);
+-- begun-twice, begun-once, stepped-idle, stepped-busy, withdrawn-idle, withdrawn-busy, refused-busy (a call).
 use mathlib.Core.Path.{_≡_, refl}
 use mathlib.Core.Bool.{Bool, true, false}
-use mathlib.Core.List.{List, [], _∷_}
+use mathlib.Core.List.{List, [], _∷_, map}
 use mathlib.Core.Option.{none, some}
 use Prim.Native.Nat.{ℕ}
 use Rattle.model.specs.declared.Root.{Root}
@@ -17,7 +17,7 @@ use Rattle.model.specs.Memory.{Memory}
 use Rattle.model.specs.Runs.{Call, beginFor, stepFor, withdrawFor}
 use Rattle.model.specs.Book.{Book, emptyBook}
 use Rattle.model.specs.Progress.{progresses, alwaysProgresses}
-use Rattle.model.specs.Holds.{Hold, hold, grantsRight}
+use Rattle.model.specs.Holds.{Hold, hold, isHold, grantsRight}
 use Rattle.model.proofs.Refutations.Opened.{opened}
 
 abbrev pub rootOf : ℕ → ℕ → ℕ → ℕ → ℕ → ℕ → ℕ → ℕ → ℕ → Root
@@ -75,6 +75,12 @@ sizes = rootOf 2 1 2 0 2 0 0 0 0
 
 abbrev heldBy : ℕ → ℕ → Hold
 heldBy q w = hold q (record { word = w; mode = Mode.Selective })
+
+-- A lock is the party's own, on its word and in its mode.
+holds-told :
+    map (isHold 1 (record { word = 2; mode = Mode.Selective })) (heldBy 1 2 ∷ heldBy 0 2 ∷ heldBy 1 1 ∷ hold 1 (record { word = 2; mode = Mode.Read }) ∷ []) ≡ true ∷ false ∷ false ∷ false ∷ []
+unfolding opened
+holds-told = refl
 
 -- Chain 0 is marked as held by party 1, so party 0 waits: right where party 1 holds it by the calls made.
 held-by-nobody : grantsRight sizes busy [] (crossed 0) (stepFor 0 ∷ []) ≡ false
