@@ -1,5 +1,6 @@
 -- `chain_keys::gather` meets its contract.
 use mathlib.Core.Path.{_≡_, sym, ap, _∙_}
+use mathlib.Core.Bool.{Bool, true}
 use Prim.Native.Nat.{_≤_}
 use native.Mathlib.Omega.{arith}
 use lib.ListN.{length}
@@ -59,7 +60,8 @@ returns c =
     let words = gathering .gather-records .last .1 .1 .1 .0 in
     let long : length words ≡ length (a .words .now) = gathering .gather-records .kept .1 .1 .1 .0 in
     let count = gathering .gather-records .result in
-    let up = sym (c .before .before .before .ascends .ensures ∙ ap ascending (records-front count words)) ∙ c .before .before .if1 .taken in
+    let tested : _≡_ {A = Bool} (c .before .before .before .ascends .result) true = c .before .before .if1 .taken in
+    let up = sym (c .before .before .before .ascends .ensures ∙ ap ascending (records-front count words)) ∙ tested in
     let fits : count ≤ length (recordsIn words) = omega (arith, gathering .gather-records .ensures .0, long, length-records words) in
     let front = gathering .gather-records .ensures .1 in (
       keys-ascend-gathered (a .root) ps (a .chain .0) (a .n) passed (recordsIn words) (loaded .load .result) count page front up fits (c .before .level-of .ensures) (c .link-of .ensures),
