@@ -4,12 +4,10 @@
 ghost use Prim.Native.Nat.{_≤_};
 use crate::scene::Call;
 use crate::scene::Scene;
-use held::Held;
 use model::BeginAnswer;
 use model::FileSizes;
 use model::FormatAnswer;
 use model::Operation;
-use model::Party;
 use model::Root;
 use model::StepAnswer;
 use model::TakeUpAnswer;
@@ -32,109 +30,126 @@ const LOCK_ROOM: usize = 258;
 
 const PAGE_ROOM: usize = 16400;
 
+// Records for the most parties there may be.
+const RECORDS: usize = 16;
+
 pub fn came_of(call: Call, s: Scene) -> Came {
+    let words = records::words_of_party(s.record);
+    let mut row = [words; RECORDS];
     let mut locks = [WORD; LOCK_ROOM];
     let mut pages = [WORD; PAGE_ROOM];
     match call {
-        Call::Format => formatted(s, &mut locks, &mut pages),
-        Call::Begin => begun(s, &locks, &pages),
-        Call::Step => stepped(s, &mut locks, &mut pages),
-        Call::Withdraw => withdrawn(s, &mut locks, &mut pages),
-        Call::TakeUp => taken_up(s, &mut locks, &mut pages),
+        Call::Format => formatted(s, &mut row, &mut locks, &mut pages),
+        Call::Begin => begun(s, &mut row, &locks, &pages),
+        Call::Step => stepped(s, &mut row, &mut locks, &mut pages),
+        Call::Withdraw => withdrawn(s, &mut row, &mut locks, &mut pages),
+        Call::TakeUp => taken_up(s, &mut row, &mut locks, &mut pages),
     }
 }
 
-fn formatted(s: Scene, locks: &mut [u32], pages: &mut [u32]) -> Came {
-    let held = s.held;
+fn formatted(s: Scene, row: &mut [[u32; 10]], locks: &mut [u32], pages: &mut [u32]) -> Came {
+    let root = s.root;
     let l = least(s.lock_words, locks.len());
     let g = least(s.page_words, pages.len());
     let made = held::format(
-        held,
+        root,
+        row,
         &mut locks[0..l],
         &mut pages[0..g],
-        sizes_of(held.root),
+        sizes_of(root),
     );
+    let after = made.root;
     let answer = made.answer;
     Came {
         refusal: format_refusal(answer),
-        altered: altered(held, made.held, locks, pages),
+        altered: altered(s, after, row, locks, pages),
     }
 }
 
-fn begun(s: Scene, locks: &[u32], pages: &[u32]) -> Came {
-    let held = s.held;
+fn begun(s: Scene, row: &mut [[u32; 10]], locks: &[u32], pages: &[u32]) -> Came {
+    let root = s.root;
     let l = least(s.lock_words, locks.len());
     let g = least(s.page_words, pages.len());
-    let made = held::begin(
-        held,
+    let answer = held::begin(
+        root,
+        row,
         &locks[0..l],
         &pages[0..g],
         s.party,
         Operation::Delete,
         11,
     );
-    let answer = made.answer;
     Came {
         refusal: begin_refusal(answer),
-        altered: altered(held, made.held, locks, pages),
+        altered: altered(s, root, row, locks, pages),
     }
 }
 
-fn stepped(s: Scene, locks: &mut [u32], pages: &mut [u32]) -> Came {
-    let held = s.held;
+fn stepped(s: Scene, row: &mut [[u32; 10]], locks: &mut [u32], pages: &mut [u32]) -> Came {
+    let root = s.root;
     let l = least(s.lock_words, locks.len());
     let g = least(s.page_words, pages.len());
-    let made = held::step(held, &mut locks[0..l], &mut pages[0..g], s.party);
+    let made = held::step(root, row, &mut locks[0..l], &mut pages[0..g], s.party);
+    let after = made.root;
     let answer = made.answer;
     Came {
         refusal: step_refusal(answer),
-        altered: altered(held, made.held, locks, pages),
+        altered: altered(s, after, row, locks, pages),
     }
 }
 
-fn withdrawn(s: Scene, locks: &mut [u32], pages: &mut [u32]) -> Came {
-    let held = s.held;
+fn withdrawn(s: Scene, row: &mut [[u32; 10]], locks: &mut [u32], pages: &mut [u32]) -> Came {
+    let root = s.root;
     let l = least(s.lock_words, locks.len());
     let g = least(s.page_words, pages.len());
-    let made = held::withdraw(held, &mut locks[0..l], &mut pages[0..g], s.party);
+    let made = held::withdraw(root, row, &mut locks[0..l], &mut pages[0..g], s.party);
+    let after = made.root;
     let answer = made.answer;
     Came {
         refusal: withdraw_refusal(answer),
-        altered: altered(held, made.held, locks, pages),
+        altered: altered(s, after, row, locks, pages),
     }
 }
 
 // A file at rest, as format leaves it with b at most 6: then the root record has the b of the case, and where the
 // records of the case do not rest, the row has them.
-fn at_rest(s: Scene, locks: &mut [u32], pages: &mut [u32]) -> Held {
-    let given = s.held;
-    let b = given.root.capacity;
-    let mut sizes = sizes_of(given.root);
+fn at_rest(s: Scene, row: &mut [[u32; 10]], locks: &mut [u32], pages: &mut [u32]) -> Root {
+    let given = s.root;
+    let b = given.capacity;
+    let mut sizes = sizes_of(given);
     sizes.capacity = least(b as usize, model::MOST_RECORDS as usize) as u32;
     let l = least(sizes.primaries as usize + 1, locks.len());
     let p = sizes.primaries as usize + sizes.overflow as usize + sizes.parties as usize;
     let g = least(16 * p, pages.len());
-    let made = held::format(given, &mut locks[0..l], &mut pages[0..g], sizes);
-    let file = made.held;
-    let mut root = file.root;
+    let made = held::format(given, row, &mut locks[0..l], &mut pages[0..g], sizes);
+    let mut root = made.root;
     root.capacity = b;
-    let mut row = given.row;
-    if s.rests {
-        let zero = file.row;
-        row = zero;
+    if !s.rests {
+        let words = records::words_of_party(s.record);
+        put_everywhere(row, words);
     }
-    Held { root, row }
+    root
+}
+
+fn put_everywhere(row: &mut [[u32; 10]], words: [u32; 10]) {
+    let mut i: usize = 0;
+    while i < row.len() {
+        row[i] = words;
+        i += 1;
+    }
 }
 
 // The words are compared with those of a second file, made in the same way.
-fn taken_up(s: Scene, locks: &mut [u32], pages: &mut [u32]) -> Came {
+fn taken_up(s: Scene, row: &mut [[u32; 10]], locks: &mut [u32], pages: &mut [u32]) -> Came {
+    let words = records::words_of_party(s.record);
+    let mut former_row = [words; RECORDS];
     let mut former_locks = [WORD; LOCK_ROOM];
     let mut former_pages = [WORD; PAGE_ROOM];
-    at_rest(s, &mut former_locks, &mut former_pages);
-    let file = at_rest(s, locks, pages);
+    at_rest(s, &mut former_row, &mut former_locks, &mut former_pages);
+    let root = at_rest(s, row, locks, pages);
     let l = least(s.lock_words, locks.len());
     let g = least(s.page_words, pages.len());
-    let answer = held::take_up(file, &locks[0..l], &pages[0..g]);
+    let answer = held::take_up(root, row, &locks[0..l], &pages[0..g]);
     Came {
         refusal: take_up_refusal(answer),
         altered: add(
@@ -202,10 +217,10 @@ fn take_up_refusal(answer: TakeUpAnswer) -> u32 {
 }
 
 // How many words are altered, lent or not.
-fn altered(before: Held, after: Held, locks: &[u32], pages: &[u32]) -> u32 {
+fn altered(s: Scene, root: Root, row: &[[u32; 10]], locks: &[u32], pages: &[u32]) -> u32 {
     let held = add(
-        altered_root(before.root, after.root),
-        altered_row(before, after),
+        altered_root(s.root, root),
+        altered_row(row, records::words_of_party(s.record)),
     );
     let lent = add(altered_words(locks), altered_words(pages));
     add(held, lent)
@@ -222,23 +237,19 @@ fn altered_root(before: Root, after: Root) -> u32 {
     )
 }
 
-fn altered_row(before: Held, after: Held) -> u32 {
-    let a = before.row;
-    let b = after.row;
+// Every record was this one before the call.
+fn altered_row(row: &[[u32; 10]], before: [u32; 10]) -> u32 {
     let mut n: u32 = 0;
     let mut i: usize = 0;
-    while i < 16 {
-        n = add(n, altered_party(a[i], b[i]));
+    while i < row.len() {
+        n = add(n, altered_record(row[i], before));
         i += 1;
     }
     n
 }
 
-fn altered_party(before: Party, after: Party) -> u32 {
-    differing(
-        &records::words_of_party(before),
-        &records::words_of_party(after),
-    )
+fn altered_record(after: [u32; 10], before: [u32; 10]) -> u32 {
+    differing(&after, &before)
 }
 
 // How many words of two rows differ.

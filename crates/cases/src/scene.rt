@@ -1,8 +1,7 @@
-// The memory that a case lends, held by value.
+// The memory that a case lends.
 // Main functions: sound (memory of given sizes, on which the call can be made), meeting (memory in which two given
 // causes of refusal are met).
 
-use held::Held;
 use model::FileSizes;
 use model::Party;
 use model::Root;
@@ -15,10 +14,11 @@ pub enum Call {
     TakeUp,
 }
 
-// What a call is lent, and for whom: the root record, whose sizes format is given, the first Q records of the row,
-// and so many words. Where the records rest, take-up is lent zero ones.
+// What a call is lent, and for whom: the root record, whose sizes format is given, the first Q records of a row in
+// which every record is this one, and so many words. Where the records rest, take-up is lent zero ones.
 pub struct Scene {
-    pub held: Held,
+    pub root: Root,
+    pub record: Party,
     pub lock_words: usize,
     pub page_words: usize,
     pub party: u32,
@@ -88,18 +88,13 @@ fn operation_for(call: Call) -> u32 {
     }
 }
 
-// Every record of the row is this one, also those past Q.
-fn held_with(root: Root, p: Party) -> Held {
-    let row = [p; 16];
-    Held { root, row }
-}
-
 // Memory of the lengths that these sizes ask for, on which every party can make the call.
 pub fn sound(call: Call, z: FileSizes, party: u32) -> Scene {
-    let p = about_to(operation_for(call), FIRST, model::NO_ANSWER);
-    let held = held_with(root_of(z, 0), p);
+    let record = about_to(operation_for(call), FIRST, model::NO_ANSWER);
+    let root = root_of(z, 0);
     Scene {
-        held,
+        root,
+        record,
         lock_words: z.primaries as usize + 1,
         page_words: 16 * (z.primaries as usize + z.overflow as usize + z.parties as usize),
         party,
@@ -131,12 +126,11 @@ pub fn meeting(call: Call, earlier: u32, later: u32) -> Scene {
     let operation = pick(earlier, later, 5, model::IDLE, busy);
     let step = pick(earlier, later, 7, DECIDED, FIRST);
     let answer = pick(earlier, later, 7, model::INSERTED, model::NO_ANSWER);
-    let held = held_with(
-        root_of(sizes(2, capacity, 5, 4, 3), free),
-        about_to(operation, step, answer),
-    );
+    let root = root_of(sizes(2, capacity, 5, 4, 3), free);
+    let record = about_to(operation, step, answer);
     Scene {
-        held,
+        root,
+        record,
         lock_words,
         page_words: 192,
         party,

@@ -1,4 +1,5 @@
-// The file as a program without a heap holds it, by value: the root record and a row of sixteen party records.
+// The file as a program without a heap holds it: the root record by value, and a row of party records, ten words each
+// in the order of document 01, that is lent beside the lock words and the page words.
 // The calls of `calls` are handed the root, the party's record, which is one of the first Q of the row, and the words
 // that the caller lends; what comes back is written where it stood, and the records past Q stay.
 // Main statements: each call answers, and leaves in all that is held and in every lent word, what the model's
@@ -7,16 +8,16 @@
 
 ghost use mathlib.Core.Path.{_≡_};
 ghost use mathlib.Core.List.{_++_};
-ghost use Prim.Native.Nat.{_≤_};
-ghost use lib.ListN.{take, drop, replicate};
+ghost use Prim.Native.Nat.{_≤_, min};
+ghost use lib.ListN.{length, take, drop, replicate};
 ghost use Rattle.model.specs.Records.{idle};
 ghost use Rattle.model.specs.Calls.{called};
 ghost use Rattle.model.specs.TakeUp.{allIdle};
-ghost use Rattle.held.specs.Held.{recordsLent, memoryOf, heldFormat, heldBegin, heldStep, heldWithdraw, heldTakeUp};
+ghost use Rattle.records.specs.Words.{partyIn};
+ghost use Rattle.held.specs.Held.{recordsIn, heldIn, heldFormat, heldBegin, heldStep, heldWithdraw, heldTakeUp};
 use model::BeginAnswer;
 use model::FileSizes;
 use model::FormatAnswer;
-use model::MOST_PARTIES;
 use model::Operation;
 use model::Party;
 use model::Root;
@@ -24,175 +25,184 @@ use model::StepAnswer;
 use model::TakeUpAnswer;
 use model::WithdrawAnswer;
 
-// The root record, and a row with room for the records of the most parties there may be.
-pub struct Held {
-    pub root: Root,
-    pub row: [Party; 16],
-}
-
-// What is held after a format, and its answer; and so of the other calls.
+// What a format leaves of the root record, and its answer; and so of the calls that can alter the root.
 pub struct HeldFormat {
-    pub held: Held,
+    pub root: Root,
     pub answer: FormatAnswer,
 }
 
-pub struct HeldBegin {
-    pub held: Held,
-    pub answer: BeginAnswer,
-}
-
 pub struct HeldStep {
-    pub held: Held,
+    pub root: Root,
     pub answer: StepAnswer,
 }
 
 pub struct HeldWithdraw {
-    pub held: Held,
+    pub root: Root,
     pub answer: WithdrawAnswer,
 }
 
-// How many records of the row are lent for so many parties.
-fn records_lent(parties: u32) -> usize
-    ensures { λ r. ⌜ (r ≡ recordsLent parties) × (r ≤ 16) ⌝ }
+// How many records of a row are lent for so many parties.
+fn records_lent(parties: u32, there: usize) -> usize
+    ensures { λ r. ⌜ (r ≡ min parties there) × (r ≤ there) ⌝ }
 {
-    if parties <= MOST_PARTIES {
-        return parties as usize;
+    let asked = parties as usize;
+    if asked <= there {
+        return asked;
     }
-    16
+    there
 }
 
-// The row with its first n records zero.
-fn cleared(row: [Party; 16], n: usize) -> [Party; 16]
-    requires { ⌜ n ≤ 16 ⌝ }
-    ensures { λ r. ⌜ r ≡ replicate n idle ++ drop n row ⌝ }
+// The record that ten words make.
+fn record_in(w: [u32; 10]) -> Party
+    ensures { λ r. ⌜ r ≡ partyIn w ⌝ }
 {
-    let mut row = row;
-    let zero = records::idle();
+    Party {
+        operation: w[0],
+        key: w[1],
+        step: w[2],
+        lev: w[3],
+        chain: w[4],
+        other: w[5],
+        old: w[6],
+        owed: w[7],
+        answer: w[8],
+        setting: w[9],
+    }
+}
+
+// The first n records of the row become zero.
+fn clear(row: &mut [[u32; 10]], n: usize)
+    requires { ⌜ n ≤ length (now row) ⌝ }
+    ensures { λ _. ⌜ recordsIn (now (row .exit)) ≡ replicate n idle ++ drop n (recordsIn (now (row .entry))) ⌝ }
+{
+    let zero = [0; 10];
     let mut i = 0;
     while i < n {
         row[i] = zero;
         i += 1;
     }
-    row
 }
 
 // Format with these sizes, N b P V Q.
-pub fn format(held: Held, locks: &mut [u32], pages: &mut [u32], sizes: FileSizes) -> HeldFormat
-    ensures { λ r. ⌜ called (r .answer) (memoryOf (r .held) (now (locks .exit)) (now (pages .exit))) ≡ heldFormat (memoryOf held (now (locks .entry)) (now (pages .entry))) sizes ⌝ }
+pub fn format(
+    root: Root,
+    row: &mut [[u32; 10]],
+    locks: &mut [u32],
+    pages: &mut [u32],
+    sizes: FileSizes,
+) -> HeldFormat
+    ensures { λ r. ⌜ called (r .answer) (heldIn (r .root) (now (row .exit)) (now (locks .exit)) (now (pages .exit))) ≡ heldFormat (heldIn root (now (row .entry)) (now (locks .entry)) (now (pages .entry))) sizes ⌝ }
 {
-    let former = held.root;
-    let mut row = held.row;
-    let n = records_lent(sizes.parties);
-    let made = calls::format(former, sizes, n, locks, pages);
-    let root = made.root;
+    let n = records_lent(sizes.parties, row.len());
+    let made = calls::format(root, sizes, n, locks, pages);
+    let after = made.root;
     let answer = made.answer;
     match answer {
         FormatAnswer::Formatted => {
-            let zero = cleared(row, n);
-            row = zero;
+            clear(row, n);
+            HeldFormat {
+                root: after,
+                answer,
+            }
         }
-        FormatAnswer::Refused(_) => {}
-    }
-    HeldFormat {
-        held: Held { root, row },
-        answer,
+        FormatAnswer::Refused(_) => HeldFormat {
+            root: after,
+            answer,
+        },
     }
 }
 
 // Begin an operation for party q.
 pub fn begin(
-    held: Held,
+    root: Root,
+    row: &mut [[u32; 10]],
     locks: &[u32],
     pages: &[u32],
     q: u32,
     operation: Operation,
     key: u32,
-) -> HeldBegin
-    ensures { λ r. ⌜ called (r .answer) (memoryOf (r .held) (now (locks .entry)) (now (pages .entry))) ≡ heldBegin (memoryOf held (now (locks .entry)) (now (pages .entry))) q operation key ⌝ }
+) -> BeginAnswer
+    ensures { λ r. ⌜ called r (heldIn root (now (row .exit)) (now (locks .entry)) (now (pages .entry))) ≡ heldBegin (heldIn root (now (row .entry)) (now (locks .entry)) (now (pages .entry))) q operation key ⌝ }
 {
-    let root = held.root;
-    let mut row = held.row;
-    let n = records_lent(root.parties);
+    let n = records_lent(root.parties, row.len());
     let at = q as usize;
-    let answer: BeginAnswer;
     if at < n {
-        let former = row[at];
+        let former = record_in(row[at]);
         let begun = calls::begin(root, former, n, locks.len(), pages.len(), q, operation, key);
-        let party = begun.party;
-        answer = begun.answer;
-        row[at] = party;
-    } else {
-        let zero = records::idle();
-        let refused = calls::begin(root, zero, n, locks.len(), pages.len(), q, operation, key);
-        answer = refused.answer;
+        let words = records::words_of_party(begun.party);
+        row[at] = words;
+        return begun.answer;
     }
-    HeldBegin {
-        held: Held { root, row },
-        answer,
-    }
+    let zero = records::idle();
+    let refused = calls::begin(root, zero, n, locks.len(), pages.len(), q, operation, key);
+    refused.answer
 }
 
 // One step for party q.
-pub fn step(held: Held, locks: &mut [u32], pages: &mut [u32], q: u32) -> HeldStep
-    ensures { λ r. ⌜ called (r .answer) (memoryOf (r .held) (now (locks .exit)) (now (pages .exit))) ≡ heldStep (memoryOf held (now (locks .entry)) (now (pages .entry))) q ⌝ }
+pub fn step(
+    root: Root,
+    row: &mut [[u32; 10]],
+    locks: &mut [u32],
+    pages: &mut [u32],
+    q: u32,
+) -> HeldStep
+    ensures { λ r. ⌜ called (r .answer) (heldIn (r .root) (now (row .exit)) (now (locks .exit)) (now (pages .exit))) ≡ heldStep (heldIn root (now (row .entry)) (now (locks .entry)) (now (pages .entry))) q ⌝ }
 {
-    let former = held.root;
-    let mut root = former;
-    let mut row = held.row;
-    let n = records_lent(former.parties);
+    let n = records_lent(root.parties, row.len());
     let at = q as usize;
-    let answer: StepAnswer;
     if at < n {
-        let stands = row[at];
-        let stepped = calls::step(former, stands, n, q, locks, pages);
-        root = stepped.root;
-        let party = stepped.party;
-        answer = stepped.answer;
-        row[at] = party;
-    } else {
-        answer = calls::step_past(former, n, locks.len(), pages.len(), q);
+        let stands = record_in(row[at]);
+        let stepped = calls::step(root, stands, n, q, locks, pages);
+        let words = records::words_of_party(stepped.party);
+        row[at] = words;
+        let after = stepped.root;
+        let answer = stepped.answer;
+        return HeldStep {
+            root: after,
+            answer,
+        };
     }
-    HeldStep {
-        held: Held { root, row },
-        answer,
-    }
+    let answer = calls::step_past(root, n, locks.len(), pages.len(), q);
+    HeldStep { root, answer }
 }
 
 // Withdraw for party q.
-pub fn withdraw(held: Held, locks: &mut [u32], pages: &mut [u32], q: u32) -> HeldWithdraw
-    ensures { λ r. ⌜ called (r .answer) (memoryOf (r .held) (now (locks .exit)) (now (pages .exit))) ≡ heldWithdraw (memoryOf held (now (locks .entry)) (now (pages .entry))) q ⌝ }
+pub fn withdraw(
+    root: Root,
+    row: &mut [[u32; 10]],
+    locks: &mut [u32],
+    pages: &mut [u32],
+    q: u32,
+) -> HeldWithdraw
+    ensures { λ r. ⌜ called (r .answer) (heldIn (r .root) (now (row .exit)) (now (locks .exit)) (now (pages .exit))) ≡ heldWithdraw (heldIn root (now (row .entry)) (now (locks .entry)) (now (pages .entry))) q ⌝ }
 {
-    let former = held.root;
-    let mut root = former;
-    let mut row = held.row;
-    let n = records_lent(former.parties);
+    let n = records_lent(root.parties, row.len());
     let at = q as usize;
-    let answer: WithdrawAnswer;
     if at < n {
-        let stands = row[at];
-        let withdrawn = calls::withdraw(former, stands, n, q, locks, pages);
-        root = withdrawn.root;
-        let party = withdrawn.party;
-        answer = withdrawn.answer;
-        row[at] = party;
-    } else {
-        answer = calls::withdraw_past(former, n, locks.len(), pages.len(), q);
+        let stands = record_in(row[at]);
+        let withdrawn = calls::withdraw(root, stands, n, q, locks, pages);
+        let words = records::words_of_party(withdrawn.party);
+        row[at] = words;
+        let after = withdrawn.root;
+        let answer = withdrawn.answer;
+        return HeldWithdraw {
+            root: after,
+            answer,
+        };
     }
-    HeldWithdraw {
-        held: Held { root, row },
-        answer,
-    }
+    let answer = calls::withdraw_past(root, n, locks.len(), pages.len(), q);
+    HeldWithdraw { root, answer }
 }
 
 // Whether the first n records of the row are zero.
-fn all_idle(row: [Party; 16], n: usize) -> bool
-    requires { ⌜ n ≤ 16 ⌝ }
-    ensures { λ r. ⌜ r ≡ allIdle (take n row) ⌝ }
+fn all_idle(row: &[[u32; 10]], n: usize) -> bool
+    requires { ⌜ n ≤ length (now row) ⌝ }
+    ensures { λ r. ⌜ r ≡ allIdle (take n (recordsIn (now (row .entry)))) ⌝ }
 {
     let mut idle = true;
     let mut i = 0;
     while i < n {
-        let party = row[i];
+        let party = record_in(row[i]);
         let zero = records::is_zero(party);
         idle = idle & zero;
         i += 1;
@@ -201,12 +211,10 @@ fn all_idle(row: [Party; 16], n: usize) -> bool
 }
 
 // Take the file up: it is tested, and nothing is altered.
-pub fn take_up(held: Held, locks: &[u32], pages: &[u32]) -> TakeUpAnswer
-    ensures { λ r. ⌜ called r (memoryOf held (now (locks .entry)) (now (pages .entry))) ≡ heldTakeUp (memoryOf held (now (locks .entry)) (now (pages .entry))) ⌝ }
+pub fn take_up(root: Root, row: &[[u32; 10]], locks: &[u32], pages: &[u32]) -> TakeUpAnswer
+    ensures { λ r. ⌜ called r (heldIn root (now (row .entry)) (now (locks .entry)) (now (pages .entry))) ≡ heldTakeUp (heldIn root (now (row .entry)) (now (locks .entry)) (now (pages .entry))) ⌝ }
 {
-    let root = held.root;
-    let row = held.row;
-    let n = records_lent(root.parties);
+    let n = records_lent(root.parties, row.len());
     let idle = all_idle(row, n);
     calls::take_up(root, idle, n, locks, pages)
 }

@@ -4,7 +4,6 @@ use mathlib.Core.Path.{_≡_, refl, sym, _∙_, ap, subst}
 use mathlib.Core.Bool.{true}
 use mathlib.Core.List.{List, [], _∷_, _++_, map}
 use Prim.Native.Nat.{ℕ, _≤_}
-use native.Mathlib.Nat.{min-eq-left}
 use native.Mathlib.Omega.{arith}
 use lib.ListN.{length, take, drop}
 use lib.Seq.{take-at, length-take-le}
@@ -25,7 +24,7 @@ use Rattle.model.proofs.Theorems.RefusalOrder.{format-order}
 use Rattle.theory.specs.Demands.{Sizes, sizesGiven}
 use Rattle.model.proofs.Invariant.Start.{start-inv}
 use Rattle.calls.specs.Lent.{lent}
-use Rattle.held.specs.Held.{recordsLent, firstOf}
+use Rattle.held.specs.Held.{firstOf}
 use Rattle.forms.specs.declared.Form.{Form}
 use Rattle.forms.specs.declared.Form.the-variants as Form
 use Rattle.forms.specs.declared.Reply.{Reply}
@@ -36,8 +35,7 @@ use Rattle.lines.specs.Schedules.{fileIn, formsAnswered, fileSizes, form
 -- A memory with other records and words behind it is the file in both together.
 file-in : (m : Memory) (b : Book) → Inv m b → (xs : List Party) (ls gs : List ℕ) → fileIn (lent (m .root) (m .parties ++ xs) (m .locks ++ ls) (m .pages ++ gs)) ≡ m
 file-in m b i xs ls gs =
-    let few : recordsLent (m .root .parties) ≡ m .root .parties = min-eq-left {m = 16} (i .limits .parties-fit) in
-    ap (λ (ps : List Party). lent (m .root) ps (take (lockWords (m .root)) (m .locks ++ ls)) (take (allPageWords (m .root)) (m .pages ++ gs))) (take-at (m .parties) xs (recordsLent (m .root .parties)) (i .parties-many ∙ sym few))
+    ap (λ (ps : List Party). lent (m .root) ps (take (lockWords (m .root)) (m .locks ++ ls)) (take (allPageWords (m .root)) (m .pages ++ gs))) (take-at (m .parties) xs (m .root .parties) (i .parties-many))
     ∙ ap (λ (us : List ℕ). lent (m .root) (m .parties) us (take (allPageWords (m .root)) (m .pages ++ gs))) (take-at (m .locks) ls (lockWords (m .root)) (i .locks-ok .as-many))
     ∙ ap (λ (us : List ℕ). lent (m .root) (m .parties) (m .locks) us) (take-at (m .pages) gs (allPageWords (m .root)) (i .pages-many))
 
@@ -52,20 +50,17 @@ pub format-starts : (s : Sizes) (m : Memory) → length (m .parties) ≡ 16 → 
 unfolding performed lengthsFit formatted formattedRoot
 format-starts s m records locks pages = (ap (λ (c : Called FormatAnswer). Reply.Format (c .answer)) made, ap (λ (c : Called FormatAnswer). fileIn (behind (c .memory))) made ∙ file-in (formatted (sizesGiven s)) emptyBook (formatted-inv s) _ _ _)
   where
-    few : recordsLent (s .parties) ≡ s .parties
-    few = min-eq-left {m = 16} (formatted-inv s .limits .parties-fit)
-
     given : Memory
-    given = firstOf (recordsLent (s .parties)) (wordsFor (sizesGiven s) m)
+    given = firstOf (s .parties) (wordsFor (sizesGiven s) m)
 
     behind : Memory → Memory
     behind x =
-        lent (x .root) (x .parties ++ drop (recordsLent (s .parties)) (m .parties)) (x .locks ++ drop (lockWords (sizesGiven s)) (m .locks)) (x .pages ++ drop (allPageWords (sizesGiven s)) (m .pages))
+        lent (x .root) (x .parties ++ drop (s .parties) (m .parties)) (x .locks ++ drop (lockWords (sizesGiven s)) (m .locks)) (x .pages ++ drop (allPageWords (sizesGiven s)) (m .pages))
 
     fits : lengthsFit (sizesGiven s) given ≡ true
     fits =
         rw (
-          eqb-same (length (given .parties)) (s .parties) (ap (λ (n : ℕ). length (take n (m .parties))) few ∙ length-take-le (s .parties) (m .parties) (rw records (formatted-inv s .limits .parties-fit))),
+          eqb-same (length (given .parties)) (s .parties) (length-take-le (s .parties) (m .parties) (rw records (formatted-inv s .limits .parties-fit))),
           eqb-same (length (given .locks)) (lockWords (sizesGiven s)) (length-take-le (lockWords (sizesGiven s)) (m .locks) locks),
           eqb-same (length (given .pages)) (allPageWords (sizesGiven s)) (length-take-le (allPageWords (sizesGiven s)) (m .pages) pages),
         ) refl

@@ -18,7 +18,6 @@ use Rattle.theory.proofs.Reached.{started-inv}
 use Rattle.model.proofs.Theorems.RefusalOrder.{take-up-order}
 use Rattle.theory.proofs.TakenUp.{taken-start}
 use Rattle.calls.specs.Lent.{lent}
-use Rattle.held.specs.Held.{recordsLent}
 use Rattle.forms.specs.declared.Form.{Form}
 use Rattle.forms.specs.declared.Form.the-variants as Form
 use Rattle.forms.specs.declared.Reply.{Reply}
@@ -33,7 +32,7 @@ use Rattle.lines.proofs.Schedules.{calls-printed}
 pub take-up-kept : (m : Memory) → performed Form.TakeUp m .memory ≡ m
 unfolding performed takeUpCall
 take-up-kept m =
-    λ i. lent (m .root) (take-append-drop (recordsLent (m .root .parties)) (m .parties) i) (take-append-drop (lockWords (m .root)) (m .locks) i) (take-append-drop (allPageWords (m .root)) (m .pages) i)
+    λ i. lent (m .root) (take-append-drop (m .root .parties) (m .parties) i) (take-append-drop (lockWords (m .root)) (m .locks) i) (take-append-drop (allPageWords (m .root)) (m .pages) i)
 
 -- The answer is the one that take-up gives for the file held.
 answered : (m : Memory) → performed Form.TakeUp m .answer ≡ Reply.TakeUp (takeUpCall (fileIn m) .answer)

@@ -3,33 +3,16 @@
 use mathlib.Core.Path.{_≡_, sym, _∙_, ap}
 use mathlib.Core.List.{List, _++_}
 use Prim.Native.Nat.{ℕ, min}
-use native.Mathlib.Nat.{min-eq-left, min-eq-right}
-use native.Mathlib.Omega.{arith}
-use lib.ListN.{length, take, drop, take-append-drop, drop-of-length-le}
-use lib.Seq.{take-all, take-length, drop-length}
+use lib.ListN.{length, take, drop, take-append-drop}
 use Rattle.model.specs.declared.Root.{Root}
 use Rattle.model.specs.declared.Party.{Party}
 use Rattle.model.specs.Sizes.{lockWords, allPageWords}
 use Rattle.model.specs.Memory.{Memory}
 use Rattle.model.specs.Calls.{Called, called}
-use Rattle.model.proofs.Laws.Lists.{Ord, lt, ge, ord}
 use Rattle.calls.specs.Lent.{lent}
+use Rattle.held.proofs.Ends.{first-of, rest-of}
 use Rattle.forms.specs.declared.Reply.{Reply}
 use Rattle.lines.specs.Lines.{withWords}
-
-first-words : (n k : ℕ) (xs : List ℕ) → k ≡ min n (length xs) → take k xs ≡ take n xs
-first-words n k xs e = ap (λ (j : ℕ). take j xs) e ∙ go (ord n (length xs))
-  where
-    go : Ord n (length xs) → take (min n (length xs)) xs ≡ take n xs
-    go (lt h t) = ap (λ (j : ℕ). take j xs) (min-eq-left {m = length xs} (omega (arith, h)))
-    go (ge h t) = ap (λ (j : ℕ). take j xs) (min-eq-right {m = n} h) ∙ take-length xs ∙ sym (take-all n xs h)
-
-other-words : (n k : ℕ) (xs : List ℕ) → k ≡ min n (length xs) → drop k xs ≡ drop n xs
-other-words n k xs e = ap (λ (j : ℕ). drop j xs) e ∙ go (ord n (length xs))
-  where
-    go : Ord n (length xs) → drop (min n (length xs)) xs ≡ drop n xs
-    go (lt h t) = ap (λ (j : ℕ). drop j xs) (min-eq-left {m = length xs} (omega (arith, h)))
-    go (ge h t) = ap (λ (j : ℕ). drop j xs) (min-eq-right {m = n} h) ∙ drop-length xs ∙ sym (drop-of-length-le xs h)
 
 -- What a call left, its answer made a reply and these words put after those it was lent.
 abbrev before : {A : Type 0} → (A → Reply) → List ℕ → List ℕ → Called A → Called Reply
@@ -42,10 +25,10 @@ pub words-left : {A : Type 0} (r : Root) (call : List ℕ → List ℕ → Calle
     → called (f a) (lent x row (ls ++ drop l (m .locks)) (gs ++ drop g (m .pages))) ≡ withWords r m f (call (take (lockWords r) (m .locks)) (take (allPageWords r) (m .pages)))
 words-left {A} r call f m l g el eg a x row ls gs said =
     ap (before f (drop l (m .locks)) (drop g (m .pages))) said
-    ∙ ap (λ (us : List ℕ). before f us (drop g (m .pages)) (call (take l (m .locks)) (take g (m .pages)))) (other-words (lockWords r) l (m .locks) el)
-    ∙ ap (λ (us : List ℕ). before f (drop (lockWords r) (m .locks)) us (call (take l (m .locks)) (take g (m .pages)))) (other-words (allPageWords r) g (m .pages) eg)
-    ∙ ap (λ (us : List ℕ). before f (drop (lockWords r) (m .locks)) (drop (allPageWords r) (m .pages)) (call us (take g (m .pages)))) (first-words (lockWords r) l (m .locks) el)
-    ∙ ap (λ (us : List ℕ). before f (drop (lockWords r) (m .locks)) (drop (allPageWords r) (m .pages)) (call (take (lockWords r) (m .locks)) us)) (first-words (allPageWords r) g (m .pages) eg)
+    ∙ ap (λ (us : List ℕ). before f us (drop g (m .pages)) (call (take l (m .locks)) (take g (m .pages)))) (rest-of (lockWords r) l (m .locks) el)
+    ∙ ap (λ (us : List ℕ). before f (drop (lockWords r) (m .locks)) us (call (take l (m .locks)) (take g (m .pages)))) (rest-of (allPageWords r) g (m .pages) eg)
+    ∙ ap (λ (us : List ℕ). before f (drop (lockWords r) (m .locks)) (drop (allPageWords r) (m .pages)) (call us (take g (m .pages)))) (first-of (lockWords r) l (m .locks) el)
+    ∙ ap (λ (us : List ℕ). before f (drop (lockWords r) (m .locks)) (drop (allPageWords r) (m .pages)) (call (take (lockWords r) (m .locks)) us)) (first-of (allPageWords r) g (m .pages) eg)
 
 pub words-kept : {A : Type 0} (r : Root) (call : List ℕ → List ℕ → Called A) (f : A → Reply) (m : Memory) (l g : ℕ)
     → l ≡ min (lockWords r) (length (m .locks)) → g ≡ min (allPageWords r) (length (m .pages))

@@ -8,7 +8,7 @@ use Rattle.model.specs.Calls.{Called, called}
 use Rattle.model.specs.Runs.{Call, beginFor, stepFor, withdrawFor, callerOf, toBegin, toStep, toWithdraw, Event}
 use Rattle.model.specs.Runs as Runs
 use Rattle.theory.specs.Demands.{Sizes}
-use Rattle.held.specs.Held.{recordsLent, firstOf}
+use Rattle.held.specs.Held.{firstOf}
 use Rattle.forms.specs.declared.Form.{Form}
 use Rattle.forms.specs.declared.Form.the-variants as Form
 use Rattle.forms.specs.declared.Reply.{Reply}
@@ -17,7 +17,7 @@ use Rattle.lines.specs.Lines.{wordsFor, performed}
 
 -- The root record, and of the records and words held as many as its sizes ask for.
 abbrev pub fileIn : Memory → Memory
-fileIn m = firstOf (recordsLent (m .root .parties)) (wordsFor (m .root) m)
+fileIn m = firstOf (m .root .parties) (wordsFor (m .root) m)
 
 -- The replies to a list of forms, and the memory after it.
 unfoldable pub formsAnswered : List Form → Memory → Called (List Reply)

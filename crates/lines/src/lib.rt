@@ -1,6 +1,6 @@
-// A line of turns answered (document 01, "The turns program"): the form is read, its call is performed on the file
-// that is held and on words that are lent, and the reply is printed. Each call is lent the first lock words and page
-// words that the sizes ask for: those given for a format, else those of the root record.
+// A line of turns answered (document 01, "The turns program"): the form is read, its call is performed on the root
+// record and on records and words that are lent, and the reply is printed. Each call is lent the first lock words and
+// page words that the sizes ask for: those given for a format, else those of the root record.
 // Main statements: answer leaves the memory, and prints the reply, that lineAnswered says of the line and of all
 // memory (specs/Lines.antt); there is nothing that a caller must see to.
 
@@ -10,7 +10,7 @@ ghost use mathlib.Core.List.{List, [], _++_};
 ghost use lib.ListN.{length, take, drop};
 ghost use lib.Seq.{sets};
 ghost use Rattle.model.specs.Calls.{called};
-ghost use Rattle.held.specs.Held.{memoryOf};
+ghost use Rattle.held.specs.Held.{heldIn};
 ghost use Rattle.forms.specs.declared.Form.the-variants as Form;
 ghost use Rattle.forms.specs.Replies.{replyText};
 ghost use Rattle.forms.specs.Printing.{longestReply, given};
@@ -20,20 +20,20 @@ use forms::Form;
 use forms::FormRead;
 use forms::LONGEST_REPLY;
 use forms::Reply;
-use held::Held;
 use model::FileSizes;
 use model::Operation;
 use model::PAGE_WORDS;
+use model::Root;
 
-// What is held after a line, and the place behind what was printed.
+// The root record after a line, and the place behind what was printed.
 pub struct Answered {
-    pub held: Held,
+    pub root: Root,
     pub end: usize,
 }
 
-// What is held after a call, and the reply to its form.
+// The root record after a call, and the reply to its form.
 struct Performed {
-    held: Held,
+    root: Root,
     reply: Reply,
 }
 
@@ -62,19 +62,25 @@ fn page_words(primaries: u32, overflow: u32, parties: u32) -> usize
 }
 
 // A format.
-fn format(sizes: FileSizes, held: Held, locks: &mut [u32], pages: &mut [u32]) -> Performed
-    ensures { λ r. ⌜ called (r .reply) (memoryOf (r .held) (now (locks .exit)) (now (pages .exit))) ≡ performed (Form.Format sizes) (memoryOf held (now (locks .entry)) (now (pages .entry))) ⌝ }
+fn format(
+    sizes: FileSizes,
+    root: Root,
+    row: &mut [[u32; 10]],
+    locks: &mut [u32],
+    pages: &mut [u32],
+) -> Performed
+    ensures { λ r. ⌜ called (r .reply) (heldIn (r .root) (now (row .exit)) (now (locks .exit)) (now (pages .exit))) ≡ performed (Form.Format sizes) (heldIn root (now (row .entry)) (now (locks .entry)) (now (pages .entry))) ⌝ }
 {
     let l = words_lent(lock_words(sizes.primaries), locks.len());
     let g = words_lent(
         page_words(sizes.primaries, sizes.overflow, sizes.parties),
         pages.len(),
     );
-    let c = held::format(held, &mut locks[0..l], &mut pages[0..g], sizes);
-    let after = c.held;
+    let c = held::format(root, row, &mut locks[0..l], &mut pages[0..g], sizes);
+    let after = c.root;
     let answer = c.answer;
     Performed {
-        held: after,
+        root: after,
         reply: Reply::Format(answer),
     }
 }
@@ -84,106 +90,125 @@ fn begin(
     q: u32,
     operation: Operation,
     key: u32,
-    held: Held,
+    root: Root,
+    row: &mut [[u32; 10]],
     locks: &[u32],
     pages: &[u32],
 ) -> Performed
-    ensures { λ r. ⌜ called (r .reply) (memoryOf (r .held) (now (locks .entry)) (now (pages .entry))) ≡ performed (Form.Begin q operation key) (memoryOf held (now (locks .entry)) (now (pages .entry))) ⌝ }
+    ensures { λ r. ⌜ called (r .reply) (heldIn (r .root) (now (row .exit)) (now (locks .entry)) (now (pages .entry))) ≡ performed (Form.Begin q operation key) (heldIn root (now (row .entry)) (now (locks .entry)) (now (pages .entry))) ⌝ }
 {
-    let root = held.root;
     let l = words_lent(lock_words(root.primaries), locks.len());
     let g = words_lent(
         page_words(root.primaries, root.overflow, root.parties),
         pages.len(),
     );
-    let c = held::begin(held, &locks[0..l], &pages[0..g], q, operation, key);
-    let after = c.held;
-    let answer = c.answer;
+    let answer = held::begin(root, row, &locks[0..l], &pages[0..g], q, operation, key);
     Performed {
-        held: after,
+        root,
         reply: Reply::Begin(q, answer),
     }
 }
 
 // A step.
-fn step(q: u32, held: Held, locks: &mut [u32], pages: &mut [u32]) -> Performed
-    ensures { λ r. ⌜ called (r .reply) (memoryOf (r .held) (now (locks .exit)) (now (pages .exit))) ≡ performed (Form.Step q) (memoryOf held (now (locks .entry)) (now (pages .entry))) ⌝ }
+fn step(
+    q: u32,
+    root: Root,
+    row: &mut [[u32; 10]],
+    locks: &mut [u32],
+    pages: &mut [u32],
+) -> Performed
+    ensures { λ r. ⌜ called (r .reply) (heldIn (r .root) (now (row .exit)) (now (locks .exit)) (now (pages .exit))) ≡ performed (Form.Step q) (heldIn root (now (row .entry)) (now (locks .entry)) (now (pages .entry))) ⌝ }
 {
-    let root = held.root;
     let l = words_lent(lock_words(root.primaries), locks.len());
     let g = words_lent(
         page_words(root.primaries, root.overflow, root.parties),
         pages.len(),
     );
-    let c = held::step(held, &mut locks[0..l], &mut pages[0..g], q);
-    let after = c.held;
+    let c = held::step(root, row, &mut locks[0..l], &mut pages[0..g], q);
+    let after = c.root;
     let answer = c.answer;
     Performed {
-        held: after,
+        root: after,
         reply: Reply::Step(q, answer),
     }
 }
 
 // A withdraw.
-fn withdraw(q: u32, held: Held, locks: &mut [u32], pages: &mut [u32]) -> Performed
-    ensures { λ r. ⌜ called (r .reply) (memoryOf (r .held) (now (locks .exit)) (now (pages .exit))) ≡ performed (Form.Withdraw q) (memoryOf held (now (locks .entry)) (now (pages .entry))) ⌝ }
+fn withdraw(
+    q: u32,
+    root: Root,
+    row: &mut [[u32; 10]],
+    locks: &mut [u32],
+    pages: &mut [u32],
+) -> Performed
+    ensures { λ r. ⌜ called (r .reply) (heldIn (r .root) (now (row .exit)) (now (locks .exit)) (now (pages .exit))) ≡ performed (Form.Withdraw q) (heldIn root (now (row .entry)) (now (locks .entry)) (now (pages .entry))) ⌝ }
 {
-    let root = held.root;
     let l = words_lent(lock_words(root.primaries), locks.len());
     let g = words_lent(
         page_words(root.primaries, root.overflow, root.parties),
         pages.len(),
     );
-    let c = held::withdraw(held, &mut locks[0..l], &mut pages[0..g], q);
-    let after = c.held;
+    let c = held::withdraw(root, row, &mut locks[0..l], &mut pages[0..g], q);
+    let after = c.root;
     let answer = c.answer;
     Performed {
-        held: after,
+        root: after,
         reply: Reply::Withdraw(q, answer),
     }
 }
 
 // A take-up: nothing is altered.
-fn take_up(held: Held, locks: &[u32], pages: &[u32]) -> Performed
-    ensures { λ r. ⌜ called (r .reply) (memoryOf (r .held) (now (locks .entry)) (now (pages .entry))) ≡ performed Form.TakeUp (memoryOf held (now (locks .entry)) (now (pages .entry))) ⌝ }
+fn take_up(root: Root, row: &[[u32; 10]], locks: &[u32], pages: &[u32]) -> Performed
+    ensures { λ r. ⌜ called (r .reply) (heldIn (r .root) (now (row .entry)) (now (locks .entry)) (now (pages .entry))) ≡ performed Form.TakeUp (heldIn root (now (row .entry)) (now (locks .entry)) (now (pages .entry))) ⌝ }
 {
-    let root = held.root;
     let l = words_lent(lock_words(root.primaries), locks.len());
     let g = words_lent(
         page_words(root.primaries, root.overflow, root.parties),
         pages.len(),
     );
-    let answer = held::take_up(held, &locks[0..l], &pages[0..g]);
+    let answer = held::take_up(root, row, &locks[0..l], &pages[0..g]);
     Performed {
-        held,
+        root,
         reply: Reply::TakeUp(answer),
     }
 }
 
 // The call that a form names.
-fn perform(form: Form, held: Held, locks: &mut [u32], pages: &mut [u32]) -> Performed
-    ensures { λ r. ⌜ called (r .reply) (memoryOf (r .held) (now (locks .exit)) (now (pages .exit))) ≡ performed form (memoryOf held (now (locks .entry)) (now (pages .entry))) ⌝ }
+fn perform(
+    form: Form,
+    root: Root,
+    row: &mut [[u32; 10]],
+    locks: &mut [u32],
+    pages: &mut [u32],
+) -> Performed
+    ensures { λ r. ⌜ called (r .reply) (heldIn (r .root) (now (row .exit)) (now (locks .exit)) (now (pages .exit))) ≡ performed form (heldIn root (now (row .entry)) (now (locks .entry)) (now (pages .entry))) ⌝ }
 {
     match form {
-        Form::Format(sizes) => format(sizes, held, locks, pages),
-        Form::Begin(q, operation, key) => begin(q, operation, key, held, locks, pages),
-        Form::Step(q) => step(q, held, locks, pages),
-        Form::Withdraw(q) => withdraw(q, held, locks, pages),
-        Form::TakeUp => take_up(held, locks, pages),
+        Form::Format(sizes) => format(sizes, root, row, locks, pages),
+        Form::Begin(q, operation, key) => begin(q, operation, key, root, row, locks, pages),
+        Form::Step(q) => step(q, root, row, locks, pages),
+        Form::Withdraw(q) => withdraw(q, root, row, locks, pages),
+        Form::TakeUp => take_up(root, row, locks, pages),
     }
 }
 
 // What a line asks for; a line that is no form alters nothing.
-fn perform_line(line: &[u8], held: Held, locks: &mut [u32], pages: &mut [u32]) -> Performed
-    ensures { λ r. ⌜ called (r .reply) (memoryOf (r .held) (now (locks .exit)) (now (pages .exit))) ≡ lineAnswered (now (line .entry)) (memoryOf held (now (locks .entry)) (now (pages .entry))) ⌝ }
+fn perform_line(
+    line: &[u8],
+    root: Root,
+    row: &mut [[u32; 10]],
+    locks: &mut [u32],
+    pages: &mut [u32],
+) -> Performed
+    ensures { λ r. ⌜ called (r .reply) (heldIn (r .root) (now (row .exit)) (now (locks .exit)) (now (pages .exit))) ≡ lineAnswered (now (line .entry)) (heldIn root (now (row .entry)) (now (locks .entry)) (now (pages .entry))) ⌝ }
 {
     let read = forms::read_form(line);
     match read {
         FormRead::Unread => Performed {
-            held,
+            root,
             reply: Reply::Unread,
         },
-        FormRead::Read(form) => perform(form, held, locks, pages),
+        FormRead::Read(form) => perform(form, root, row, locks, pages),
     }
 }
 
@@ -191,30 +216,31 @@ fn perform_line(line: &[u8], held: Held, locks: &mut [u32], pages: &mut [u32]) -
 // reply.
 pub fn answer(
     line: &[u8],
-    held: Held,
+    root: Root,
+    row: &mut [[u32; 10]],
     locks: &mut [u32],
     pages: &mut [u32],
     out: &mut [u8],
     at: usize,
 ) -> Answered
-    ensures { λ r. ⌜ memoryOf (r .held) (now (locks .exit)) (now (pages .exit)) ≡ lineAnswered (now (line .entry)) (memoryOf held (now (locks .entry)) (now (pages .entry))) .memory ⌝ }
-    ensures { λ _. ⌜ now (out .exit) ≡ sets (now (out .entry)) at (given (length (now (out .entry))) at longestReply (replyText (lineAnswered (now (line .entry)) (memoryOf held (now (locks .entry)) (now (pages .entry))) .answer))) ⌝ }
-    ensures { λ r. ⌜ r .end ≡ at + length (given (length (now (out .entry))) at longestReply (replyText (lineAnswered (now (line .entry)) (memoryOf held (now (locks .entry)) (now (pages .entry))) .answer))) ⌝ }
+    ensures { λ r. ⌜ heldIn (r .root) (now (row .exit)) (now (locks .exit)) (now (pages .exit)) ≡ lineAnswered (now (line .entry)) (heldIn root (now (row .entry)) (now (locks .entry)) (now (pages .entry))) .memory ⌝ }
+    ensures { λ _. ⌜ now (out .exit) ≡ sets (now (out .entry)) at (given (length (now (out .entry))) at longestReply (replyText (lineAnswered (now (line .entry)) (heldIn root (now (row .entry)) (now (locks .entry)) (now (pages .entry))) .answer))) ⌝ }
+    ensures { λ r. ⌜ r .end ≡ at + length (given (length (now (out .entry))) at longestReply (replyText (lineAnswered (now (line .entry)) (heldIn root (now (row .entry)) (now (locks .entry)) (now (pages .entry))) .answer))) ⌝ }
 {
-    let p = perform_line(line, held, locks, pages);
-    let after = p.held;
+    let p = perform_line(line, root, row, locks, pages);
+    let after = p.root;
     let reply = p.reply;
     let end = forms::print_reply(reply, out, at);
-    Answered { held: after, end }
+    Answered { root: after, end }
 }
 
 // ---- Every line of a text
 
 const NEWLINE: u8 = b'\n';
 
-// What is held after the lines answered, where the first line not answered begins, and the place behind the replies.
+// The root record after the lines answered, where the first line not answered begins, and the place behind the replies.
 pub struct Lines {
-    pub held: Held,
+    pub root: Root,
     pub from: usize,
     pub end: usize,
 }
@@ -238,31 +264,31 @@ fn line_end(text: &[u8], from: usize) -> usize
 // for one more.
 pub fn answer_lines(
     text: &[u8],
-    held: Held,
+    root: Root,
+    row: &mut [[u32; 10]],
     locks: &mut [u32],
     pages: &mut [u32],
     out: &mut [u8],
 ) -> Lines
     ensures { λ r. ⌜ (r .from ≤ length (now (text .entry))) × (r .end ≤ length (now (out .exit))) ⌝ }
-    ensures { λ r. ⌜ ((t : List ℕ) → textAnswered [] (now (text .entry) ++ t) (memoryOf held (now (locks .entry)) (now (pages .entry))) ≡ printedBefore (take (r .end) (now (out .exit))) (textAnswered [] (drop (r .from) (now (text .entry)) ++ t) (memoryOf (r .held) (now (locks .exit)) (now (pages .exit))))) ⌝ }
+    ensures { λ r. ⌜ ((t : List ℕ) → textAnswered [] (now (text .entry) ++ t) (heldIn root (now (row .entry)) (now (locks .entry)) (now (pages .entry))) ≡ printedBefore (take (r .end) (now (out .exit))) (textAnswered [] (drop (r .from) (now (text .entry)) ++ t) (heldIn (r .root) (now (row .exit)) (now (locks .exit)) (now (pages .exit))))) ⌝ }
     ensures { λ r. ⌜ (r .from ≡ 0 → 58 ≤ length (now (out .entry)) → lineLength (now (text .entry)) ≡ length (now (text .entry))) ⌝ }
 {
-    let mut held = held;
+    let mut root = root;
     let mut from = 0;
     let mut end = 0;
     let mut to = line_end(text, 0);
     while to < text.len() {
         if out.len() - end < LONGEST_REPLY + 1 {
-            return Lines { held, from, end };
+            return Lines { root, from, end };
         }
-        let a = answer(&text[from..to], held, locks, pages, out, end);
-        let after = a.held;
+        let a = answer(&text[from..to], root, row, locks, pages, out, end);
         let e = a.end;
-        held = after;
+        root = a.root;
         out[e] = NEWLINE;
         end = e + 1;
         from = to + 1;
         to = line_end(text, from);
     }
-    Lines { held, from, end }
+    Lines { root, from, end }
 }

@@ -1,57 +1,64 @@
-// The program turns (document 01, "The turns program"): one form a line on standard input, one reply a line on standard output.
-// Input is read by blocks, and the replies to a block's lines are written before the next read, so each answer is seen at once. A line may be of any length.
-// Main statements: every function is safe and ends. What is printed for a text of lines is the contract of `lines::answer_lines`; what is read and written no contract can say.
+// The program turns (document 01, "The turns program"): one form a line on standard input, one reply a line on
+// standard output.
+// Input is read by blocks, and the replies to a block's lines are written before the next read, so each answer is seen
+// at once. A line may be of any length.
+// Main statements: `turn`, which reads and answers, leaves in the output buffer what the definition prints for the text
+// that stood unanswered and the bytes read, and in memory and in the input buffer what answers all that follows as the
+// definition does, whatever the blocks were (specs/Turned.antt). `run` hands to `write` the replies of each turn. Every
+// function is safe and ends; what is read and written no contract can say.
 
-ghost use Prim.Native.Nat.{_≤_, _<_};
-ghost use lib.ListN.{length};
+ghost use mathlib.Core.Path.{_≡_};
+ghost use mathlib.Core.Bool.{true, false};
+ghost use mathlib.Core.List.{_++_};
+ghost use Prim.Native.Nat.{_+_, _-_, _≤_, _<_, min};
+ghost use lib.ListN.{length, take, drop};
+ghost use Rattle.held.specs.Held.{heldIn};
+ghost use Rattle.lines.specs.Texts.{lineLength};
+ghost use Rattle.turns.specs.Turned.{part, AnsweredTo, mostKept};
 use forms::LONGEST_FORM;
-use held::Held;
 use libc::STDERR_FILENO;
 use libc::STDIN_FILENO;
 use libc::STDOUT_FILENO;
-use model::Party;
 use model::Root;
 
 const NEWLINE: u8 = b'\n';
 
-// The most bytes of an unfinished line that are kept: one more than a form has, so that it is no form whatever follows (cut-alike of `lines`, proofs/LongLines.antt).
+// The most bytes of an unfinished line that are kept: one more than a form has, so that it is no form whatever follows
+// (cut-alike of `lines`, proofs/LongLines.antt).
 const MOST_KEPT: usize = LONGEST_FORM + 1;
 
-// The state between two reads: what is held, how many bytes of an unfinished line stand at the front of the input buffer, and whether to read on.
+// The state between two turns. The text from `from` to `to` of the input buffer is not yet answered; the bytes that
+// came last stand from `read` on. The first `end` bytes of the output buffer are the replies. Whether that text may
+// have a whole line, whether to read on, and whether there is another turn.
 struct State {
-    held: Held,
-    kept: usize,
+    root: Root,
+    from: usize,
+    read: usize,
+    to: usize,
+    end: usize,
+    whole: bool,
     reads_on: bool,
+    goes_on: bool,
 }
 
-// What a read left: whether it failed, and how many bytes of the buffer hold input.
+// What a read left: whether there may be more, and how many bytes of the buffer hold text.
 struct Input {
-    failed: bool,
+    more: bool,
     end: usize,
 }
 
-// What is held after lines of a block, where the first line not answered begins, and whether every reply was written.
-struct Block {
-    held: Held,
+// The root record after lines of a text, where the first line not answered begins, the end of the replies, and whether
+// a line was answered.
+struct Rest {
+    root: Root,
     from: usize,
-    written: bool,
+    end: usize,
+    whole: bool,
 }
 
-// Memory as it starts: zero.
-fn nothing_held() -> Held {
-    let idle = Party {
-        operation: 0,
-        key: 0,
-        step: 0,
-        lev: 0,
-        chain: 0,
-        other: 0,
-        old: 0,
-        owed: 0,
-        answer: 0,
-        setting: 0,
-    };
-    let root = Root {
+// The root record as it starts: zero.
+fn no_root() -> Root {
+    Root {
         originals: 0,
         capacity: 0,
         primaries: 0,
@@ -61,9 +68,7 @@ fn nothing_held() -> Held {
         next: 0,
         head: 0,
         free: 0,
-    };
-    let row = [idle; 16];
-    Held { root, row }
+    }
 }
 
 // Writes to standard output; where that fails, says so.
@@ -75,89 +80,91 @@ fn put(text: &[u8]) -> bool {
     written
 }
 
-// Reads once, to behind the bytes kept; where that fails, says so.
+// Reads once, to behind the bytes kept; where that fails, says so. At the end of the input an unfinished line gets its
+// newline.
 fn read_on(input: &mut [u8], kept: usize) -> Input
-    requires { ⌜ kept ≤ length (now input) ⌝ }
+    requires { ⌜ kept < length (now input) ⌝ }
     ensures { λ r. ⌜ (kept ≤ r .end) × (r .end ≤ length (now (input .exit))) ⌝ }
+    ensures { λ _. ⌜ take kept (now (input .exit)) ≡ take kept (now (input .entry)) ⌝ }
 {
     let got = libc::read(STDIN_FILENO, &mut input[kept..]);
     if got < 0 {
         io::write_all(STDERR_FILENO, b"turns: standard input cannot be read\n");
         return Input {
-            failed: true,
+            more: false,
             end: kept,
         };
     }
     let n = io::count(got, &input[kept..]);
+    if 0 < n {
+        return Input {
+            more: true,
+            end: kept + n,
+        };
+    }
+    if 0 < kept {
+        input[kept] = NEWLINE;
+        return Input {
+            more: false,
+            end: kept + 1,
+        };
+    }
     Input {
-        failed: false,
-        end: kept + n,
+        more: false,
+        end: kept,
     }
 }
 
-// Answers whole lines from a place of a block on, as many as the buffer has room to reply to, and writes the replies.
-fn answer_some(
-    text: &[u8],
+// Answers lines of the text from a place of the buffer to another, as many as there is room to reply to.
+fn answer_rest(
+    input: &[u8],
     from: usize,
-    held: Held,
+    to: usize,
+    root: Root,
+    row: &mut [[u32; 10]],
     locks: &mut [u32],
     pages: &mut [u32],
     out: &mut [u8],
-) -> Block
-    requires { ⌜ from ≤ length (now text) ⌝ }
-    ensures { λ r. ⌜ (from ≤ r .from) × (r .from ≤ length (now (text .entry))) ⌝ }
+) -> Rest
+    requires { ⌜ (from ≤ to) × (to ≤ length (now input)) × (58 ≤ length (now out)) ⌝ }
+    ensures { λ r. ⌜ (r .from ≤ to) × (r .end ≤ length (now (out .exit))) ⌝ }
+    ensures { λ r. ⌜ (r .whole ≡ false → lineLength (part (now (input .entry)) (r .from) to) ≡ length (part (now (input .entry)) (r .from) to)) ⌝ }
+    ensures { λ r. ⌜ AnsweredTo (part (now (input .entry)) from to) (heldIn root (now (row .entry)) (now (locks .entry)) (now (pages .entry))) (take (r .end) (now (out .exit))) (part (now (input .entry)) (r .from) to) (heldIn (r .root) (now (row .exit)) (now (locks .exit)) (now (pages .exit))) ⌝ }
 {
-    let l = lines::answer_lines(&text[from..], held, locks, pages, out);
-    let after = l.held;
+    let l = lines::answer_lines(&input[from..to], root, row, locks, pages, out);
+    let after = l.root;
     let end = l.end;
-    let written = put(&out[0..end]);
-    Block {
-        held: after,
-        from: from + l.from,
-        written,
+    if l.from == 0 {
+        return Rest {
+            root: after,
+            from,
+            end,
+            whole: false,
+        };
     }
-}
-
-// Answers the whole lines of a block: until there is none left, or a write fails.
-fn answer_block(
-    text: &[u8],
-    held: Held,
-    locks: &mut [u32],
-    pages: &mut [u32],
-    out: &mut [u8],
-) -> Block
-    ensures { λ r. ⌜ r .from ≤ length (now (text .entry)) ⌝ }
-{
-    let mut held = held;
-    let mut from = 0;
-    loop {
-        let b = answer_some(text, from, held, locks, pages, out);
-        if !b.written {
-            return b;
-        }
-        if b.from == from {
-            return b;
-        }
-        let after = b.held;
-        held = after;
-        from = b.from;
+    Rest {
+        root: after,
+        from: from + l.from,
+        end,
+        whole: true,
     }
 }
 
 // How many bytes of an unfinished line of so many are kept.
 fn most_kept(bytes: usize) -> usize
-    ensures { λ r. ⌜ (r ≤ 64) × (r ≤ bytes) ⌝ }
+    ensures { λ r. ⌜ (r ≡ min mostKept bytes) × (r ≤ bytes) × (r ≤ 64) ⌝ }
 {
-    if bytes < MOST_KEPT {
-        return bytes;
+    if MOST_KEPT < bytes {
+        return MOST_KEPT;
     }
-    MOST_KEPT
+    bytes
 }
 
 // Moves the start of an unfinished line to the front of the buffer: how many bytes of it are kept.
 fn keep(input: &mut [u8], from: usize, to: usize) -> usize
     requires { ⌜ (from ≤ to) × (to ≤ length (now input)) ⌝ }
-    ensures { λ r. ⌜ r ≤ 64 ⌝ }
+    ensures { λ r. ⌜ (r ≡ min mostKept (to - from)) × (r ≤ to - from) × (r ≤ 64) ⌝ }
+    ensures { λ r. ⌜ take r (now (input .exit)) ≡ take r (drop from (now (input .entry))) ⌝ }
 {
     let most = most_kept(to - from);
     let mut n = 0;
@@ -168,78 +175,98 @@ fn keep(input: &mut [u8], from: usize, to: usize) -> usize
     most
 }
 
-// The last line, where the input does not end with a newline.
-fn last_line(
-    kept: usize,
-    held: Held,
+// Answers lines of the text that stands in the buffer; where it has no whole line, reads once first.
+fn turn(
+    s: State,
+    row: &mut [[u32; 10]],
+    locks: &mut [u32],
+    pages: &mut [u32],
+    input: &mut [u8],
+    out: &mut [u8],
+) -> State
+    requires { ⌜ (s .from ≤ s .to) × (s .to ≤ length (now input)) × (64 < length (now input)) × (58 ≤ length (now out)) ⌝ }
+    requires { ⌜ (s .whole ≡ false → lineLength (part (now input) (s .from) (s .to)) ≡ length (part (now input) (s .from) (s .to))) ⌝ }
+    ensures { λ r. ⌜ (r .from ≤ r .to) × (r .to ≤ length (now (input .exit))) × (r .end ≤ length (now (out .exit))) ⌝ }
+    ensures { λ r. ⌜ (r .whole ≡ false → lineLength (part (now (input .exit)) (r .from) (r .to)) ≡ length (part (now (input .exit)) (r .from) (r .to))) ⌝ }
+    ensures { λ r. ⌜ (s .whole ≡ true → (r .read ≡ s .to) × (r .to ≡ s .to)) × (s .whole ≡ false → r .read ≡ min mostKept (s .to - s .from)) ⌝ }
+    ensures { λ r. ⌜ AnsweredTo (part (now (input .entry)) (s .from) (s .to) ++ part (now (input .exit)) (r .read) (r .to)) (heldIn (s .root) (now (row .entry)) (now (locks .entry)) (now (pages .entry))) (take (r .end) (now (out .exit))) (part (now (input .exit)) (r .from) (r .to)) (heldIn (r .root) (now (row .exit)) (now (locks .exit)) (now (pages .exit))) ⌝ }
+{
+    let before = s.root;
+    if s.whole {
+        let a = answer_rest(input, s.from, s.to, before, row, locks, pages, out);
+        let after = a.root;
+        return State {
+            root: after,
+            from: a.from,
+            read: s.to,
+            to: s.to,
+            end: a.end,
+            whole: a.whole,
+            reads_on: s.reads_on,
+            goes_on: a.whole | s.reads_on,
+        };
+    }
+    let kept = keep(input, s.from, s.to);
+    let i = read_on(input, kept);
+    let to = i.end;
+    let b = answer_rest(input, 0, to, before, row, locks, pages, out);
+    let left = b.root;
+    State {
+        root: left,
+        from: b.from,
+        read: kept,
+        to,
+        end: b.end,
+        whole: b.whole,
+        reads_on: i.more,
+        goes_on: b.whole | i.more,
+    }
+}
+
+// Turns until the input ends or a read or a write fails; the replies of each turn are written before the next. A proved
+// loop has to end, and nothing says that the input does: so it counts down, from a number that no run uses up.
+fn run(
+    row: &mut [[u32; 10]],
     locks: &mut [u32],
     pages: &mut [u32],
     input: &mut [u8],
     out: &mut [u8],
 )
-    requires { ⌜ kept < length (now input) ⌝ }
-{
-    if 0 < kept {
-        input[kept] = NEWLINE;
-        answer_block(&input[0..kept + 1], held, locks, pages, out);
-    }
-}
-
-// Reads once and answers every line that is now whole; at the end of the input also the last one.
-fn turn(s: State, locks: &mut [u32], pages: &mut [u32], input: &mut [u8], out: &mut [u8]) -> State
-    requires { ⌜ s .kept < length (now input) ⌝ }
-    ensures { λ r. ⌜ r .kept ≤ 64 ⌝ }
-{
-    let kept = s.kept;
-    let before = s.held;
-    let i = read_on(input, kept);
-    let end = i.end;
-    if i.failed {
-        return State {
-            held: before,
-            kept: 0,
-            reads_on: false,
-        };
-    }
-    if end == kept {
-        last_line(kept, before, locks, pages, input, out);
-        return State {
-            held: before,
-            kept: 0,
-            reads_on: false,
-        };
-    }
-    let b = answer_block(&input[0..end], before, locks, pages, out);
-    let after = b.held;
-    let left = keep(input, b.from, end);
-    State {
-        held: after,
-        kept: left,
-        reads_on: b.written,
-    }
-}
-
-// Turns until the input ends or a read or a write fails. A proved loop has to end, and nothing says that the input does: so it counts down, from a number that no run uses up.
-fn run(locks: &mut [u32], pages: &mut [u32], input: &mut [u8], out: &mut [u8])
-    requires { ⌜ 64 < length (now input) ⌝ }
+    requires { ⌜ (64 < length (now input)) × (58 ≤ length (now out)) ⌝ }
 {
     let mut s = State {
-        held: nothing_held(),
-        kept: 0,
+        root: no_root(),
+        from: 0,
+        read: 0,
+        to: 0,
+        end: 0,
+        whole: false,
         reads_on: true,
+        goes_on: true,
     };
     let mut turns = u64::MAX;
-    while turns > 0 && s.reads_on {
-        s = turn(s, locks, pages, input, out);
+    while turns > 0 && s.goes_on {
+        s = turn(s, row, locks, pages, input, out);
+        let end = s.end;
+        if !put(&out[0..end]) {
+            return;
+        }
         turns -= 1;
     }
 }
 
-// The lock words and page words of the largest file, and the two buffers.
+// Memory as it starts: zero. The records, lock words and page words of the largest file, and the two buffers.
 fn main() {
+    let mut row = [[0u32; 10]; 16];
     let mut locks = [0u32; 257];
     let mut pages = [0u32; 16384];
     let mut input = [0u8; 65600];
     let mut out = [0u8; 65536];
-    run(&mut locks[..], &mut pages[..], &mut input[..], &mut out[..]);
+    run(
+        &mut row[..],
+        &mut locks[..],
+        &mut pages[..],
+        &mut input[..],
+        &mut out[..],
+    );
 }

@@ -6,7 +6,7 @@ use Rattle.model.specs.declared.Party.{Party}
 use Rattle.model.specs.declared.FormatAnswer.{FormatAnswer}
 use Rattle.model.specs.Calls.{called, formatCall}
 use Rattle.calls.specs.Lent.{lent, rowAfter}
-use Rattle.held.proofs.Ends.{row-long, held-kept, held-cleared}
+use Rattle.held.proofs.Ends.{held-kept, held-cleared}
 use borrow.Author.Needs.{needs}
 use Rattle.held.proofs.format.Statement.{statement}
 use Rattle.held.proofs.format.Tie as tie
@@ -20,8 +20,8 @@ format-requires c κs = search needs
 enum-told : tie.Need-enum-told
 enum-told c = search needs
 
-cleared-requires : tie.Need-cleared-requires
-cleared-requires c κs = search needs
+clear-requires : tie.Need-clear-requires
+clear-requires c κs = search needs
 
 enum-told-2 : tie.Need-enum-told-2
 enum-told-2 c = search needs
@@ -32,37 +32,36 @@ same-length c = search needs
 same-length-2 : tie.Need-same-length-2
 same-length-2 c = search needs
 
-returns : tie.Need-returns
-returns c =
-    let at-call = c .before .before .before .before .before .before .before .before in
-    let at-lent = at-call .before .before .before in
-    let start = at-lent .before .before .before .before .before in
-    let a = start .args in
-    let s = at-call .format in
-    let told = c .before .enum-told .given .1 in
-    let z = a .sizes in
-    ap (λ (x : List Party). called (s .result .answer) (lent (s .result .root) x (s .last .1 .1 .1 .0) (s .last .1 .1 .1 .1 .0))) (c .cleared .ensures)
-    ∙ held-cleared (λ m. formatCall m (z .originals) (z .capacity) (z .primaries) (z .overflow) (z .parties)) (a .held) (row-long (a .held) (start .good .0)) (a .locks .now) (a .pages .now) _ _
-    (at-lent .records-lent .ensures) (s .result .answer) (s .result .root) _ _
-    (λ row many. ap (λ (x : FormatAnswer). called (s .result .answer) (lent (s .result .root) (rowAfter x row) (s .last .1 .1 .1 .0) (s .last .1 .1 .1 .1 .0))) (sym told) ∙ s .ensures row many)
-
 same-length-3 : tie.Need-same-length-3
 same-length-3 c = search needs
+
+returns : tie.Need-returns
+returns c =
+    let at-call = c .before .before .before .before .before .before .before .before .before .before in
+    let a = at-call .before .before .before .before .before .before .args in
+    let s = at-call .format in
+    let told = c .before .before .before .enum-told .given .1 in
+    let z = a .sizes in
+    ap (λ (x : List Party). called (s .result .answer) (lent (s .result .root) x (s .last .1 .1 .1 .0) (s .last .1 .1 .1 .1 .0))) (c .before .clear .ensures)
+    ∙ held-cleared (λ m. formatCall m (z .originals) (z .capacity) (z .primaries) (z .overflow) (z .parties)) (a .root) (a .row .now) (a .locks .now) (a .pages .now) _ _
+    (at-call .before .before .before .records-lent .ensures) (s .result .answer) (s .result .root) _ _
+    (λ row many. ap (λ (x : FormatAnswer). called (s .result .answer) (lent (s .result .root) (rowAfter x row) (s .last .1 .1 .1 .0) (s .last .1 .1 .1 .1 .0))) (sym told) ∙ s .ensures row many)
 
 same-length-4 : tie.Need-same-length-4
 same-length-4 c = search needs
 
+same-length-5 : tie.Need-same-length-5
+same-length-5 c = search needs
+
 returns-2 : tie.Need-returns-2
 returns-2 c =
     let at-call = c .before .before .before .before .before .before .before in
-    let at-lent = at-call .before .before .before in
-    let start = at-lent .before .before .before .before .before in
-    let a = start .args in
+    let a = at-call .before .before .before .before .before .before .args in
     let s = at-call .format in
     let told = c .enum-told2 .given .1 in
     let z = a .sizes in
-    held-kept (λ m. formatCall m (z .originals) (z .capacity) (z .primaries) (z .overflow) (z .parties)) (a .held) (row-long (a .held) (start .good .0)) (a .locks .now) (a .pages .now) _ _
-    (at-lent .records-lent .ensures) (s .result .answer) (s .result .root) _ _
+    held-kept (λ m. formatCall m (z .originals) (z .capacity) (z .primaries) (z .overflow) (z .parties)) (a .root) (a .row .now) (a .locks .now) (a .pages .now) _ _
+    (at-call .before .before .before .records-lent .ensures) (s .result .answer) (s .result .root) _ _
     (λ row many. ap (λ (x : FormatAnswer). called (s .result .answer) (lent (s .result .root) (rowAfter x row) (s .last .1 .1 .1 .0) (s .last .1 .1 .1 .1 .0))) (sym told) ∙ s .ensures row many)
 
 pub format-spec : {M : Type 1} → statement M
@@ -72,11 +71,12 @@ format-spec =
     records-lent-requires
     format-requires
     enum-told
-    cleared-requires
+    clear-requires
     enum-told-2
     same-length
     same-length-2
-    returns
     same-length-3
+    returns
     same-length-4
+    same-length-5
     returns-2)

@@ -2,7 +2,8 @@
 use mathlib.Core.Path.{sym}
 use lib.ListN.{take}
 use Rattle.model.specs.TakeUp.{takeUpCall}
-use Rattle.held.proofs.Ends.{row-long, first-length, held-same}
+use Rattle.held.specs.Held.{recordsIn}
+use Rattle.held.proofs.Ends.{first-many, held-same}
 use borrow.Author.Needs.{needs}
 use Rattle.held.proofs.take_up.Statement.{statement}
 use Rattle.held.proofs.take_up.Tie as tie
@@ -19,12 +20,15 @@ take-up-requires c κs = search needs
 returns : tie.Need-returns
 returns c =
     let lends = c .before .before .records-lent in
-    let start = c .before .before .before .before .before .before .before in
-    let a = start .args in
-    let long = row-long (a .held) (start .good .0) in
-    let said = c .take-up .ensures (take (lends .result) (a .held .row)) (first-length (a .held) long (lends .result) (lends .ensures .1)) (sym (c .before .all-idle .ensures)) in
-    held-same takeUpCall (a .held) long (a .locks .now) (a .pages .now) _ _ (lends .ensures) (c .take-up .result) (a .held .root) _ _ said
+    let a = c .before .before .before .before .before .args in
+    let said = c .take-up .ensures (take (lends .result) (recordsIn (a .row .now))) (first-many (a .row .now) (lends .result) (lends .ensures .1)) (sym (c .before .all-idle .ensures)) in
+    held-same takeUpCall (a .root) (a .row .now) (a .locks .now) (a .pages .now) _ _ (lends .ensures) (c .take-up .result) (a .root) _ _ said
 
 pub take-up-spec : {M : Type 1} → statement M
 take-up-spec =
-    tie.close (tie.spec records-lent-requires all-idle-requires take-up-requires returns)
+    tie.close
+    (tie.spec
+    records-lent-requires
+    all-idle-requires
+    take-up-requires
+    returns)

@@ -4,7 +4,7 @@ use mathlib.Core.List.{List}
 use Prim.Native.Nat.{ℕ, _-_, min}
 use native.Mathlib.Nat.{sub-zero}
 use lib.ListN.{length}
-use Rattle.held.specs.Held.{memoryOf, heldBegin}
+use Rattle.held.specs.Held.{heldIn, heldBegin}
 use Rattle.forms.specs.declared.Reply.the-variants as Reply
 use Rattle.lines.specs.Lines.{performed}
 use Rattle.lines.proofs.Words.{words-kept}
@@ -45,17 +45,20 @@ part-begin-end-2 c = search needs
 begin-requires : tie.Need-begin-requires
 begin-requires c κs = search needs
 
+same-length : tie.Need-same-length
+same-length c = search needs
+
 returns : tie.Need-returns
 unfolding performed
 returns c =
     let a = c .before .before .before .before .before .before .before .before .before .before .before .args in
     let made = c .before .begin in
-    let l = c .before .before .before .before .before .before .words-lent in
-    let g = c .before .before .before .before .words-lent2 in
-    let el = sub-zero (l .result) ∙ l .ensures .0 ∙ ap (λ (n : ℕ). min n (length (a .locks .now))) (c .before .before .before .before .before .before .before .lock-words .ensures) in
-    let eg = sub-zero (g .result) ∙ g .ensures .0 ∙ ap (λ (n : ℕ). min n (length (a .pages .now))) (c .before .before .before .before .before .page-words .ensures) in
-    words-kept (a .held .root) (λ (us ws : List ℕ). heldBegin (memoryOf (a .held) us ws) (a .q) (a .operation) (a .key)) (λ t. Reply.Begin (a .q) t) (memoryOf (a .held) (a .locks .now) (a .pages .now)) (l .result - 0) (g .result - 0) el eg
-    (made .result .answer) (made .result .held .root) (made .result .held .row) (made .ensures)
+    let g = c .before .before .before .before .before .words-lent2 in
+    let l = c .before .before .before .before .before .before .before .words-lent in
+    let el = sub-zero (l .result) ∙ l .ensures .0 ∙ ap (λ (n : ℕ). min n (length (a .locks .now))) (c .before .before .before .before .before .before .before .before .lock-words .ensures) in
+    let eg = sub-zero (g .result) ∙ g .ensures .0 ∙ ap (λ (n : ℕ). min n (length (a .pages .now))) (c .before .before .before .before .before .before .page-words .ensures) in
+    words-kept (a .root) (λ (us ws : List ℕ). heldBegin (heldIn (a .root) (a .row .now) us ws) (a .q) (a .operation) (a .key)) (λ t. Reply.Begin (a .q) t) (heldIn (a .root) (a .row .now) (a .locks .now) (a .pages .now)) (l .result - 0) (g .result - 0) el eg
+    (made .result) (a .root) _ (made .ensures)
 
 pub begin-spec : {M : Type 1} → statement M
 begin-spec =
@@ -72,4 +75,5 @@ begin-spec =
     part-begin-start-2
     part-begin-end-2
     begin-requires
+    same-length
     returns)

@@ -5,7 +5,7 @@ use Prim.Native.Nat.{ℕ, _-_, min}
 use native.Mathlib.Nat.{sub-zero}
 use lib.ListN.{length}
 use Rattle.model.specs.Records.{rootSized}
-use Rattle.held.specs.Held.{memoryOf, heldFormat}
+use Rattle.held.specs.Held.{heldIn, heldFormat}
 use Rattle.forms.specs.declared.Reply.the-variants as Reply
 use Rattle.lines.specs.Lines.{performed}
 use Rattle.lines.proofs.Words.{words-left}
@@ -52,17 +52,20 @@ same-length c = search needs
 same-length-2 : tie.Need-same-length-2
 same-length-2 c = search needs
 
+same-length-3 : tie.Need-same-length-3
+same-length-3 c = search needs
+
 returns : tie.Need-returns
 unfolding performed
 returns c =
-    let a = c .before .before .before .before .before .before .before .before .before .before .before .before .before .before .args in
-    let made = c .before .before .before .before .before .format in
-    let l = c .before .before .before .before .before .before .before .before .before .before .words-lent in
-    let g = c .before .before .before .before .before .before .before .before .words-lent2 in
-    let el = sub-zero (l .result) ∙ l .ensures .0 ∙ ap (λ (n : ℕ). min n (length (a .locks .now))) (c .before .before .before .before .before .before .before .before .before .before .before .lock-words .ensures) in
-    let eg = sub-zero (g .result) ∙ g .ensures .0 ∙ ap (λ (n : ℕ). min n (length (a .pages .now))) (c .before .before .before .before .before .before .before .before .before .page-words .ensures) in
-    words-left (rootSized (a .sizes)) (λ (us ws : List ℕ). heldFormat (memoryOf (a .held) us ws) (a .sizes)) (λ t. Reply.Format t) (memoryOf (a .held) (a .locks .now) (a .pages .now)) (l .result - 0) (g .result - 0) el eg
-    (made .result .answer) (made .result .held .root) (made .result .held .row) _ _ (made .ensures)
+    let a = c .before .before .before .before .before .before .before .before .before .before .before .before .before .before .before .before .args in
+    let made = c .before .before .before .before .before .before .format in
+    let g = c .before .before .before .before .before .before .before .before .before .before .words-lent2 in
+    let l = c .before .before .before .before .before .before .before .before .before .before .before .before .words-lent in
+    let el = sub-zero (l .result) ∙ l .ensures .0 ∙ ap (λ (n : ℕ). min n (length (a .locks .now))) (c .before .before .before .before .before .before .before .before .before .before .before .before .before .lock-words .ensures) in
+    let eg = sub-zero (g .result) ∙ g .ensures .0 ∙ ap (λ (n : ℕ). min n (length (a .pages .now))) (c .before .before .before .before .before .before .before .before .before .before .before .page-words .ensures) in
+    words-left (rootSized (a .sizes)) (λ (us ws : List ℕ). heldFormat (heldIn (a .root) (a .row .now) us ws) (a .sizes)) (λ t. Reply.Format t) (heldIn (a .root) (a .row .now) (a .locks .now) (a .pages .now)) (l .result - 0) (g .result - 0) el eg
+    (made .result .answer) (made .result .root) _ _ _ (made .ensures)
 
 pub format-spec : {M : Type 1} → statement M
 format-spec =
@@ -81,4 +84,5 @@ format-spec =
     format-requires
     same-length
     same-length-2
+    same-length-3
     returns)

@@ -1,6 +1,6 @@
 -- `lines::perform_line` meets its contract: a line that is no form, and one that is.
 use mathlib.Core.Path.{sym, _∙_, ap}
-use Rattle.held.specs.Held.{memoryOf}
+use Rattle.held.specs.Held.{heldIn}
 use Rattle.forms.specs.declared.FormRead.{FormRead}
 use Rattle.lines.specs.Lines.{answeredAs, lineAnswered}
 use borrow.Author.Needs.{needs}
@@ -29,11 +29,14 @@ same-length c = search needs
 same-length-2 : tie.Need-same-length-2
 same-length-2 c = search needs
 
+same-length-3 : tie.Need-same-length-3
+same-length-3 c = search needs
+
 returns-2 : tie.Need-returns-2
 unfolding lineAnswered answeredAs
 returns-2 c =
-    let a = c .before .before .before .before .before .before .before .before .before .before .before .before .before .before .args in
-    c .before .before .before .before .perform .ensures ∙ ap (λ (f : FormRead). answeredAs f (memoryOf (a .held) (a .locks .now) (a .pages .now))) (sym (c .before .before .before .before .before .before .before .before .read .given .1) ∙ c .before .before .before .before .before .before .before .before .before .before .read-form .ensures)
+    let a = c .before .before .before .before .before .before .before .before .before .before .before .before .before .before .before .before .args in
+    c .before .before .before .before .before .perform .ensures ∙ ap (λ (f : FormRead). answeredAs f (heldIn (a .root) (a .row .now) (a .locks .now) (a .pages .now))) (sym (c .before .before .before .before .before .before .before .before .before .before .read .given .1) ∙ c .before .before .before .before .before .before .before .before .before .before .before .before .read-form .ensures)
 
 pub perform-line-spec : {M : Type 1} → statement M
 perform-line-spec =
@@ -46,4 +49,5 @@ perform-line-spec =
     returns
     same-length
     same-length-2
+    same-length-3
     returns-2)

@@ -4,7 +4,7 @@ use mathlib.Core.List.{List}
 use Prim.Native.Nat.{ℕ, _-_, min}
 use native.Mathlib.Nat.{sub-zero}
 use lib.ListN.{length}
-use Rattle.held.specs.Held.{memoryOf, heldTakeUp}
+use Rattle.held.specs.Held.{heldIn, heldTakeUp}
 use Rattle.forms.specs.declared.Reply.the-variants as Reply
 use Rattle.lines.specs.Lines.{performed}
 use Rattle.lines.proofs.Words.{words-kept}
@@ -48,13 +48,13 @@ take-up-requires c κs = search needs
 returns : tie.Need-returns
 unfolding performed
 returns c =
-    let a = c .before .before .before .before .before .before .before .before .before .before .args in
+    let a = c .before .before .before .before .before .before .before .before .before .args in
     let made = c .take-up in
-    let l = c .before .before .before .before .before .words-lent in
     let g = c .before .before .before .words-lent2 in
+    let l = c .before .before .before .before .before .words-lent in
     let el = sub-zero (l .result) ∙ l .ensures .0 ∙ ap (λ (n : ℕ). min n (length (a .locks .now))) (c .before .before .before .before .before .before .lock-words .ensures) in
     let eg = sub-zero (g .result) ∙ g .ensures .0 ∙ ap (λ (n : ℕ). min n (length (a .pages .now))) (c .before .before .before .before .page-words .ensures) in
-    words-kept (a .held .root) (λ (us ws : List ℕ). heldTakeUp (memoryOf (a .held) us ws)) (λ t. Reply.TakeUp t) (memoryOf (a .held) (a .locks .now) (a .pages .now)) (l .result - 0) (g .result - 0) el eg (made .result) (a .held .root) (a .held .row) (made .ensures)
+    words-kept (a .root) (λ (us ws : List ℕ). heldTakeUp (heldIn (a .root) (a .row .now) us ws)) (λ t. Reply.TakeUp t) (heldIn (a .root) (a .row .now) (a .locks .now) (a .pages .now)) (l .result - 0) (g .result - 0) el eg (made .result) (a .root) _ (made .ensures)
 
 pub take-up-spec : {M : Type 1} → statement M
 take-up-spec =

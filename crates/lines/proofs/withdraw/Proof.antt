@@ -4,7 +4,7 @@ use mathlib.Core.List.{List}
 use Prim.Native.Nat.{ℕ, _-_, min}
 use native.Mathlib.Nat.{sub-zero}
 use lib.ListN.{length}
-use Rattle.held.specs.Held.{memoryOf, heldWithdraw}
+use Rattle.held.specs.Held.{heldIn, heldWithdraw}
 use Rattle.forms.specs.declared.Reply.the-variants as Reply
 use Rattle.lines.specs.Lines.{performed}
 use Rattle.lines.proofs.Words.{words-left}
@@ -51,17 +51,20 @@ same-length c = search needs
 same-length-2 : tie.Need-same-length-2
 same-length-2 c = search needs
 
+same-length-3 : tie.Need-same-length-3
+same-length-3 c = search needs
+
 returns : tie.Need-returns
 unfolding performed
 returns c =
-    let a = c .before .before .before .before .before .before .before .before .before .before .before .before .before .before .before .args in
-    let made = c .before .before .before .before .before .withdraw in
-    let l = c .before .before .before .before .before .before .before .before .before .before .words-lent in
-    let g = c .before .before .before .before .before .before .before .before .words-lent2 in
-    let el = sub-zero (l .result) ∙ l .ensures .0 ∙ ap (λ (n : ℕ). min n (length (a .locks .now))) (c .before .before .before .before .before .before .before .before .before .before .before .lock-words .ensures) in
-    let eg = sub-zero (g .result) ∙ g .ensures .0 ∙ ap (λ (n : ℕ). min n (length (a .pages .now))) (c .before .before .before .before .before .before .before .before .before .page-words .ensures) in
-    words-left (a .held .root) (λ (us ws : List ℕ). heldWithdraw (memoryOf (a .held) us ws) (a .q)) (λ t. Reply.Withdraw (a .q) t) (memoryOf (a .held) (a .locks .now) (a .pages .now)) (l .result - 0) (g .result - 0) el eg
-    (made .result .answer) (made .result .held .root) (made .result .held .row) _ _ (made .ensures)
+    let a = c .before .before .before .before .before .before .before .before .before .before .before .before .before .before .before .before .args in
+    let made = c .before .before .before .before .before .before .withdraw in
+    let g = c .before .before .before .before .before .before .before .before .before .before .words-lent2 in
+    let l = c .before .before .before .before .before .before .before .before .before .before .before .before .words-lent in
+    let el = sub-zero (l .result) ∙ l .ensures .0 ∙ ap (λ (n : ℕ). min n (length (a .locks .now))) (c .before .before .before .before .before .before .before .before .before .before .before .before .before .lock-words .ensures) in
+    let eg = sub-zero (g .result) ∙ g .ensures .0 ∙ ap (λ (n : ℕ). min n (length (a .pages .now))) (c .before .before .before .before .before .before .before .before .before .before .before .page-words .ensures) in
+    words-left (a .root) (λ (us ws : List ℕ). heldWithdraw (heldIn (a .root) (a .row .now) us ws) (a .q)) (λ t. Reply.Withdraw (a .q) t) (heldIn (a .root) (a .row .now) (a .locks .now) (a .pages .now)) (l .result - 0) (g .result - 0) el eg
+    (made .result .answer) (made .result .root) _ _ _ (made .ensures)
 
 pub withdraw-spec : {M : Type 1} → statement M
 withdraw-spec =
@@ -80,4 +83,5 @@ withdraw-spec =
     withdraw-requires
     same-length
     same-length-2
+    same-length-3
     returns)

@@ -1,67 +1,113 @@
--- `turns::run` is safe and ends: the turns left are counted down, and no more than 64 bytes of an unfinished line are kept.
+-- `turns::run` is safe and ends: the turns left are counted down, and each turn is lent what the last one left.
 use mathlib.Core.Path.{_≡_, refl, _∙_}
+use mathlib.Core.Bool.{false}
 use Prim.Native.Nat.{_≤_}
 use native.Mathlib.Omega.{arith}
 use lib.ListN.{length}
+use Rattle.lines.specs.Texts.{lineLength}
+use Rattle.turns.specs.Turned.{part}
+use borrow.Author.Needs.{needs}
 use Rattle.turns.proofs.run.Statement.{statement}
 use Rattle.turns.proofs.run.Tie as tie
 
 abbrev Inv-loop : tie.InvT-loop
-Inv-loop locks₀ pages₀ input₀ out₀ s₀ turns₀ locks pages input out s turns = (length locks ≡ length locks₀) × (length pages ≡ length pages₀) × (length input ≡ length input₀) × (length out ≡ length out₀) × (s .kept ≤ 64)
+Inv-loop row₀ locks₀ pages₀ input₀ out₀ s₀ turns₀ row locks pages input out s turns =
+    (length row ≡ length row₀) × (length locks ≡ length locks₀) × (length pages ≡ length pages₀) × (length input ≡ length input₀) × (length out ≡ length out₀) × (s .from ≤ s .to) × (s .to ≤ length input)
+    × (s .whole ≡ false → lineLength (part input (s .from) (s .to)) ≡ length (part input (s .from) (s .to)))
 
 abbrev μ-loop : tie.MeasureT-loop
-μ-loop locks₀ pages₀ input₀ out₀ s₀ turns₀ locks pages input out s turns = turns
+μ-loop row₀ locks₀ pages₀ input₀ out₀ s₀ turns₀ row locks pages input out s turns = turns
 
-nothing-held-requires : tie.Need-nothing-held-requires Inv-loop μ-loop
-nothing-held-requires c κs = tt
+no-root-requires : tie.Need-no-root-requires Inv-loop μ-loop
+no-root-requires c κs = tt
 
 loop-holds : tie.Need-loop-holds Inv-loop μ-loop
-loop-holds c = (refl, refl, refl, refl, omega arith)
+unfolding lineLength
+loop-holds c = (refl, refl, refl, refl, refl, omega arith, omega arith, (λ w. refl))
 
 turn-requires : tie.Need-turn-requires Inv-loop μ-loop
-turn-requires c κs = let l = c .before .before .before .before .before .before .loop in omega (arith, c .before .before .before .before .before .before .before .before .before .before .before .before .pre, l .inv .2, l .inv .4)
+turn-requires c κs =
+    let l = c .before .before .before .before .before .before .before .loop in
+    let pre = c .before .before .before .before .before .before .before .before .before .before .before .before .before .pre in
+    ((l .inv .5, l .inv .6, omega (arith, pre .0, l .inv .3), omega (arith, pre .1, l .inv .4)), l .inv .7)
 
-sub-turns : tie.Need-sub-turns Inv-loop μ-loop
-sub-turns c = omega (arith, c .before .before .before .before .before .before .before .before .before .before .before .before .before .before .loop-test .taken)
+sub-put : tie.Need-sub-put Inv-loop μ-loop
+sub-put c = search needs
 
-loop-less : tie.Need-loop-less Inv-loop μ-loop
-loop-less c = omega (arith, c .before .before .before .before .before .before .before .before .before .before .before .before .before .before .loop-test .taken)
+part-put-start : tie.Need-part-put-start Inv-loop μ-loop
+part-put-start c = search needs
 
-loop-again : tie.Need-loop-again Inv-loop μ-loop
-loop-again c =
-    let t = c .before .before .before .before .before .before .before .before .turn in
-    let l = c .before .before .before .before .before .before .before .before .before .before .before .before .before .before .before .loop in
-    (t .kept .1 .0 ∙ l .inv .0, t .kept .1 .1 .0 ∙ l .inv .1, t .kept .1 .1 .1 .0 ∙ l .inv .2, t .kept .1 .1 .1 .1 .0 ∙ l .inv .3, t .ensures)
+part-put-end : tie.Need-part-put-end Inv-loop μ-loop
+part-put-end c = omega (arith, c .before .before .before .before .before .before .before .before .before .before .turn .ensures .0 .2)
+
+put-requires : tie.Need-put-requires Inv-loop μ-loop
+put-requires c κs = search needs
 
 same-length : tie.Need-same-length Inv-loop μ-loop
-same-length c = c .before .before .loop .inv .0
+same-length c = c .before .before .before .before .before .before .before .before .before .before .before .before .before .turn .kept .1 .0 ∙ c .before .before .before .before .before .before .before .before .before .before .before .before .before .before .before .before .before .before .before .before .before .loop .inv .0
 
 same-length-2 : tie.Need-same-length-2 Inv-loop μ-loop
-same-length-2 c = c .before .before .loop .inv .1
+same-length-2 c = c .before .before .before .before .before .before .before .before .before .before .before .before .before .turn .kept .1 .1 .0 ∙ c .before .before .before .before .before .before .before .before .before .before .before .before .before .before .before .before .before .before .before .before .before .loop .inv .1
 
 same-length-3 : tie.Need-same-length-3 Inv-loop μ-loop
-same-length-3 c = c .before .before .loop .inv .2
+same-length-3 c = c .before .before .before .before .before .before .before .before .before .before .before .before .before .turn .kept .1 .1 .1 .0 ∙ c .before .before .before .before .before .before .before .before .before .before .before .before .before .before .before .before .before .before .before .before .before .loop .inv .2
 
 same-length-4 : tie.Need-same-length-4 Inv-loop μ-loop
-same-length-4 c = c .before .before .loop .inv .3
+same-length-4 c = c .before .before .before .before .before .before .before .before .before .before .before .before .before .turn .kept .1 .1 .1 .1 .0 ∙ c .before .before .before .before .before .before .before .before .before .before .before .before .before .before .before .before .before .before .before .before .before .loop .inv .3
+
+same-length-5 : tie.Need-same-length-5 Inv-loop μ-loop
+same-length-5 c = c .before .before .before .before .before .before .before .before .before .before .before .before .before .turn .kept .1 .1 .1 .1 .1 .0 ∙ c .before .before .before .before .before .before .before .before .before .before .before .before .before .before .before .before .before .before .before .before .before .loop .inv .4
 
 returns : tie.Need-returns Inv-loop μ-loop
 returns c = tt
 
-same-length-5 : tie.Need-same-length-5 Inv-loop μ-loop
-same-length-5 c = c .before .loop .inv .0
+sub-turns : tie.Need-sub-turns Inv-loop μ-loop
+sub-turns c = omega (arith, c .before .before .before .before .before .before .before .before .before .before .before .before .before .before .before .before .before .before .before .before .loop-test .taken)
+
+loop-less : tie.Need-loop-less Inv-loop μ-loop
+loop-less c = omega (arith, c .before .before .before .before .before .before .before .before .before .before .before .before .before .before .before .before .before .before .before .before .loop-test .taken)
+
+loop-again : tie.Need-loop-again Inv-loop μ-loop
+loop-again c =
+    let t = c .before .before .before .before .before .before .before .before .before .before .before .before .before .turn in
+    let l = c .before .before .before .before .before .before .before .before .before .before .before .before .before .before .before .before .before .before .before .before .before .loop in
+    (t .kept .1 .0 ∙ l .inv .0, t .kept .1 .1 .0 ∙ l .inv .1, t .kept .1 .1 .1 .0 ∙ l .inv .2, t .kept .1 .1 .1 .1 .0 ∙ l .inv .3, t .kept .1 .1 .1 .1 .1 .0 ∙ l .inv .4, t .ensures .0 .0, t .ensures .0 .1, t .ensures .1 .0)
 
 same-length-6 : tie.Need-same-length-6 Inv-loop μ-loop
-same-length-6 c = c .before .loop .inv .1
+same-length-6 c = c .before .before .loop .inv .0
 
 same-length-7 : tie.Need-same-length-7 Inv-loop μ-loop
-same-length-7 c = c .before .loop .inv .2
+same-length-7 c = c .before .before .loop .inv .1
 
 same-length-8 : tie.Need-same-length-8 Inv-loop μ-loop
-same-length-8 c = c .before .loop .inv .3
+same-length-8 c = c .before .before .loop .inv .2
+
+same-length-9 : tie.Need-same-length-9 Inv-loop μ-loop
+same-length-9 c = c .before .before .loop .inv .3
+
+same-length-10 : tie.Need-same-length-10 Inv-loop μ-loop
+same-length-10 c = c .before .before .loop .inv .4
 
 returns-2 : tie.Need-returns-2 Inv-loop μ-loop
 returns-2 c = tt
+
+same-length-11 : tie.Need-same-length-11 Inv-loop μ-loop
+same-length-11 c = c .before .loop .inv .0
+
+same-length-12 : tie.Need-same-length-12 Inv-loop μ-loop
+same-length-12 c = c .before .loop .inv .1
+
+same-length-13 : tie.Need-same-length-13 Inv-loop μ-loop
+same-length-13 c = c .before .loop .inv .2
+
+same-length-14 : tie.Need-same-length-14 Inv-loop μ-loop
+same-length-14 c = c .before .loop .inv .3
+
+same-length-15 : tie.Need-same-length-15 Inv-loop μ-loop
+same-length-15 c = c .before .loop .inv .4
+
+returns-3 : tie.Need-returns-3 Inv-loop μ-loop
+returns-3 c = tt
 
 pub run-spec : {M : Type 1} → statement M
 run-spec =
@@ -69,19 +115,31 @@ run-spec =
     (tie.spec
     Inv-loop
     μ-loop
-    nothing-held-requires
+    no-root-requires
     loop-holds
     turn-requires
-    sub-turns
-    loop-less
-    loop-again
+    sub-put
+    part-put-start
+    part-put-end
+    put-requires
     same-length
     same-length-2
     same-length-3
     same-length-4
-    returns
     same-length-5
+    returns
+    sub-turns
+    loop-less
+    loop-again
     same-length-6
     same-length-7
     same-length-8
-    returns-2)
+    same-length-9
+    same-length-10
+    returns-2
+    same-length-11
+    same-length-12
+    same-length-13
+    same-length-14
+    same-length-15
+    returns-3)

@@ -1,32 +1,27 @@
 -- `made::altered_row` is safe and ends.
-use borrow.Author.Needs.{needs}
 use Prim.Native.Nat.{_-_}
+use lib.ListN.{length}
+use borrow.Author.Needs.{needs}
 use Rattle.cases.proofs.made.altered_row.Statement.{statement}
 use Rattle.cases.proofs.made.altered_row.Tie as tie
 
 abbrev Inv-loop : tie.InvT-loop
-Inv-loop a b n₀ i₀ n i = Unit
+Inv-loop row before n₀ i₀ n i = Unit
 
 abbrev μ-loop : tie.MeasureT-loop
-μ-loop a b n₀ i₀ n i = 16 - i
+μ-loop row before n₀ i₀ n i = length row - i
 
 loop-holds : tie.Need-loop-holds Inv-loop μ-loop
 loop-holds c = search needs
 
-mul-altered-party : tie.Need-mul-altered-party Inv-loop μ-loop
-mul-altered-party c = search needs
+mul-altered-record : tie.Need-mul-altered-record Inv-loop μ-loop
+mul-altered-record c = search needs
 
-array-copy-out-altered-party : tie.Need-array-copy-out-altered-party Inv-loop μ-loop
-array-copy-out-altered-party c = search needs
+shared-slice-copy-out-altered-record : tie.Need-shared-slice-copy-out-altered-record Inv-loop μ-loop
+shared-slice-copy-out-altered-record c = search needs
 
-mul-altered-party-2 : tie.Need-mul-altered-party-2 Inv-loop μ-loop
-mul-altered-party-2 c = search needs
-
-array-copy-out-altered-party-2 : tie.Need-array-copy-out-altered-party-2 Inv-loop μ-loop
-array-copy-out-altered-party-2 c = search needs
-
-altered-party-requires : tie.Need-altered-party-requires Inv-loop μ-loop
-altered-party-requires c κs = search needs
+altered-record-requires : tie.Need-altered-record-requires Inv-loop μ-loop
+altered-record-requires c κs = search needs
 
 add-requires : tie.Need-add-requires Inv-loop μ-loop
 add-requires c κs = search needs
@@ -50,11 +45,9 @@ altered-row-spec =
     Inv-loop
     μ-loop
     loop-holds
-    mul-altered-party
-    array-copy-out-altered-party
-    mul-altered-party-2
-    array-copy-out-altered-party-2
-    altered-party-requires
+    mul-altered-record
+    shared-slice-copy-out-altered-record
+    altered-record-requires
     add-requires
     add-i
     loop-less

@@ -1,0 +1,2 @@
+-- What a turn of the program turns says.
+pub mod Turned
