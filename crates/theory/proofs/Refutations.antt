@@ -8,6 +8,7 @@ pub mod Events
 pub mod Calls
 pub mod Singly
 pub mod Runs
+pub mod TwoCalls
 pub mod Reads
 pub mod Yardstick
 pub mod Orders

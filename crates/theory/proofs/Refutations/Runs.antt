@@ -1,8 +1,8 @@
 -- What is no call, no look, no way in and no run: each wrong claim beside the right one that differs from it in one
 -- place, on memory that has no words; and on reachable memory that no step which performs leaves all as it was.
 -- Main statements: step-made and step-wrong, begin-made and begin-wrong, withdraw-made and withdraw-wrong; look-made
--- and look-wrong; bare-shut (no way into a run); call-left-out, event-made-up; look-right and look-in-between
--- (looksRight); performed-altered.
+-- and look-wrong; bare-shut (no way into a run); call-left-out, event-made-up; look-right and
+-- look-in-between (looksRight); performed-altered.
 use mathlib.Core.Path.{_≡_, refl, sym, _∙_, ap}
 use mathlib.Core.Bool.{true, false, false≢true}
 use mathlib.Core.List.{List, [], _∷_}

@@ -1,6 +1,6 @@
 -- The yardstick on small files: where it splits and merges, and where it does not. All numbers are different, and n is
 -- neither N nor P where it goes ahead.
--- Main statements: needed-told; splits-below-P, splits-each, split-at-P, halves-part, split-too-few, split-enough;
+-- Main statements: starts-told, needed-told; splits-below-P, splits-each, split-at-P, halves-part, split-too-few, split-enough;
 -- grown-splits, not-grown, grown-skips, no-page-added, present-kept, added-behind; emptied-merges, not-emptied,
 -- merge-too-many, merge-at-N, merge-level, absent-left, no-page-removed, page-removed; found-told.
 use mathlib.Core.Path.{_≡_, refl, ap}
@@ -17,7 +17,7 @@ use Rattle.model.specs.declared.Restructuring.the-variants as Restructuring
 use Rattle.model.specs.Mixing.{mixed}
 use Rattle.model.specs.Answers.{foundOrAbsent}
 use Rattle.model.specs.Entries.{entryOf, hasKey, settingIn, insertedInto, removedFrom, joined}
-use Rattle.theory.specs.Sequential.{File, Finished, finishes, pagesNeeded, chainsAt, hashed, chainsIn, homeIn, recordsAt, withRecords, passing, pagesInUse, freeIn, shortOf, parted, splitFile, lastIn, targetIn, rejoined, mergeFile, findIn, added, insertIn, removed, deleteIn, performedOn}
+use Rattle.theory.specs.Sequential.{File, Finished, finishes, pagesNeeded, chainsAt, hashed, chainsIn, homeIn, recordsAt, withRecords, passing, pagesInUse, freeIn, shortOf, parted, splitFile, lastIn, targetIn, rejoined, mergeFile, findIn, added, insertIn, removed, deleteIn, performedOn, startFile}
 use Rattle.model.proofs.Refutations.Memories.{rootOf}
 use Rattle.theory.proofs.Refutations.Opened.{opened}
 
@@ -34,6 +34,11 @@ none n = replicate n []
 
 abbrev restructured : Finished → Restructuring
 restructured y = y .restructuring
+
+-- A file starts with N chains, not with P.
+pub starts-told : startFile (sizes 3) ≡ file 0 0 (none 2)
+unfolding opened
+starts-told = refl
 
 -- ---- Mixed keys, worked out once, together: the table is the same for all
 
