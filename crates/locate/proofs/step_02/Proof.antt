@@ -1,9 +1,10 @@
 -- `locate::step_02` meets its contract: two words of the record are written.
 use mathlib.Core.Path.{ap, _∙_}
-use lib.ListN.{length-set}
+use lib.ListN.{set, length-set}
 use Rattle.model.specs.declared.Party.{Party}
 use Rattle.model.specs.Records.{atStep}
 use Rattle.model.specs.Steps.Locate.{step02}
+use Rattle.records.specs.Words.{partyIn}
 use Rattle.records.proofs.Words.{lev-written, party-is}
 use borrow.Author.Needs.{needs}
 use Rattle.locate.proofs.step_02.Statement.{statement}
@@ -27,7 +28,8 @@ returns c =
     let start = at-at-step .before .before .before .before .before in
     let a = start .args in
     let written = lev-written (a .party .now) (a .root .level) (start .pre .words) in
-    party-is (at-at-step .at-step .ensures ∙ ap (λ (p : Party). atStep 3 p) written)
+    let stored = atStep 3 (partyIn (set (a .party .now) 3 (a .root .level))) in
+    party-is (_∙_ {b = stored} (at-at-step .at-step .ensures) (ap (λ (p : Party). atStep 3 p) written))
 
 pub step-02-spec : {M : Type 1} → statement M
 step-02-spec = tie.close (tie.spec slice-write-party at-step-requires same-length returns)
