@@ -1,6 +1,6 @@
 -- `chase::after_chase` meets its contract: Chasing has its three cases.
 use mathlib.Core.Path.{ap, _∙_}
-use lib.ListN.{length-set}
+use lib.ListN.{set, length-set}
 use Rattle.model.specs.declared.Party.{Party}
 use Rattle.model.specs.Records.{atStep}
 use Rattle.records.specs.Words.{partyIn}
@@ -49,7 +49,8 @@ returns c =
     let t = endedAt (a .t) in
     let p = partyIn (a .party .now) in
     let written = leaving-written (a .party .now) (t .lev) (t .chain) (p .chain) (start .pre) in
-    at-at-step .at-step .ensures ∙ ap (λ (x : Party). atStep 7 x) written ∙ leaving-follows t p (at-if1 .if1 .taken)
+    let stored = atStep 7 (partyIn (set (set (set (a .party .now) 3 (t .lev)) 4 (t .chain)) 5 (p .chain))) in
+    _∙_ {b = stored} (at-at-step .at-step .ensures) (ap (λ (x : Party). atStep 7 x) written ∙ leaving-follows t p (at-if1 .if1 .taken))
 
 same-length-2 : tie.Need-same-length-2
 same-length-2 c =
