@@ -2,7 +2,9 @@
 use mathlib.Core.Path.{_≡_}
 use Prim.Native.Nat.{_+_, _*_, _<_}
 use native.Mathlib.Omega.{arith}
+use lib.ListN.{getD}
 use Rattle.model.specs.Sizes.{pageWords, recordWords}
+use Rattle.model.specs.Pages.{pageOf}
 use Rattle.model.proofs.Laws.Pages.{word-at}
 use borrow.Author.Needs.{needs}
 use Rattle.find.proofs.setting_at.Statement.{statement}
@@ -39,7 +41,9 @@ returns c =
     let i = 3 + a .place * recordWords + 1 in
     let on-page : i < pageWords = omega (arith, start .pre .1) in
     let stands : a .p .0 * pageWords + 3 + a .place * recordWords + 1 ≡ a .p .0 * pageWords + i = omega arith in
-    rw stands (word-at (a .pages .now) (a .p .0) i on-page)
+    let word : getD (a .pages .now) (a .p .0 * pageWords + 3 + a .place * recordWords + 1) 0 ≡ getD (pageOf (a .pages .now) (a .p .0)) i 0
+    = rw stands (word-at (a .pages .now) (a .p .0) i on-page) in
+    word
 
 pub setting-at-spec : {M : Type 1} → statement M
 setting-at-spec =
