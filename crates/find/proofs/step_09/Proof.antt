@@ -7,9 +7,12 @@ use Prim.Native.Nat.{ℕ, _+_, _*_}
 use native.Mathlib.Omega.{arith}
 use lib.ListN.{getD}
 use borrow.Author.Tests.{lt-ltb, le-ltb, not-true, not-false}
+use Rattle.model.specs.declared.OperationAnswer.the-variants as OperationAnswer
 use Rattle.model.specs.Sizes.{mostRecords, recordWords}
 use Rattle.model.specs.Entries.{hasKey, settingIn}
 use Rattle.model.specs.Pages.{pageOf, linkOf, entriesOf, pageSound}
+use Rattle.model.specs.Ready.{viewing}
+use Rattle.model.specs.Steps.Find.{answered}
 use Rattle.records.specs.Words.{partyIn}
 use Rattle.model.proofs.Laws.Tests.{sound-named, sound-page-links, sound-page-counts}
 use Rattle.endings.proofs.Scratching.{ready-has-scratch}
@@ -134,7 +137,8 @@ returns-3 c =
     let sound : pageSound (a .root) s ≡ true = sym (at-page-sound .page-sound .ensures) ∙ not-false _ (at-if1 .if1 .left) in
     let missing : hasKey (p .key) (entriesOf s) ≡ false = at-place-of .place-of .ensures .has-key ∙ le-ltb place mostRecords (at-if2 .if2 .left) in
     let last : linkOf s ≡ 0 = sym (at-link-of .link-of .ensures) ∙ at-if3 .if3 .taken in
-    at-answered2 .answered2 .ensures ∙ no-link-absent (a .root) p (a .q) (a .locks .now) (a .pages .now) page sound missing last
+    let absent = answered (viewing (a .root) p (a .q) (a .locks .now) (a .pages .now)) OperationAnswer.Absent in
+    _∙_ {b = absent} (at-answered2 .answered2 .ensures) (no-link-absent (a .root) p (a .q) (a .locks .now) (a .pages .now) page sound missing last)
 
 looked-on-requires : tie.Need-looked-on-requires
 looked-on-requires c κs =
