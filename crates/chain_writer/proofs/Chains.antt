@@ -147,8 +147,9 @@ module _ (b : ℕ) (c : Planned) (l : ℕ) (rest : Rest) (ps : List ℕ) (can : 
       go : CanPlaceRest b (Chain d) l ps
       go = rw e at here
 
+  -- restWritten is open too: c's records are those of ps, not of what the rest leaves.
   pub last-written : (w qs : List ℕ) → w ≡ filledPage (c .level) (take (c .left) (chosenOf ps (c .source))) 0 → qs ≡ restWritten b ps rest l → withPage qs (c .to .0) w ≡ allWritten b c l rest ps
-  unfolding chainWritten overflowWritten primaryOf filled linkedPages linkToFirst
+  unfolding restWritten chainWritten overflowWritten primaryOf filled linkedPages linkToFirst
   last-written w qs page written =
       let es = chosenOf ps (c .source) in
       let all : take (c .left) es ≡ take b es = take-all (c .left) es (omega (arith, can .chain .many)) ∙ sym (take-all b es (omega (arith, can .chain .many, few))) in
