@@ -199,11 +199,9 @@ class Walk:
         self.line(f'land ! {HERE} {self.room(k, typed)} $')
 
     def free_locals(self):
-        for k in range(self.locals - 1, -1, -1):
-            if k in self.set:
-                self.line(f'forget ! {self.at(f"L{k}")} refl $')
-        self.front(*(e for k in range(self.locals) for e in (f'L{k}', f'D{k}')))
-        for _ in range(self.locals):
-            self.line('free1 ! $')
-            self.become(2, [])
-        self.line('free0 ! $')
+        """The locals, which end the context, are freed; what stands before them is left."""
+        n = self.entries.index(f'L{self.locals - 1}')
+        assert self.entries[n:] == [e for k in range(self.locals - 1, -1, -1) for e in (f'L{k}', f'D{k}')], 'the locals end the context'
+        held = ' ∷ '.join('occupied _' if k in self.set else 'vacant' for k in range(self.locals))
+        self.line(f'freed ! {n} ({held} ∷ []) tt refl $')
+        self.entries = self.entries[:n]

@@ -28,6 +28,7 @@ NAMES = [
                   'rewrite fsplit fsplit3 fjoin fjoin3 feqL feqI suffices frame await done'),
     ('types.Run', 'Below again loops look look-raw init store store-raw forget stop hop fld from load lit unit-lit true-lit addr of-opd un bin and-then no-more '
                   'assigns assigns-last land first blocks stays leaves-loop exec branches returns returns-within enter alloc1 alloc0 params1 pass1 pass0 free1 free0'),
+    ('Rattle.walks.proofs.Leaving', 'vacant occupied freed'),
     ('types.Part', 'agg whole sub look-in store-in'),
     ('types.Match', 'live vrt look-tag by-variants'),
     ('types.Tokens', 'lft-new lft-end'),

@@ -20,7 +20,8 @@ use ghost.Atoms.{Atoms, sem}
 use contract.Monad.{Fun, fact}
 use contract.Running.{givenOf, tables, tablesOf}
 use types.Kit.{Given, ‵, raw, some, later, _⊛_, ⋆, _$_, _∵_, !, qed, by, move, keep, drop, use0, use1, use2, split, join, pick, rewrite, fsplit, fjoin, feqL, suffices, frame, await, done}
-use types.Run.{look, init, forget, stop, hop, fld, from, load, lit, addr, of-opd, and-then, no-more, assigns, land, first, branches, returns-within, enter, alloc1, alloc0, params1, pass1, pass0, free1, free0}
+use types.Run.{look, init, stop, hop, fld, from, load, lit, addr, of-opd, and-then, no-more, assigns, land, first, branches, returns-within, enter, alloc1, alloc0, params1, pass1, pass0}
+use Rattle.walks.proofs.Leaving.{vacant, occupied, freed}
 use types.Part.{agg, whole, sub, look-in}
 use sound.WpLaws.{FmC, fmOf, WpFn-mono}
 use denote.RattleType.{owns}
@@ -324,36 +325,7 @@ module _ {M : Type 1} (𝓤 : URA M) (H : Heap 𝓤) (A : Atoms 𝓤) (W : Given
         rewrite ! 46 (λ (u : Val). ‵ (fat fullShare (tyInt w32) l₀ 0 u)) (ap only ((uint-tells w32) y _ iy)) refl $
         drop ! $
         returns-within ! Post refl (look ! 45 refl) $
-        forget ! 19 refl $
-        forget ! 21 refl $
-        forget ! 23 refl $
-        forget ! 25 refl $
-        forget ! 27 refl $
-        forget ! 29 refl $
-        forget ! 31 refl $
-        forget ! 33 refl $
-        forget ! 35 refl $
-        forget ! 37 refl $
-        forget ! 39 refl $
-        forget ! 41 refl $
-        forget ! 43 refl $
-        forget ! 45 refl $
-        move ! (45 ∷ 46 ∷ 43 ∷ 44 ∷ 41 ∷ 42 ∷ 39 ∷ 40 ∷ 37 ∷ 38 ∷ 35 ∷ 36 ∷ 33 ∷ 34 ∷ 31 ∷ 32 ∷ 29 ∷ 30 ∷ 27 ∷ 28 ∷ 25 ∷ 26 ∷ 23 ∷ 24 ∷ 21 ∷ 22 ∷ 19 ∷ 20 ∷ []) $
-        free1 ! $
-        free1 ! $
-        free1 ! $
-        free1 ! $
-        free1 ! $
-        free1 ! $
-        free1 ! $
-        free1 ! $
-        free1 ! $
-        free1 ! $
-        free1 ! $
-        free1 ! $
-        free1 ! $
-        free1 ! $
-        free0 ! $
+        freed ! 19 (occupied _ ∷ occupied _ ∷ occupied _ ∷ occupied _ ∷ occupied _ ∷ occupied _ ∷ occupied _ ∷ occupied _ ∷ occupied _ ∷ occupied _ ∷ occupied _ ∷ occupied _ ∷ occupied _ ∷ occupied _ ∷ []) tt refl $
         keep ! (6 ∷ 5 ∷ 4 ∷ 2 ∷ 12 ∷ 7 ∷ 11 ∷ 10 ∷ []) $
         by ! (exits (zs .1 .0) y e₁ (subst (Is u32 y) (uint-tells w32 y _ iy) iy) (begun-by-number (lent h ps ls gs) i n key setting t told may o is-named x y _ is-number said)))))))))))))))))))
         (λ refused.
@@ -365,32 +337,7 @@ module _ {M : Type 1} (𝓤 : URA M) (H : Heap 𝓤) (A : Atoms 𝓤) (W : Given
         fsplit ! $
         use1 W (‵ (fres γ₁ (codedHoleys P.the-row .code (heres P.the-row ps)))) (W .names .obs-res γ₁ (codedHoleys P.the-row .code (heres P.the-row ps))) $ use1 W (‵ (finally P.the-row γ₁ ps)) (res-finally 𝓤 H A W (named 1) κ₁ P.the-row γ₁ ps) $
         returns-within ! Post refl (look ! 39 refl) $
-        forget ! 19 refl $
-        forget ! 23 refl $
-        forget ! 25 refl $
-        forget ! 27 refl $
-        forget ! 29 refl $
-        forget ! 31 refl $
-        forget ! 33 refl $
-        forget ! 35 refl $
-        forget ! 37 refl $
-        forget ! 39 refl $
-        move ! (39 ∷ 40 ∷ 37 ∷ 38 ∷ 35 ∷ 36 ∷ 33 ∷ 34 ∷ 31 ∷ 32 ∷ 29 ∷ 30 ∷ 27 ∷ 28 ∷ 25 ∷ 26 ∷ 23 ∷ 24 ∷ 21 ∷ 22 ∷ 19 ∷ 20 ∷ 17 ∷ 18 ∷ 15 ∷ 16 ∷ 13 ∷ 14 ∷ []) $
-        free1 ! $
-        free1 ! $
-        free1 ! $
-        free1 ! $
-        free1 ! $
-        free1 ! $
-        free1 ! $
-        free1 ! $
-        free1 ! $
-        free1 ! $
-        free1 ! $
-        free1 ! $
-        free1 ! $
-        free1 ! $
-        free0 ! $
+        freed ! 13 (occupied _ ∷ occupied _ ∷ occupied _ ∷ occupied _ ∷ occupied _ ∷ occupied _ ∷ occupied _ ∷ occupied _ ∷ occupied _ ∷ vacant ∷ occupied _ ∷ vacant ∷ vacant ∷ vacant ∷ []) tt refl $
         keep ! (12 ∷ 11 ∷ 10 ∷ 8 ∷ 7 ∷ 0 ∷ 6 ∷ 4 ∷ []) $
         by ! (exits ps 255 refl (refl, lit< tt) (no-operation (lent h ps ls gs) i n key setting t told refused))))))))))))))))))))))
 

@@ -17,7 +17,8 @@ use ghost.Atoms.{Atoms, sem}
 use contract.Monad.{Fun, fact}
 use contract.Running.{givenOf, tables, tablesOf}
 use types.Kit.{Given, ‵, raw, some, later, _⊛_, ⋆, _$_, _∵_, !, qed, by, move, keep, drop, use0, use1, use2, split, join, pick, rewrite, fsplit, fjoin, feqL, suffices, frame, await, done}
-use types.Run.{look, init, forget, stop, hop, fld, from, load, addr, and-then, no-more, assigns, land, returns, enter, alloc1, alloc0, params1, pass1, pass0, free1, free0}
+use types.Run.{look, init, stop, hop, fld, from, load, addr, and-then, no-more, assigns, land, returns, enter, alloc1, alloc0, params1, pass1, pass0}
+use Rattle.walks.proofs.Leaving.{occupied, freed}
 use types.Part.{agg, whole, sub, look-in}
 use sound.WpLaws.{FmC, fmOf, WpFn-mono}
 use denote.RattleType.{owns}
@@ -292,46 +293,7 @@ module _ {M : Type 1} (𝓤 : URA M) (H : Heap 𝓤) (A : Atoms 𝓤) (W : Given
         rewrite ! 53 (λ (u : Val). ‵ (fat fullShare (tyInt w32) l₀ 0 u)) (ap only ((uint-tells w32) y _ iy)) refl $
         drop ! $
         returns ! (look ! 52 refl) $
-        forget ! 16 refl $
-        forget ! 18 refl $
-        forget ! 20 refl $
-        forget ! 22 refl $
-        forget ! 24 refl $
-        forget ! 26 refl $
-        forget ! 28 refl $
-        forget ! 30 refl $
-        forget ! 32 refl $
-        forget ! 34 refl $
-        forget ! 36 refl $
-        forget ! 38 refl $
-        forget ! 40 refl $
-        forget ! 42 refl $
-        forget ! 44 refl $
-        forget ! 46 refl $
-        forget ! 48 refl $
-        forget ! 50 refl $
-        forget ! 52 refl $
-        move ! (52 ∷ 53 ∷ 50 ∷ 51 ∷ 48 ∷ 49 ∷ 46 ∷ 47 ∷ 44 ∷ 45 ∷ 42 ∷ 43 ∷ 40 ∷ 41 ∷ 38 ∷ 39 ∷ 36 ∷ 37 ∷ 34 ∷ 35 ∷ 32 ∷ 33 ∷ 30 ∷ 31 ∷ 28 ∷ 29 ∷ 26 ∷ 27 ∷ 24 ∷ 25 ∷ 22 ∷ 23 ∷ 20 ∷ 21 ∷ 18 ∷ 19 ∷ 16 ∷ 17 ∷ []) $
-        free1 ! $
-        free1 ! $
-        free1 ! $
-        free1 ! $
-        free1 ! $
-        free1 ! $
-        free1 ! $
-        free1 ! $
-        free1 ! $
-        free1 ! $
-        free1 ! $
-        free1 ! $
-        free1 ! $
-        free1 ! $
-        free1 ! $
-        free1 ! $
-        free1 ! $
-        free1 ! $
-        free1 ! $
-        free0 ! $
+        freed ! 16 (occupied _ ∷ occupied _ ∷ occupied _ ∷ occupied _ ∷ occupied _ ∷ occupied _ ∷ occupied _ ∷ occupied _ ∷ occupied _ ∷ occupied _ ∷ occupied _ ∷ occupied _ ∷ occupied _ ∷ occupied _ ∷ occupied _ ∷ occupied _ ∷ occupied _ ∷ occupied _ ∷ occupied _ ∷ []) tt refl $
         keep ! (6 ∷ 5 ∷ 4 ∷ 2 ∷ 11 ∷ 9 ∷ 8 ∷ 7 ∷ []) $
         by ! (exits (zs .0) (zs .1 .0) (zs .1 .1 .0) (zs .1 .1 .1 .0) y e₁ e₂ e₃ (subst (Is u32 y) (uint-tells w32 y _ iy) iy) (formatted-by-numbers (lent h ps ls gs) n b p v q z are-sizes x y _ is-number said)))))))))))))))))))))))))))))))))))))))
 

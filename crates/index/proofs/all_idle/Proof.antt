@@ -24,7 +24,8 @@ use ghost.Atoms.{Atoms}
 use contract.Monad.{Fun, fact}
 use contract.Running.{givenOf, tables, tablesOf}
 use types.Kit.{Given, Item, Sq, runs, anyQ, atRet, ‵, raw, some, later, _⊛_, ⋆, _$_, _∵_, !, qed, by, move, keep, drop, use0, use1, split, join, pick, rewrite, fsplit, fjoin, suffices, frame, await, done}
-use types.Run.{Below, again, loops, look, look-raw, init, store, forget, stop, hop, fld, from, load, lit, true-lit, of-opd, bin, and-then, no-more, assigns, assigns-last, land, first, blocks, stays, leaves-loop, exec, returns, enter, alloc1, alloc0, params1, pass1, pass0, free1, free0}
+use types.Run.{Below, again, loops, look, look-raw, init, store, forget, stop, hop, fld, from, load, lit, true-lit, of-opd, bin, and-then, no-more, assigns, assigns-last, land, first, blocks, stays, leaves-loop, exec, returns, enter, alloc1, alloc0, params1, pass1, pass0}
+use Rattle.walks.proofs.Leaving.{vacant, occupied, freed}
 use types.Part.{whole, sub, look-in}
 use sound.WpLaws.{FmC, fmOf, WpFn-mono}
 use denote.RattleType.{owns}
@@ -219,22 +220,7 @@ module _ {M : Type 1} (𝓤 : URA M) (H : Heap 𝓤) (A : Atoms 𝓤) (W : Given
           leaves-loop ! (load ! (from ! (stop !)) (look ! 6 refl)) $ exec ! C Λ En code-mir.t-4 (atRet En Post) $
           assigns ! (of-opd ! (load ! (from ! (stop !)) (look ! 12 refl))) (from ! (stop !)) (init ! 16 refl (tt, tt)) $
           returns ! (look ! 16 refl) $
-          forget ! 6 refl $
-          forget ! 8 refl $
-          forget ! 10 refl $
-          forget ! 12 refl $
-          forget ! 14 refl $
-          forget ! 16 refl $
-          move ! (16 ∷ 17 ∷ 14 ∷ 15 ∷ 12 ∷ 13 ∷ 10 ∷ 11 ∷ 8 ∷ 9 ∷ 6 ∷ 7 ∷ 4 ∷ 5 ∷ 2 ∷ 3 ∷ []) $
-          free1 ! $
-          free1 ! $
-          free1 ! $
-          free1 ! $
-          free1 ! $
-          free1 ! $
-          free1 ! $
-          free1 ! $
-          free0 ! $
+          freed ! 2 (occupied _ ∷ occupied _ ∷ occupied _ ∷ occupied _ ∷ occupied _ ∷ occupied _ ∷ vacant ∷ vacant ∷ []) tt refl $
           keep ! (0 ∷ 1 ∷ []) $
           by ! (exits (i .idle) refl (idle-all ps (i .at) (i .idle) (nltb→le (i .at) n over) (i .seen))))
         where

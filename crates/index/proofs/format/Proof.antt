@@ -20,7 +20,8 @@ use ghost.Atoms.{Atoms, sem}
 use contract.Monad.{Fun, fact}
 use contract.Running.{givenOf, tables, tablesOf}
 use types.Kit.{Given, ‵, raw, some, later, _⊛_, ⋆, _$_, _∵_, !, qed, by, move, keep, drop, use0, use1, use2, split, join, pick, rewrite, fsplit, fsplit3, fjoin, fjoin3, feqL, feqI, suffices, frame, await, done}
-use types.Run.{look, look-raw, init, store-raw, forget, stop, hop, fld, from, load, addr, of-opd, and-then, no-more, assigns, land, first, branches, returns-within, enter, alloc1, alloc0, params1, pass1, pass0, free1, free0}
+use types.Run.{look, look-raw, init, store-raw, stop, hop, fld, from, load, addr, of-opd, and-then, no-more, assigns, land, first, branches, returns-within, enter, alloc1, alloc0, params1, pass1, pass0}
+use Rattle.walks.proofs.Leaving.{vacant, occupied, freed}
 use types.Part.{agg, whole, sub, look-in}
 use types.SemTy.{Body}
 use sound.WpLaws.{FmC, fmOf, WpFn-mono}
@@ -350,44 +351,7 @@ module _ {M : Type 1} (𝓤 : URA M) (H : Heap 𝓤) (A : Atoms 𝓤) (W : Given
         drop ! $
         assigns ! (of-opd ! (load ! (from ! (fld ! refl (stop !))) (look-in ! 42 (sub ! 1 refl (whole !))))) (from ! (stop !)) (init ! 56 refl (EL.lawful F.the-type F′.the-laws 𝓤 H A W tt .typed (x .answer) _ (X-answer x ix) .0)) $
         returns-within ! Post refl (look ! 56 refl) $
-        forget ! 22 refl $
-        forget ! 24 refl $
-        forget ! 26 refl $
-        forget ! 28 refl $
-        forget ! 30 refl $
-        forget ! 32 refl $
-        forget ! 34 refl $
-        forget ! 36 refl $
-        forget ! 38 refl $
-        forget ! 40 refl $
-        forget ! 42 refl $
-        forget ! 44 refl $
-        forget ! 46 refl $
-        forget ! 48 refl $
-        forget ! 50 refl $
-        forget ! 52 refl $
-        forget ! 54 refl $
-        forget ! 56 refl $
-        move ! (56 ∷ 57 ∷ 54 ∷ 55 ∷ 52 ∷ 53 ∷ 50 ∷ 51 ∷ 48 ∷ 49 ∷ 46 ∷ 47 ∷ 44 ∷ 45 ∷ 42 ∷ 43 ∷ 40 ∷ 41 ∷ 38 ∷ 39 ∷ 36 ∷ 37 ∷ 34 ∷ 35 ∷ 32 ∷ 33 ∷ 30 ∷ 31 ∷ 28 ∷ 29 ∷ 26 ∷ 27 ∷ 24 ∷ 25 ∷ 22 ∷ 23 ∷ []) $
-        free1 ! $
-        free1 ! $
-        free1 ! $
-        free1 ! $
-        free1 ! $
-        free1 ! $
-        free1 ! $
-        free1 ! $
-        free1 ! $
-        free1 ! $
-        free1 ! $
-        free1 ! $
-        free1 ! $
-        free1 ! $
-        free1 ! $
-        free1 ! $
-        free1 ! $
-        free1 ! $
-        free0 ! $
+        freed ! 22 (occupied _ ∷ occupied _ ∷ occupied _ ∷ occupied _ ∷ occupied _ ∷ occupied _ ∷ occupied _ ∷ occupied _ ∷ occupied _ ∷ occupied _ ∷ occupied _ ∷ occupied _ ∷ occupied _ ∷ occupied _ ∷ occupied _ ∷ occupied _ ∷ occupied _ ∷ occupied _ ∷ []) tt refl $
         keep ! (10 ∷ 0 ∷ 13 ∷ 11 ∷ 8 ∷ 9 ∷ 2 ∷ 15 ∷ 14 ∷ []) $
         by ! (exits (x .root) (ws .0) (zs .1 .1 .1 .0) (zs .1 .1 .1 .1 .0) (x .answer) e₁ e₂ e₃ (X-answer x ix) (format-made h ps ls gs z x _ _ t told made (ws .0) p₀ is-idle all said))))))))))))))
         (λ refused.
@@ -399,40 +363,7 @@ module _ {M : Type 1} (𝓤 : URA M) (H : Heap 𝓤) (A : Atoms 𝓤) (W : Given
         fsplit ! $
         use1 W (‵ (fres γ₁ (codedHoleys P.the-row .code (heres P.the-row ps)))) (W .names .obs-res γ₁ (codedHoleys P.the-row .code (heres P.the-row ps))) $ use1 W (‵ (finally P.the-row γ₁ ps)) (res-finally 𝓤 H A W (named 1) κ₁ P.the-row γ₁ ps) $
         returns-within ! Post refl (look ! 53 refl) $
-        forget ! 27 refl $
-        forget ! 29 refl $
-        forget ! 31 refl $
-        forget ! 33 refl $
-        forget ! 35 refl $
-        forget ! 37 refl $
-        forget ! 39 refl $
-        forget ! 41 refl $
-        forget ! 43 refl $
-        forget ! 45 refl $
-        forget ! 47 refl $
-        forget ! 49 refl $
-        forget ! 51 refl $
-        forget ! 53 refl $
-        move ! (53 ∷ 54 ∷ 51 ∷ 52 ∷ 49 ∷ 50 ∷ 47 ∷ 48 ∷ 45 ∷ 46 ∷ 43 ∷ 44 ∷ 41 ∷ 42 ∷ 39 ∷ 40 ∷ 37 ∷ 38 ∷ 35 ∷ 36 ∷ 33 ∷ 34 ∷ 31 ∷ 32 ∷ 29 ∷ 30 ∷ 27 ∷ 28 ∷ 25 ∷ 26 ∷ 23 ∷ 24 ∷ 21 ∷ 22 ∷ 19 ∷ 20 ∷ []) $
-        free1 ! $
-        free1 ! $
-        free1 ! $
-        free1 ! $
-        free1 ! $
-        free1 ! $
-        free1 ! $
-        free1 ! $
-        free1 ! $
-        free1 ! $
-        free1 ! $
-        free1 ! $
-        free1 ! $
-        free1 ! $
-        free1 ! $
-        free1 ! $
-        free1 ! $
-        free1 ! $
-        free0 ! $
+        freed ! 19 (occupied _ ∷ occupied _ ∷ occupied _ ∷ occupied _ ∷ occupied _ ∷ occupied _ ∷ occupied _ ∷ occupied _ ∷ occupied _ ∷ occupied _ ∷ occupied _ ∷ occupied _ ∷ occupied _ ∷ occupied _ ∷ vacant ∷ vacant ∷ vacant ∷ vacant ∷ []) tt refl $
         keep ! (6 ∷ 18 ∷ 9 ∷ 7 ∷ 4 ∷ 5 ∷ 0 ∷ 11 ∷ 10 ∷ []) $
         by ! (exits (x .root) ps (zs .1 .1 .1 .0) (zs .1 .1 .1 .1 .0) (x .answer) refl e₂ e₃ (X-answer x ix) (format-refused h ps ls gs z x _ _ t told refused said)))))))))))))))))))))))))))))))))))
 

@@ -21,7 +21,8 @@ use ghost.Atoms.{Atoms, sem}
 use contract.Monad.{Fun, fact}
 use contract.Running.{givenOf, tables, tablesOf}
 use types.Kit.{Given, ‵, raw, some, later, _⊛_, ⋆, _$_, _∵_, !, qed, by, move, keep, drop, use0, use1, use2, split, join, pick, rewrite, fsplit, fsplit3, fjoin, fjoin3, feqL, feqI, suffices, frame, await, done}
-use types.Run.{look, look-raw, init, store, forget, stop, hop, fld, from, load, lit, addr, of-opd, un, bin, and-then, no-more, assigns, land, first, branches, returns-within, enter, alloc1, alloc0, params1, pass1, pass0, free1, free0}
+use types.Run.{look, look-raw, init, store, stop, hop, fld, from, load, lit, addr, of-opd, un, bin, and-then, no-more, assigns, land, first, branches, returns-within, enter, alloc1, alloc0, params1, pass1, pass0}
+use Rattle.walks.proofs.Leaving.{vacant, occupied, freed}
 use types.Part.{agg, whole, sub, look-in}
 use sound.WpLaws.{FmC, fmOf, WpFn-mono}
 use denote.RattleType.{owns}
@@ -408,59 +409,7 @@ module _ {M : Type 1} (𝓤 : URA M) (H : Heap 𝓤) (A : Atoms 𝓤) (W : Given
         drop ! $
         assigns ! (of-opd ! (load ! (from ! (fld ! refl (stop !))) (look-in ! 56 (sub ! 2 refl (whole !))))) (from ! (stop !)) (init ! 74 refl (EL.lawful N.the-type N′.the-laws 𝓤 H A W tt .typed (x .answer) _ (X-answer x ix) .0)) $
         returns-within ! Post refl (look ! 74 refl) $
-        forget ! 28 refl $
-        forget ! 30 refl $
-        forget ! 32 refl $
-        forget ! 34 refl $
-        forget ! 36 refl $
-        forget ! 38 refl $
-        forget ! 40 refl $
-        forget ! 42 refl $
-        forget ! 44 refl $
-        forget ! 46 refl $
-        forget ! 48 refl $
-        forget ! 50 refl $
-        forget ! 52 refl $
-        forget ! 54 refl $
-        forget ! 56 refl $
-        forget ! 58 refl $
-        forget ! 60 refl $
-        forget ! 62 refl $
-        forget ! 64 refl $
-        forget ! 66 refl $
-        forget ! 68 refl $
-        forget ! 70 refl $
-        forget ! 72 refl $
-        forget ! 74 refl $
-        move ! (74 ∷ 75 ∷ 72 ∷ 73 ∷ 70 ∷ 71 ∷ 68 ∷ 69 ∷ 66 ∷ 67 ∷ 64 ∷ 65 ∷ 62 ∷ 63 ∷ 60 ∷ 61 ∷ 58 ∷ 59 ∷ 56 ∷ 57 ∷ 54 ∷ 55 ∷ 52 ∷ 53 ∷ 50 ∷ 51 ∷ 48 ∷ 49 ∷ 46 ∷ 47 ∷ 44 ∷ 45 ∷ 42 ∷ 43 ∷ 40 ∷ 41 ∷ 38 ∷ 39 ∷ 36 ∷ 37 ∷ 34 ∷ 35 ∷ 32 ∷ 33 ∷ 30 ∷ 31 ∷ 28 ∷ 29 ∷ 26 ∷ 27 ∷ 24 ∷ 25 ∷ 22 ∷ 23 ∷ []) $
-        free1 ! $
-        free1 ! $
-        free1 ! $
-        free1 ! $
-        free1 ! $
-        free1 ! $
-        free1 ! $
-        free1 ! $
-        free1 ! $
-        free1 ! $
-        free1 ! $
-        free1 ! $
-        free1 ! $
-        free1 ! $
-        free1 ! $
-        free1 ! $
-        free1 ! $
-        free1 ! $
-        free1 ! $
-        free1 ! $
-        free1 ! $
-        free1 ! $
-        free1 ! $
-        free1 ! $
-        free1 ! $
-        free1 ! $
-        free1 ! $
-        free0 ! $
+        freed ! 22 (occupied _ ∷ occupied _ ∷ occupied _ ∷ occupied _ ∷ occupied _ ∷ occupied _ ∷ occupied _ ∷ occupied _ ∷ occupied _ ∷ occupied _ ∷ occupied _ ∷ occupied _ ∷ occupied _ ∷ occupied _ ∷ occupied _ ∷ occupied _ ∷ occupied _ ∷ occupied _ ∷ occupied _ ∷ occupied _ ∷ occupied _ ∷ occupied _ ∷ occupied _ ∷ occupied _ ∷ vacant ∷ vacant ∷ vacant ∷ []) tt refl $
         keep ! (4 ∷ 0 ∷ 12 ∷ 10 ∷ 6 ∷ 2 ∷ 14 ∷ 13 ∷ []) $
         by ! (exits (us .0) (vs′ .0) (zs .1 .1 .1 .1 .0) (zs .1 .1 .1 .1 .1 .0) (x .answer) e₁ e₂ e₃ (X-answer x ix) (step-stored h ps ls gs i (ltb→lt i (length ps) may) x _ _ said m told _ _ root-said row-said)))))))))))))))))))))))))))
         (λ past.
@@ -501,48 +450,7 @@ module _ {M : Type 1} (𝓤 : URA M) (H : Heap 𝓤) (A : Atoms 𝓤) (W : Given
         fsplit ! $
         use1 W (‵ (fres γ₃ (codedHoleys u32 .code (heres u32 gs)))) (W .names .obs-res γ₃ (codedHoleys u32 .code (heres u32 gs))) $ use1 W (‵ (finally u32 γ₃ gs)) (res-finally 𝓤 H A W (named 3) κ₃ u32 γ₃ gs) $
         returns-within ! Post refl (look ! 68 refl) $
-        forget ! 16 refl $
-        forget ! 18 refl $
-        forget ! 20 refl $
-        forget ! 44 refl $
-        forget ! 46 refl $
-        forget ! 54 refl $
-        forget ! 56 refl $
-        forget ! 58 refl $
-        forget ! 60 refl $
-        forget ! 62 refl $
-        forget ! 64 refl $
-        forget ! 66 refl $
-        forget ! 68 refl $
-        move ! (68 ∷ 69 ∷ 66 ∷ 67 ∷ 64 ∷ 65 ∷ 62 ∷ 63 ∷ 60 ∷ 61 ∷ 58 ∷ 59 ∷ 56 ∷ 57 ∷ 54 ∷ 55 ∷ 52 ∷ 53 ∷ 50 ∷ 51 ∷ 48 ∷ 49 ∷ 46 ∷ 47 ∷ 44 ∷ 45 ∷ 42 ∷ 43 ∷ 40 ∷ 41 ∷ 38 ∷ 39 ∷ 36 ∷ 37 ∷ 34 ∷ 35 ∷ 32 ∷ 33 ∷ 30 ∷ 31 ∷ 28 ∷ 29 ∷ 26 ∷ 27 ∷ 24 ∷ 25 ∷ 22 ∷ 23 ∷ 20 ∷ 21 ∷ 18 ∷ 19 ∷ 16 ∷ 17 ∷ []) $
-        free1 ! $
-        free1 ! $
-        free1 ! $
-        free1 ! $
-        free1 ! $
-        free1 ! $
-        free1 ! $
-        free1 ! $
-        free1 ! $
-        free1 ! $
-        free1 ! $
-        free1 ! $
-        free1 ! $
-        free1 ! $
-        free1 ! $
-        free1 ! $
-        free1 ! $
-        free1 ! $
-        free1 ! $
-        free1 ! $
-        free1 ! $
-        free1 ! $
-        free1 ! $
-        free1 ! $
-        free1 ! $
-        free1 ! $
-        free1 ! $
-        free0 ! $
+        freed ! 16 (occupied _ ∷ occupied _ ∷ occupied _ ∷ occupied _ ∷ occupied _ ∷ occupied _ ∷ occupied _ ∷ occupied _ ∷ vacant ∷ vacant ∷ vacant ∷ occupied _ ∷ occupied _ ∷ vacant ∷ vacant ∷ vacant ∷ vacant ∷ vacant ∷ vacant ∷ vacant ∷ vacant ∷ vacant ∷ vacant ∷ vacant ∷ occupied _ ∷ occupied _ ∷ occupied _ ∷ []) tt refl $
         keep ! (10 ∷ 15 ∷ 14 ∷ 12 ∷ 8 ∷ 4 ∷ 2 ∷ 0 ∷ []) $
         by ! (exits h ps ls gs x refl refl refl (subst (Is N.the-row x) (N′.lowers .val-is x _ ix) ix) (step-past h ps ls gs i x (nltb→le i (length ps) past) said)))))))))))))))))))))))))))))))))))))
 

@@ -18,7 +18,8 @@ use ghost.Atoms.{Atoms, sem}
 use contract.Monad.{Fun, fact}
 use contract.Running.{givenOf, tables, tablesOf}
 use types.Kit.{Given, ‵, raw, some, later, _⊛_, ⋆, _$_, _∵_, !, qed, by, move, keep, drop, use1, use2, split, join, pick, rewrite, fsplit, fsplit3, fjoin, suffices, frame, await, done}
-use types.Run.{look, look-raw, init, forget, stop, hop, fld, from, load, of-opd, and-then, no-more, assigns, land, returns, enter, alloc1, alloc0, params1, pass1, pass0, free1, free0}
+use types.Run.{look, look-raw, init, stop, hop, fld, from, load, of-opd, and-then, no-more, assigns, land, returns, enter, alloc1, alloc0, params1, pass1, pass0}
+use Rattle.walks.proofs.Leaving.{occupied, freed}
 use types.Part.{whole, sub, look-in}
 use sound.WpLaws.{FmC, fmOf, WpFn-mono}
 use denote.RattleType.{owns}
@@ -238,24 +239,7 @@ module _ {M : Type 1} (𝓤 : URA M) (H : Heap 𝓤) (A : Atoms 𝓤) (W : Given
         rewrite ! 31 (λ (u : Val). ‵ (fat fullShare U′.mir l₀ 0 u)) (ap only ((U′.lowers .val-is) x _ ix)) refl $
         drop ! $
         returns ! (look ! 30 refl) $
-        forget ! 16 refl $
-        forget ! 18 refl $
-        forget ! 20 refl $
-        forget ! 22 refl $
-        forget ! 24 refl $
-        forget ! 26 refl $
-        forget ! 28 refl $
-        forget ! 30 refl $
-        move ! (30 ∷ 31 ∷ 28 ∷ 29 ∷ 26 ∷ 27 ∷ 24 ∷ 25 ∷ 22 ∷ 23 ∷ 20 ∷ 21 ∷ 18 ∷ 19 ∷ 16 ∷ 17 ∷ []) $
-        free1 ! $
-        free1 ! $
-        free1 ! $
-        free1 ! $
-        free1 ! $
-        free1 ! $
-        free1 ! $
-        free1 ! $
-        free0 ! $
+        freed ! 16 (occupied _ ∷ occupied _ ∷ occupied _ ∷ occupied _ ∷ occupied _ ∷ occupied _ ∷ occupied _ ∷ occupied _ ∷ []) tt refl $
         keep ! (10 ∷ 6 ∷ 2 ∷ 0 ∷ 13 ∷ 9 ∷ 5 ∷ 4 ∷ []) $
         by ! (exits x (subst (Is U.the-row x) (U′.lowers .val-is x _ ix) ix) (taken-up h ps ls gs t x told said))))))))))))))))))))))
 

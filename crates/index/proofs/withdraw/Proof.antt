@@ -21,7 +21,8 @@ use ghost.Atoms.{Atoms, sem}
 use contract.Monad.{Fun, fact}
 use contract.Running.{givenOf, tables, tablesOf}
 use types.Kit.{Given, ‵, raw, some, later, _⊛_, ⋆, _$_, _∵_, !, qed, by, move, keep, drop, use0, use1, use2, split, join, pick, rewrite, fsplit, fsplit3, fjoin, fjoin3, feqL, feqI, suffices, frame, await, done}
-use types.Run.{look, look-raw, init, store, store-raw, forget, stop, hop, fld, from, load, lit, addr, of-opd, un, bin, and-then, no-more, assigns, land, first, branches, returns-within, enter, alloc1, alloc0, params1, pass1, pass0, free1, free0}
+use types.Run.{look, look-raw, init, store, store-raw, stop, hop, fld, from, load, lit, addr, of-opd, un, bin, and-then, no-more, assigns, land, first, branches, returns-within, enter, alloc1, alloc0, params1, pass1, pass0}
+use Rattle.walks.proofs.Leaving.{vacant, occupied, freed}
 use types.Part.{agg, whole, sub, look-in}
 use types.SemTy.{Body}
 use sound.WpLaws.{FmC, fmOf, WpFn-mono}
@@ -289,51 +290,7 @@ module _ {M : Type 1} (𝓤 : URA M) (H : Heap 𝓤) (A : Atoms 𝓤) (W : Given
         closes-slice ! tt P.the-row ps (set ps i (x .party)) (length-set ps i (x .party)) b₁ o₁ $
         assigns ! (of-opd ! (load ! (from ! (fld ! refl (stop !))) (look-in ! 46 (sub ! 2 refl (whole !))))) (from ! (stop !)) (init ! 62 refl (EL.lawful G.the-type G′.the-laws 𝓤 H A W tt .typed (x .answer) _ (X-answer x ix) .0)) $
         returns-within ! Post refl (look ! 62 refl) $
-        forget ! 24 refl $
-        forget ! 26 refl $
-        forget ! 28 refl $
-        forget ! 30 refl $
-        forget ! 32 refl $
-        forget ! 34 refl $
-        forget ! 36 refl $
-        forget ! 38 refl $
-        forget ! 40 refl $
-        forget ! 42 refl $
-        forget ! 44 refl $
-        forget ! 46 refl $
-        forget ! 48 refl $
-        forget ! 50 refl $
-        forget ! 52 refl $
-        forget ! 54 refl $
-        forget ! 56 refl $
-        forget ! 58 refl $
-        forget ! 60 refl $
-        forget ! 62 refl $
-        move ! (62 ∷ 63 ∷ 60 ∷ 61 ∷ 58 ∷ 59 ∷ 56 ∷ 57 ∷ 54 ∷ 55 ∷ 52 ∷ 53 ∷ 50 ∷ 51 ∷ 48 ∷ 49 ∷ 46 ∷ 47 ∷ 44 ∷ 45 ∷ 42 ∷ 43 ∷ 40 ∷ 41 ∷ 38 ∷ 39 ∷ 36 ∷ 37 ∷ 34 ∷ 35 ∷ 32 ∷ 33 ∷ 30 ∷ 31 ∷ 28 ∷ 29 ∷ 26 ∷ 27 ∷ 24 ∷ 25 ∷ 22 ∷ 23 ∷ 20 ∷ 21 ∷ 18 ∷ 19 ∷ []) $
-        free1 ! $
-        free1 ! $
-        free1 ! $
-        free1 ! $
-        free1 ! $
-        free1 ! $
-        free1 ! $
-        free1 ! $
-        free1 ! $
-        free1 ! $
-        free1 ! $
-        free1 ! $
-        free1 ! $
-        free1 ! $
-        free1 ! $
-        free1 ! $
-        free1 ! $
-        free1 ! $
-        free1 ! $
-        free1 ! $
-        free1 ! $
-        free1 ! $
-        free1 ! $
-        free0 ! $
+        freed ! 18 (occupied _ ∷ occupied _ ∷ occupied _ ∷ occupied _ ∷ occupied _ ∷ occupied _ ∷ occupied _ ∷ occupied _ ∷ occupied _ ∷ occupied _ ∷ occupied _ ∷ occupied _ ∷ occupied _ ∷ occupied _ ∷ occupied _ ∷ occupied _ ∷ occupied _ ∷ occupied _ ∷ occupied _ ∷ occupied _ ∷ vacant ∷ vacant ∷ vacant ∷ []) tt refl $
         keep ! (5 ∷ 2 ∷ 8 ∷ 6 ∷ 3 ∷ 4 ∷ 0 ∷ 1 ∷ 10 ∷ 9 ∷ []) $
         by ! (exits (x .root) (set ps i (x .party)) (zs .1 .1 .1 .1 .0) (zs .1 .1 .1 .1 .1 .0) (x .answer) (length-set ps i (x .party)) e₂ e₃ (X-answer x ix) (withdraw-inside h ps ls gs i x _ _ said)))))))))))
         (λ past.
@@ -370,44 +327,7 @@ module _ {M : Type 1} (𝓤 : URA M) (H : Heap 𝓤) (A : Atoms 𝓤) (W : Given
         fsplit ! $
         use1 W (‵ (fres γ₃ (codedHoleys u32 .code (heres u32 gs)))) (W .names .obs-res γ₃ (codedHoleys u32 .code (heres u32 gs))) $ use1 W (‵ (finally u32 γ₃ gs)) (res-finally 𝓤 H A W (named 3) κ₃ u32 γ₃ gs) $
         returns-within ! Post refl (look ! 60 refl) $
-        forget ! 16 refl $
-        forget ! 18 refl $
-        forget ! 20 refl $
-        forget ! 40 refl $
-        forget ! 42 refl $
-        forget ! 46 refl $
-        forget ! 48 refl $
-        forget ! 50 refl $
-        forget ! 52 refl $
-        forget ! 54 refl $
-        forget ! 56 refl $
-        forget ! 58 refl $
-        forget ! 60 refl $
-        move ! (60 ∷ 61 ∷ 58 ∷ 59 ∷ 56 ∷ 57 ∷ 54 ∷ 55 ∷ 52 ∷ 53 ∷ 50 ∷ 51 ∷ 48 ∷ 49 ∷ 46 ∷ 47 ∷ 44 ∷ 45 ∷ 42 ∷ 43 ∷ 40 ∷ 41 ∷ 38 ∷ 39 ∷ 36 ∷ 37 ∷ 34 ∷ 35 ∷ 32 ∷ 33 ∷ 30 ∷ 31 ∷ 28 ∷ 29 ∷ 26 ∷ 27 ∷ 24 ∷ 25 ∷ 22 ∷ 23 ∷ 20 ∷ 21 ∷ 18 ∷ 19 ∷ 16 ∷ 17 ∷ []) $
-        free1 ! $
-        free1 ! $
-        free1 ! $
-        free1 ! $
-        free1 ! $
-        free1 ! $
-        free1 ! $
-        free1 ! $
-        free1 ! $
-        free1 ! $
-        free1 ! $
-        free1 ! $
-        free1 ! $
-        free1 ! $
-        free1 ! $
-        free1 ! $
-        free1 ! $
-        free1 ! $
-        free1 ! $
-        free1 ! $
-        free1 ! $
-        free1 ! $
-        free1 ! $
-        free0 ! $
+        freed ! 16 (occupied _ ∷ occupied _ ∷ occupied _ ∷ occupied _ ∷ occupied _ ∷ occupied _ ∷ occupied _ ∷ occupied _ ∷ vacant ∷ occupied _ ∷ occupied _ ∷ vacant ∷ vacant ∷ vacant ∷ vacant ∷ vacant ∷ vacant ∷ vacant ∷ vacant ∷ vacant ∷ occupied _ ∷ occupied _ ∷ occupied _ ∷ []) tt refl $
         keep ! (8 ∷ 15 ∷ 14 ∷ 12 ∷ 6 ∷ 7 ∷ 9 ∷ 10 ∷ 2 ∷ 0 ∷ []) $
         by ! (exits h ps ls gs x refl refl refl (subst (Is G.the-row x) (G′.lowers .val-is x _ ix) ix) (withdraw-past h ps ls gs i x (nltb→le i (length ps) past) said)))))))))))))))))))))))))))))))))
 

@@ -25,7 +25,8 @@ use ghost.Atoms.{Atoms, sem}
 use contract.Monad.{Fun, fact}
 use contract.Running.{givenOf, tables, tablesOf}
 use types.Kit.{Given, Item, Sq, runs, anyQ, atRet, ‵, raw, some, later, _⊛_, ⋆, _$_, _∵_, !, qed, by, move, keep, drop, use0, use1, use2, split, join, pick, rewrite, fsplit, fsplit3, fjoin, suffices, frame, await, done}
-use types.Run.{Below, again, loops, look, look-raw, init, store, forget, stop, hop, fld, from, load, lit, of-opd, un, bin, and-then, no-more, assigns, assigns-last, land, first, blocks, stays, leaves-loop, exec, returns, enter, alloc1, alloc0, params1, pass1, pass0, free1, free0}
+use types.Run.{Below, again, loops, look, look-raw, init, store, forget, stop, hop, fld, from, load, lit, of-opd, un, bin, and-then, no-more, assigns, assigns-last, land, first, blocks, stays, leaves-loop, exec, returns, enter, alloc1, alloc0, params1, pass1, pass0}
+use Rattle.walks.proofs.Leaving.{vacant, occupied, freed}
 use types.Part.{whole, sub, look-in}
 use types.Share.{arr-parts}
 use sound.WpLaws.{FmC, fmOf, WpFn-mono}
@@ -388,42 +389,7 @@ module _ {M : Type 1} (𝓤 : URA M) (H : Heap 𝓤) (A : Atoms 𝓤) (W : Given
           move ! (5 ∷ 6 ∷ []) $
           shuts-slice ! tt u32 σ₂ ws b₂ o₂ $
           returns ! (look ! 54 refl) $
-          forget ! 20 refl $
-          forget ! 36 refl $
-          forget ! 38 refl $
-          forget ! 42 refl $
-          forget ! 44 refl $
-          forget ! 46 refl $
-          forget ! 48 refl $
-          forget ! 50 refl $
-          forget ! 52 refl $
-          forget ! 54 refl $
-          move ! (54 ∷ 55 ∷ 52 ∷ 53 ∷ 50 ∷ 51 ∷ 48 ∷ 49 ∷ 46 ∷ 47 ∷ 44 ∷ 45 ∷ 42 ∷ 43 ∷ 40 ∷ 41 ∷ 38 ∷ 39 ∷ 36 ∷ 37 ∷ 34 ∷ 35 ∷ 32 ∷ 33 ∷ 30 ∷ 31 ∷ 28 ∷ 29 ∷ 26 ∷ 27 ∷ 24 ∷ 25 ∷ 22 ∷ 23 ∷ 20 ∷ 21 ∷ 18 ∷ 19 ∷ 16 ∷ 17 ∷ 14 ∷ 15 ∷ 12 ∷ 13 ∷ 10 ∷ 11 ∷ 8 ∷ 9 ∷ []) $
-          free1 ! $
-          free1 ! $
-          free1 ! $
-          free1 ! $
-          free1 ! $
-          free1 ! $
-          free1 ! $
-          free1 ! $
-          free1 ! $
-          free1 ! $
-          free1 ! $
-          free1 ! $
-          free1 ! $
-          free1 ! $
-          free1 ! $
-          free1 ! $
-          free1 ! $
-          free1 ! $
-          free1 ! $
-          free1 ! $
-          free1 ! $
-          free1 ! $
-          free1 ! $
-          free1 ! $
-          free0 ! $
+          freed ! 8 (occupied _ ∷ occupied _ ∷ occupied _ ∷ occupied _ ∷ occupied _ ∷ occupied _ ∷ occupied _ ∷ vacant ∷ occupied _ ∷ occupied _ ∷ vacant ∷ vacant ∷ vacant ∷ vacant ∷ vacant ∷ vacant ∷ vacant ∷ occupied _ ∷ vacant ∷ vacant ∷ vacant ∷ vacant ∷ vacant ∷ vacant ∷ []) tt refl $
           keep ! (4 ∷ 1 ∷ 0 ∷ 5 ∷ 6 ∷ 7 ∷ []) $
           by ! (exits x (subst (Is X.the-row x) (X′.lowers .val-is x _ ix) ix) (said ∙ ap (λ (k : ℕ). placedBy (seen k)) (le-antisymm (i .1) (nltb→le (i .0) n over)) ∙ stands-seen h ps me ws))))))))
 

@@ -18,7 +18,8 @@ use ghost.Atoms.{Atoms, sem}
 use contract.Monad.{Fun, fact}
 use contract.Running.{givenOf, tables, tablesOf}
 use types.Kit.{Given, ‵, raw, some, later, _⊛_, ⋆, _$_, _∵_, !, qed, by, move, keep, drop, use0, use1, use2, split, join, pick, rewrite, fsplit, fjoin, suffices, frame, await, done}
-use types.Run.{look, init, forget, stop, from, load, and-then, no-more, land, first, branches, returns-within, enter, alloc1, alloc0, params1, pass1, pass0, free1, free0}
+use types.Run.{look, init, stop, from, load, and-then, no-more, land, first, branches, returns-within, enter, alloc1, alloc0, params1, pass1, pass0}
+use Rattle.walks.proofs.Leaving.{occupied, freed}
 use sound.WpLaws.{FmC, fmOf, WpFn-mono}
 use denote.RattleType.{owns}
 use denote.Memory.{mem}
@@ -234,20 +235,7 @@ module _ {M : Type 1} (𝓤 : URA M) (H : Heap 𝓤) (A : Atoms 𝓤) (W : Given
         rewrite ! 23 (λ (u : Val). ‵ (fat fullShare X′.mir l₀ 0 u)) (ap only ((X′.lowers .val-is) x _ ix)) refl $
         drop ! $
         returns-within ! Post refl (look ! 22 refl) $
-        forget ! 12 refl $
-        forget ! 14 refl $
-        forget ! 16 refl $
-        forget ! 18 refl $
-        forget ! 20 refl $
-        forget ! 22 refl $
-        move ! (22 ∷ 23 ∷ 20 ∷ 21 ∷ 18 ∷ 19 ∷ 16 ∷ 17 ∷ 14 ∷ 15 ∷ 12 ∷ 13 ∷ []) $
-        free1 ! $
-        free1 ! $
-        free1 ! $
-        free1 ! $
-        free1 ! $
-        free1 ! $
-        free0 ! $
+        freed ! 12 (occupied _ ∷ occupied _ ∷ occupied _ ∷ occupied _ ∷ occupied _ ∷ occupied _ ∷ []) tt refl $
         keep ! (3 ∷ 2 ∷ 0 ∷ 7 ∷ 6 ∷ 5 ∷ []) $
         by ! (exits x (subst (Is X.the-row x) (X′.lowers .val-is x _ ix) ix) said)))))))
         (λ past.
@@ -269,20 +257,7 @@ module _ {M : Type 1} (𝓤 : URA M) (H : Heap 𝓤) (A : Atoms 𝓤) (W : Given
         rewrite ! 23 (λ (u : Val). ‵ (fat fullShare X′.mir l₀ 0 u)) (ap only ((X′.lowers .val-is) x _ ix)) refl $
         drop ! $
         returns-within ! Post refl (look ! 22 refl) $
-        forget ! 12 refl $
-        forget ! 14 refl $
-        forget ! 16 refl $
-        forget ! 18 refl $
-        forget ! 20 refl $
-        forget ! 22 refl $
-        move ! (22 ∷ 23 ∷ 20 ∷ 21 ∷ 18 ∷ 19 ∷ 16 ∷ 17 ∷ 14 ∷ 15 ∷ 12 ∷ 13 ∷ []) $
-        free1 ! $
-        free1 ! $
-        free1 ! $
-        free1 ! $
-        free1 ! $
-        free1 ! $
-        free0 ! $
+        freed ! 12 (occupied _ ∷ occupied _ ∷ occupied _ ∷ occupied _ ∷ occupied _ ∷ occupied _ ∷ []) tt refl $
         keep ! (11 ∷ 10 ∷ 2 ∷ 8 ∷ 7 ∷ 5 ∷ []) $
         by ! (exits x (subst (Is X.the-row x) (X′.lowers .val-is x _ ix) ix) (λ inside small long level. said ∙ alone-right h ps me ws (nobody-waits b (allZero ws) said-b past))))))))))))))))))))
 

@@ -18,7 +18,8 @@ use ghost.Atoms.{Atoms, sem}
 use contract.Monad.{Fun, fact}
 use contract.Running.{givenOf, tables, tablesOf}
 use types.Kit.{Given, ‵, raw, some, later, _⊛_, ⋆, _$_, _∵_, !, qed, by, move, keep, drop, use0, use1, use2, split, join, pick, rewrite, fsplit, fjoin, suffices, frame, await, done}
-use types.Run.{look, init, forget, stop, fld, from, load, of-opd, un, bin, and-then, no-more, assigns, land, first, branches, returns-within, enter, alloc1, alloc0, params1, pass1, pass0, free1, free0}
+use types.Run.{look, init, stop, fld, from, load, of-opd, un, bin, and-then, no-more, assigns, land, first, branches, returns-within, enter, alloc1, alloc0, params1, pass1, pass0}
+use Rattle.walks.proofs.Leaving.{occupied, freed}
 use types.Part.{whole, sub, look-in}
 use sound.WpLaws.{FmC, fmOf, WpFn-mono}
 use denote.RattleType.{owns}
@@ -199,24 +200,7 @@ module _ {M : Type 1} (𝓤 : URA M) (H : Heap 𝓤) (A : Atoms 𝓤) (W : Given
         rewrite ! 25 (λ (u : Val). ‵ (fat fullShare X′.mir l₀ 0 u)) (ap only ((X′.lowers .val-is) x _ ix)) refl $
         drop ! $
         returns-within ! Post refl (look ! 24 refl) $
-        forget ! 10 refl $
-        forget ! 12 refl $
-        forget ! 14 refl $
-        forget ! 16 refl $
-        forget ! 18 refl $
-        forget ! 20 refl $
-        forget ! 22 refl $
-        forget ! 24 refl $
-        move ! (24 ∷ 25 ∷ 22 ∷ 23 ∷ 20 ∷ 21 ∷ 18 ∷ 19 ∷ 16 ∷ 17 ∷ 14 ∷ 15 ∷ 12 ∷ 13 ∷ 10 ∷ 11 ∷ []) $
-        free1 ! $
-        free1 ! $
-        free1 ! $
-        free1 ! $
-        free1 ! $
-        free1 ! $
-        free1 ! $
-        free1 ! $
-        free0 ! $
+        freed ! 10 (occupied _ ∷ occupied _ ∷ occupied _ ∷ occupied _ ∷ occupied _ ∷ occupied _ ∷ occupied _ ∷ occupied _ ∷ []) tt refl $
         keep ! (3 ∷ 2 ∷ 0 ∷ 7 ∷ 6 ∷ 5 ∷ []) $
         by ! (exits x (subst (Is X.the-row x) (X′.lowers .val-is x _ ix) ix) (λ inside small long level. said ∙ placed-right h ps me small long level ws))))))))
         (λ past.
@@ -238,24 +222,7 @@ module _ {M : Type 1} (𝓤 : URA M) (H : Heap 𝓤) (A : Atoms 𝓤) (W : Given
         rewrite ! 25 (λ (u : Val). ‵ (fat fullShare X′.mir l₀ 0 u)) (ap only ((X′.lowers .val-is) x _ ix)) refl $
         drop ! $
         returns-within ! Post refl (look ! 24 refl) $
-        forget ! 10 refl $
-        forget ! 12 refl $
-        forget ! 14 refl $
-        forget ! 16 refl $
-        forget ! 18 refl $
-        forget ! 20 refl $
-        forget ! 22 refl $
-        forget ! 24 refl $
-        move ! (24 ∷ 25 ∷ 22 ∷ 23 ∷ 20 ∷ 21 ∷ 18 ∷ 19 ∷ 16 ∷ 17 ∷ 14 ∷ 15 ∷ 12 ∷ 13 ∷ 10 ∷ 11 ∷ []) $
-        free1 ! $
-        free1 ! $
-        free1 ! $
-        free1 ! $
-        free1 ! $
-        free1 ! $
-        free1 ! $
-        free1 ! $
-        free0 ! $
+        freed ! 10 (occupied _ ∷ occupied _ ∷ occupied _ ∷ occupied _ ∷ occupied _ ∷ occupied _ ∷ occupied _ ∷ occupied _ ∷ []) tt refl $
         keep ! (9 ∷ 8 ∷ 6 ∷ 5 ∷ 4 ∷ 2 ∷ []) $
         by ! (exits x (subst (Is X.the-row x) (X′.lowers .val-is x _ ix) ix) (λ inside small long level. none-past me (length ps) inside (nltb→le me (length ps) past)))))))))))))))))
 

@@ -19,7 +19,8 @@ use ghost.Atoms.{Atoms}
 use contract.Monad.{Fun, fact}
 use contract.Running.{givenOf, tables, tablesOf}
 use types.Kit.{Given, ‵, raw, some, later, _⊛_, ⋆, _$_, _∵_, !, qed, by, move, keep, drop, use0, use1, split, join, pick, rewrite, fsplit, fjoin, feqI, suffices, frame, await, done}
-use types.Run.{look, init, store, store-raw, forget, stop, hop, fld, from, load, lit, unit-lit, of-opd, bin, no-more, assigns, land, first, branches, returns-within, enter, alloc1, alloc0, params1, pass1, pass0, free1, free0}
+use types.Run.{look, init, store, store-raw, stop, hop, fld, from, load, lit, unit-lit, of-opd, bin, no-more, assigns, land, first, branches, returns-within, enter, alloc1, alloc0, params1, pass1, pass0}
+use Rattle.walks.proofs.Leaving.{vacant, occupied, freed}
 use types.Part.{whole, sub, look-in, store-in}
 use types.Match.{live, vrt, look-tag, by-variants}
 use sound.WpLaws.{FmC, fmOf, WpFn-mono}
@@ -196,41 +197,7 @@ module _ {M : Type 1} (𝓤 : URA M) (H : Heap 𝓤) (A : Atoms 𝓤) (W : Given
               elem-put ! P.the-row fullShare ps i (advancedIn (partyAt ps i) y) (P′.lowered (advancedIn (partyAt ps i) y) ∷ []) b₀ o₀ (ltb→lt i (length ps) may) $
               closes-slice ! tt P.the-row ps (set ps i (advancedIn (partyAt ps i) y)) (length-set ps i (advancedIn (partyAt ps i) y)) b₀ o₀ $
               returns-within ! Post refl (look ! 51 refl) $
-              forget ! 35 refl $
-              forget ! 37 refl $
-              forget ! 39 refl $
-              forget ! 41 refl $
-              forget ! 43 refl $
-              forget ! 45 refl $
-              forget ! 47 refl $
-              forget ! 49 refl $
-              forget ! 51 refl $
-              move ! (51 ∷ 52 ∷ 49 ∷ 50 ∷ 47 ∷ 48 ∷ 45 ∷ 46 ∷ 43 ∷ 44 ∷ 41 ∷ 42 ∷ 39 ∷ 40 ∷ 37 ∷ 38 ∷ 35 ∷ 36 ∷ 33 ∷ 34 ∷ 31 ∷ 32 ∷ 29 ∷ 30 ∷ 27 ∷ 28 ∷ 25 ∷ 26 ∷ 23 ∷ 24 ∷ 21 ∷ 22 ∷ 19 ∷ 20 ∷ 17 ∷ 18 ∷ 15 ∷ 16 ∷ 13 ∷ 14 ∷ 11 ∷ 12 ∷ 9 ∷ 10 ∷ 7 ∷ 8 ∷ 5 ∷ 6 ∷ []) $
-              free1 ! $
-              free1 ! $
-              free1 ! $
-              free1 ! $
-              free1 ! $
-              free1 ! $
-              free1 ! $
-              free1 ! $
-              free1 ! $
-              free1 ! $
-              free1 ! $
-              free1 ! $
-              free1 ! $
-              free1 ! $
-              free1 ! $
-              free1 ! $
-              free1 ! $
-              free1 ! $
-              free1 ! $
-              free1 ! $
-              free1 ! $
-              free1 ! $
-              free1 ! $
-              free1 ! $
-              free0 ! $
+              freed ! 5 (occupied _ ∷ occupied _ ∷ occupied _ ∷ occupied _ ∷ occupied _ ∷ occupied _ ∷ occupied _ ∷ occupied _ ∷ occupied _ ∷ vacant ∷ vacant ∷ vacant ∷ vacant ∷ vacant ∷ vacant ∷ vacant ∷ vacant ∷ vacant ∷ vacant ∷ vacant ∷ vacant ∷ vacant ∷ vacant ∷ vacant ∷ []) tt refl $
               keep ! (2 ∷ 0 ∷ 1 ∷ []) $
               by ! (exits (set ps i (advancedIn (partyAt ps i) y)) tt (length-set ps i (advancedIn (partyAt ps i) y)) tt (ap (set ps i) (party-by m 0 e (partyAt ps i) y)))),
           (
@@ -259,44 +226,7 @@ module _ {M : Type 1} (𝓤 : URA M) (H : Heap 𝓤) (A : Atoms 𝓤) (W : Given
                 elem-put ! P.the-row fullShare ps i (locatedIn (partyAt ps i) y) (P′.lowered (locatedIn (partyAt ps i) y) ∷ []) b₀ o₀ (ltb→lt i (length ps) may) $
                 closes-slice ! tt P.the-row ps (set ps i (locatedIn (partyAt ps i) y)) (length-set ps i (locatedIn (partyAt ps i) y)) b₀ o₀ $
                 returns-within ! Post refl (look ! 51 refl) $
-                forget ! 25 refl $
-                forget ! 27 refl $
-                forget ! 29 refl $
-                forget ! 31 refl $
-                forget ! 33 refl $
-                forget ! 39 refl $
-                forget ! 41 refl $
-                forget ! 43 refl $
-                forget ! 45 refl $
-                forget ! 47 refl $
-                forget ! 49 refl $
-                forget ! 51 refl $
-                move ! (51 ∷ 52 ∷ 49 ∷ 50 ∷ 47 ∷ 48 ∷ 45 ∷ 46 ∷ 43 ∷ 44 ∷ 41 ∷ 42 ∷ 39 ∷ 40 ∷ 37 ∷ 38 ∷ 35 ∷ 36 ∷ 33 ∷ 34 ∷ 31 ∷ 32 ∷ 29 ∷ 30 ∷ 27 ∷ 28 ∷ 25 ∷ 26 ∷ 23 ∷ 24 ∷ 21 ∷ 22 ∷ 19 ∷ 20 ∷ 17 ∷ 18 ∷ 15 ∷ 16 ∷ 13 ∷ 14 ∷ 11 ∷ 12 ∷ 9 ∷ 10 ∷ 7 ∷ 8 ∷ 5 ∷ 6 ∷ []) $
-                free1 ! $
-                free1 ! $
-                free1 ! $
-                free1 ! $
-                free1 ! $
-                free1 ! $
-                free1 ! $
-                free1 ! $
-                free1 ! $
-                free1 ! $
-                free1 ! $
-                free1 ! $
-                free1 ! $
-                free1 ! $
-                free1 ! $
-                free1 ! $
-                free1 ! $
-                free1 ! $
-                free1 ! $
-                free1 ! $
-                free1 ! $
-                free1 ! $
-                free1 ! $
-                free1 ! $
-                free0 ! $
+                freed ! 5 (occupied _ ∷ occupied _ ∷ occupied _ ∷ occupied _ ∷ occupied _ ∷ occupied _ ∷ occupied _ ∷ vacant ∷ vacant ∷ occupied _ ∷ occupied _ ∷ occupied _ ∷ occupied _ ∷ occupied _ ∷ vacant ∷ vacant ∷ vacant ∷ vacant ∷ vacant ∷ vacant ∷ vacant ∷ vacant ∷ vacant ∷ vacant ∷ []) tt refl $
                 keep ! (2 ∷ 0 ∷ 1 ∷ []) $
                 by ! (exits (set ps i (locatedIn (partyAt ps i) y)) tt (length-set ps i (locatedIn (partyAt ps i) y)) tt (ap (set ps i) (party-by m 1 e (partyAt ps i) y)))),
             (
@@ -331,42 +261,7 @@ module _ {M : Type 1} (𝓤 : URA M) (H : Heap 𝓤) (A : Atoms 𝓤) (W : Given
                   move ! (0 ∷ 3 ∷ 4 ∷ 5 ∷ []) $
                   closes-slice ! tt P.the-row ps (set ps i z) (length-set ps i z) b₀ o₀ $
                   returns-within ! Post refl (look ! 53 refl) $
-                  forget ! 21 refl $
-                  forget ! 23 refl $
-                  forget ! 25 refl $
-                  forget ! 41 refl $
-                  forget ! 43 refl $
-                  forget ! 45 refl $
-                  forget ! 47 refl $
-                  forget ! 49 refl $
-                  forget ! 51 refl $
-                  forget ! 53 refl $
-                  move ! (53 ∷ 54 ∷ 51 ∷ 52 ∷ 49 ∷ 50 ∷ 47 ∷ 48 ∷ 45 ∷ 46 ∷ 43 ∷ 44 ∷ 41 ∷ 42 ∷ 39 ∷ 40 ∷ 37 ∷ 38 ∷ 35 ∷ 36 ∷ 33 ∷ 34 ∷ 31 ∷ 32 ∷ 29 ∷ 30 ∷ 27 ∷ 28 ∷ 25 ∷ 26 ∷ 23 ∷ 24 ∷ 21 ∷ 22 ∷ 19 ∷ 20 ∷ 17 ∷ 18 ∷ 15 ∷ 16 ∷ 13 ∷ 14 ∷ 11 ∷ 12 ∷ 9 ∷ 10 ∷ 7 ∷ 8 ∷ []) $
-                  free1 ! $
-                  free1 ! $
-                  free1 ! $
-                  free1 ! $
-                  free1 ! $
-                  free1 ! $
-                  free1 ! $
-                  free1 ! $
-                  free1 ! $
-                  free1 ! $
-                  free1 ! $
-                  free1 ! $
-                  free1 ! $
-                  free1 ! $
-                  free1 ! $
-                  free1 ! $
-                  free1 ! $
-                  free1 ! $
-                  free1 ! $
-                  free1 ! $
-                  free1 ! $
-                  free1 ! $
-                  free1 ! $
-                  free1 ! $
-                  free0 ! $
+                  freed ! 7 (occupied _ ∷ occupied _ ∷ occupied _ ∷ occupied _ ∷ occupied _ ∷ occupied _ ∷ occupied _ ∷ vacant ∷ vacant ∷ vacant ∷ vacant ∷ vacant ∷ vacant ∷ vacant ∷ occupied _ ∷ occupied _ ∷ occupied _ ∷ vacant ∷ vacant ∷ vacant ∷ vacant ∷ vacant ∷ vacant ∷ vacant ∷ []) tt refl $
                   keep ! (2 ∷ 0 ∷ 1 ∷ []) $
                   by ! (exits (set ps i z) tt (length-set ps i z) tt (ap (set ps i) (is-idle ∙ party-by m 2 e (partyAt ps i) y))))))))),
               (
@@ -403,46 +298,7 @@ module _ {M : Type 1} (𝓤 : URA M) (H : Heap 𝓤) (A : Atoms 𝓤) (W : Given
                     elem-put ! P.the-row fullShare ps i (changedIn (partyAt ps i) y) (P′.lowered (changedIn (partyAt ps i) y) ∷ []) b₀ o₀ (ltb→lt i (length ps) may) $
                     closes-slice ! tt P.the-row ps (set ps i (changedIn (partyAt ps i) y)) (length-set ps i (changedIn (partyAt ps i) y)) b₀ o₀ $
                     returns-within ! Post refl (look ! 51 refl) $
-                    forget ! 5 refl $
-                    forget ! 7 refl $
-                    forget ! 9 refl $
-                    forget ! 11 refl $
-                    forget ! 13 refl $
-                    forget ! 15 refl $
-                    forget ! 17 refl $
-                    forget ! 39 refl $
-                    forget ! 41 refl $
-                    forget ! 43 refl $
-                    forget ! 45 refl $
-                    forget ! 47 refl $
-                    forget ! 49 refl $
-                    forget ! 51 refl $
-                    move ! (51 ∷ 52 ∷ 49 ∷ 50 ∷ 47 ∷ 48 ∷ 45 ∷ 46 ∷ 43 ∷ 44 ∷ 41 ∷ 42 ∷ 39 ∷ 40 ∷ 37 ∷ 38 ∷ 35 ∷ 36 ∷ 33 ∷ 34 ∷ 31 ∷ 32 ∷ 29 ∷ 30 ∷ 27 ∷ 28 ∷ 25 ∷ 26 ∷ 23 ∷ 24 ∷ 21 ∷ 22 ∷ 19 ∷ 20 ∷ 17 ∷ 18 ∷ 15 ∷ 16 ∷ 13 ∷ 14 ∷ 11 ∷ 12 ∷ 9 ∷ 10 ∷ 7 ∷ 8 ∷ 5 ∷ 6 ∷ []) $
-                    free1 ! $
-                    free1 ! $
-                    free1 ! $
-                    free1 ! $
-                    free1 ! $
-                    free1 ! $
-                    free1 ! $
-                    free1 ! $
-                    free1 ! $
-                    free1 ! $
-                    free1 ! $
-                    free1 ! $
-                    free1 ! $
-                    free1 ! $
-                    free1 ! $
-                    free1 ! $
-                    free1 ! $
-                    free1 ! $
-                    free1 ! $
-                    free1 ! $
-                    free1 ! $
-                    free1 ! $
-                    free1 ! $
-                    free1 ! $
-                    free0 ! $
+                    freed ! 5 (occupied _ ∷ occupied _ ∷ occupied _ ∷ occupied _ ∷ occupied _ ∷ occupied _ ∷ occupied _ ∷ vacant ∷ vacant ∷ vacant ∷ vacant ∷ vacant ∷ vacant ∷ vacant ∷ vacant ∷ vacant ∷ vacant ∷ occupied _ ∷ occupied _ ∷ occupied _ ∷ occupied _ ∷ occupied _ ∷ occupied _ ∷ occupied _ ∷ []) tt refl $
                     keep ! (2 ∷ 0 ∷ 1 ∷ []) $
                     by ! (exits (set ps i (changedIn (partyAt ps i) y)) tt (length-set ps i (changedIn (partyAt ps i) y)) tt (ap (set ps i) (party-by m 3 e (partyAt ps i) y)))),
                 tt,
@@ -453,39 +309,7 @@ module _ {M : Type 1} (𝓤 : URA M) (H : Heap 𝓤) (A : Atoms 𝓤) (W : Given
         (λ past.
         assigns ! (of-opd ! (unit-lit !)) (from ! (stop !)) (init ! 51 refl (tt, tt)) $
         returns-within ! Post refl (look ! 51 refl) $
-        forget ! 39 refl $
-        forget ! 41 refl $
-        forget ! 43 refl $
-        forget ! 45 refl $
-        forget ! 47 refl $
-        forget ! 49 refl $
-        forget ! 51 refl $
-        move ! (51 ∷ 52 ∷ 49 ∷ 50 ∷ 47 ∷ 48 ∷ 45 ∷ 46 ∷ 43 ∷ 44 ∷ 41 ∷ 42 ∷ 39 ∷ 40 ∷ 37 ∷ 38 ∷ 35 ∷ 36 ∷ 33 ∷ 34 ∷ 31 ∷ 32 ∷ 29 ∷ 30 ∷ 27 ∷ 28 ∷ 25 ∷ 26 ∷ 23 ∷ 24 ∷ 21 ∷ 22 ∷ 19 ∷ 20 ∷ 17 ∷ 18 ∷ 15 ∷ 16 ∷ 13 ∷ 14 ∷ 11 ∷ 12 ∷ 9 ∷ 10 ∷ 7 ∷ 8 ∷ 5 ∷ 6 ∷ []) $
-        free1 ! $
-        free1 ! $
-        free1 ! $
-        free1 ! $
-        free1 ! $
-        free1 ! $
-        free1 ! $
-        free1 ! $
-        free1 ! $
-        free1 ! $
-        free1 ! $
-        free1 ! $
-        free1 ! $
-        free1 ! $
-        free1 ! $
-        free1 ! $
-        free1 ! $
-        free1 ! $
-        free1 ! $
-        free1 ! $
-        free1 ! $
-        free1 ! $
-        free1 ! $
-        free1 ! $
-        free0 ! $
+        freed ! 5 (occupied _ ∷ occupied _ ∷ occupied _ ∷ occupied _ ∷ occupied _ ∷ occupied _ ∷ occupied _ ∷ vacant ∷ vacant ∷ vacant ∷ vacant ∷ vacant ∷ vacant ∷ vacant ∷ vacant ∷ vacant ∷ vacant ∷ vacant ∷ vacant ∷ vacant ∷ vacant ∷ vacant ∷ vacant ∷ vacant ∷ []) tt refl $
         keep ! (3 ∷ 0 ∷ 1 ∷ []) $
         by ! (exits ps tt refl tt (sym (set-past ps i (partyBy m (partyAt ps i) y) (nltb→le i (length ps) past)))))))))))))))))))))))))))))
 

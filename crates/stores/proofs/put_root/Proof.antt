@@ -16,7 +16,8 @@ use ghost.Atoms.{Atoms}
 use contract.Monad.{Fun}
 use contract.Running.{givenOf, tables, tablesOf}
 use types.Kit.{Given, ‵, _⊛_, ⋆, _$_, _∵_, !, qed, by, move, keep, drop, split, join, rewrite, fsplit, fsplit3, fjoin, fjoin3, feqI, suffices, frame, done}
-use types.Run.{look, init, forget, stop, hop, fld, from, load, unit-lit, of-opd, assigns, first, returns-within, enter, alloc1, alloc0, params1, pass1, pass0, free1, free0}
+use types.Run.{look, init, stop, hop, fld, from, load, unit-lit, of-opd, assigns, first, returns-within, enter, alloc1, alloc0, params1, pass1, pass0}
+use Rattle.walks.proofs.Leaving.{occupied, freed}
 use types.Part.{whole, sub, look-in, store-in}
 use types.Match.{live, vrt, look-tag, by-variants}
 use types.SemTy.{Body}
@@ -142,16 +143,7 @@ module _ {M : Type 1} (𝓤 : URA M) (H : Heap 𝓤) (A : Atoms 𝓤) (W : Given
               move ! (1 ∷ 0 ∷ 2 ∷ 3 ∷ 4 ∷ []) $
               closes ! tt R.the-row h (R′.lowered h ∷ []) b₀ o₀ $
               returns-within ! Post refl (look ! 11 refl) $
-              forget ! 5 refl $
-              forget ! 7 refl $
-              forget ! 9 refl $
-              forget ! 11 refl $
-              move ! (11 ∷ 12 ∷ 9 ∷ 10 ∷ 7 ∷ 8 ∷ 5 ∷ 6 ∷ []) $
-              free1 ! $
-              free1 ! $
-              free1 ! $
-              free1 ! $
-              free0 ! $
+              freed ! 5 (occupied _ ∷ occupied _ ∷ occupied _ ∷ occupied _ ∷ []) tt refl $
               keep ! (2 ∷ 0 ∷ 1 ∷ []) $
               by ! (exits h tt tt (root-kept m h y e))),
           (
@@ -166,16 +158,7 @@ module _ {M : Type 1} (𝓤 : URA M) (H : Heap 𝓤) (A : Atoms 𝓤) (W : Given
                 move ! (1 ∷ 0 ∷ 2 ∷ 3 ∷ 4 ∷ []) $
                 closes ! tt R.the-row (movedIn h y) (R′.lowered (movedIn h y) ∷ []) b₀ o₀ $
                 returns-within ! Post refl (look ! 11 refl) $
-                forget ! 5 refl $
-                forget ! 7 refl $
-                forget ! 9 refl $
-                forget ! 11 refl $
-                move ! (11 ∷ 12 ∷ 9 ∷ 10 ∷ 7 ∷ 8 ∷ 5 ∷ 6 ∷ []) $
-                free1 ! $
-                free1 ! $
-                free1 ! $
-                free1 ! $
-                free0 ! $
+                freed ! 5 (occupied _ ∷ occupied _ ∷ occupied _ ∷ occupied _ ∷ []) tt refl $
                 keep ! (2 ∷ 0 ∷ 1 ∷ []) $
                 by ! (exits (movedIn h y) tt tt (root-moved m h y e))),
             tt,
