@@ -7,8 +7,9 @@ enum { N = 1, B = 6, P = 256, V = 752, Q = 16 };
 
 static struct bead_root root;
 static struct bead_party parties[BEAD_PARTY_ROW(Q)];
-static uint32_t locks[BEAD_LOCK_ROW(P)], pages[BEAD_PAGE_ROW(P, V, Q)];
-#define LENT &root, parties, BEAD_PARTY_ROW(Q), locks, BEAD_LOCK_ROW(P), pages, BEAD_PAGE_ROW(P, V, Q)
+static uint32_t locks[BEAD_LOCK_ROW(P)], pages[BEAD_PAGE_ROW(P, V, Q)], row[BEAD_ROW(Q)];
+#define LENT \
+    &root, parties, BEAD_PARTY_ROW(Q), locks, BEAD_LOCK_ROW(P), pages, BEAD_PAGE_ROW(P, V, Q), row, BEAD_ROW(Q)
 
 const char *map_name(void) { return NAME; }
 const char *map_locks(void) { return "root and chains"; }

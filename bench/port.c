@@ -4,6 +4,7 @@
  *
  *   port/memory.h   mixed keys, pages, chains, the free list
  *   port/locks.h    replies, lock words, Table I
+ *   port/waiting.h  the row of who waits, requests
  *   port/steps.h    the steps
  *   port/take_up.h  what a saved file must be
  *
@@ -12,14 +13,15 @@
 #include "port/take_up.h"
 
 /* What every call is lent. */
-#define LENT \
-    root *r, party *parties, size_t party_count, uint32_t *locks, size_t lock_words, uint32_t *pages, size_t page_words
+#define LENT                                                                                                           \
+    root *r, party *parties, size_t party_count, uint32_t *locks, size_t lock_words, uint32_t *pages,                  \
+        size_t page_words, uint32_t *row, size_t row_words
 
 typedef struct {
-    size_t parties, locks, pages;
+    size_t parties, locks, pages, row;
 } lengths;
 
-#define LENGTHS ((lengths){party_count, lock_words, page_words})
+#define LENGTHS ((lengths){party_count, lock_words, page_words, row_words})
 
 /* What the tests have read is read anew for the step, or the compiler would keep it all on the stack until then. */
 #define READ_ANEW() __asm__ volatile("" ::: "memory")
@@ -34,7 +36,7 @@ static inline int sizes_sound(uint32_t n, uint32_t b, uint32_t p, uint32_t v, ui
 
 static inline int lengths_sound(lengths lent, uint32_t p, uint32_t v, uint32_t q)
 {
-    return lent.parties == q && lent.locks == p + 1 && lent.pages == PAGE * (size_t)(p + v + q);
+    return lent.parties == q && lent.locks == p + 1 && lent.pages == PAGE * (size_t)(p + v + q) && lent.row == q;
 }
 
 /* Refusals 2 and 1. */
@@ -69,6 +71,15 @@ static inline int numbers_sound(const root *r, const party *me)
     return me->chain < r->primaries && me->other < r->primaries && (me->step < 12 || me->answer);
 }
 
+/* Whether nothing that every step and every withdraw tests is damaged; where the party stands is then worked out. */
+static inline int stands(turn *t)
+{
+    if (!numbers_sound(t->r, t->me))
+        return 0;
+    t->line = queue_of(t);
+    return t->line.length != BAD;
+}
+
 /* ---- Format and begin */
 
 static inline void zero_words(uint32_t *words, size_t count) { memset(words, 0, 4 * count); }
@@ -82,6 +93,7 @@ uint32_t bead_format(LENT, uint32_t n, uint32_t b, uint32_t p, uint32_t v, uint3
     memset(parties, 0, q * sizeof *parties);
     zero_words(locks, lock_words);
     zero_words(pages, page_words);
+    zero_words(row, row_words);
     for (uint32_t i = 1; i < v; i++)
         page_at(pages, p + i - 1)[LINK] = p + i + 1;
     *r = (root){.originals = n, .capacity = b, .primaries = p, .overflow = v, .parties = q};
@@ -92,7 +104,7 @@ uint32_t bead_format(LENT, uint32_t n, uint32_t b, uint32_t p, uint32_t v, uint3
 
 uint32_t bead_begin(LENT, uint32_t q, uint32_t operation, uint32_t key, uint32_t setting)
 {
-    (void)locks, (void)pages;
+    (void)locks, (void)pages, (void)row;
     if (REFUSE(operation - BEAD_FIND > BEAD_DELETE - BEAD_FIND))
         return BEAD_NO_OPERATION;
     uint32_t refusal = admit(r, LENGTHS, q);
@@ -154,11 +166,12 @@ reply bead_step(LENT, uint32_t q)
     party *me = &parties[q];
     if (REFUSE(me->operation == BEAD_IDLE))
         return refused(BEAD_IDLE_REFUSED);
-    if (REFUSE(!numbers_sound(r, me)))
+    turn t = {r, parties, me, locks, pages, row, q, {0, 0}};
+    if (REFUSE(!stands(&t)))
         return refused(BEAD_DAMAGE);
     const uint32_t step = me->step;
     READ_ANEW();
-    return perform(&(turn){r, me, locks, pages, q}, step);
+    return perform(&t, step);
 }
 
 /* ---- Withdraw */
@@ -221,8 +234,10 @@ uint32_t bead_withdraw(LENT, uint32_t q)
         return BEAD_IDLE_REFUSED;
     if (decided(me))
         return BEAD_DECIDED_REFUSED;
-    if (REFUSE(!numbers_sound(r, me) || !take_back(&(turn){r, me, locks, pages, q})))
+    turn t = {r, parties, me, locks, pages, row, q, {0, 0}};
+    if (REFUSE(!stands(&t) || !take_back(&t)))
         return BEAD_DAMAGE;
+    leave_row(&t);
     zero_party(r, pages, me, q);
     return BEAD_OK;
 }
@@ -230,11 +245,12 @@ uint32_t bead_withdraw(LENT, uint32_t q)
 /* ---- Take-up */
 
 uint32_t bead_take_up(const root *r, const party *parties, size_t party_count, const uint32_t *locks, size_t lock_words,
-                      const uint32_t *pages, size_t page_words)
+                      const uint32_t *pages, size_t page_words, const uint32_t *row, size_t row_words)
 {
     uint32_t refusal = fit(r, LENGTHS);
     if (refusal)
         return refusal;
-    int at_rest = all_zero(&parties->operation, r->parties * sizeof *parties / 4) && all_zero(locks, lock_words);
+    int at_rest = all_zero(&parties->operation, r->parties * sizeof *parties / 4) && all_zero(locks, lock_words) &&
+                  all_zero(row, row_words);
     return at_rest && root_sound(r) && pages_saved(r, pages) ? BEAD_OK : BEAD_UNSAVED_REFUSED;
 }

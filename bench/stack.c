@@ -23,11 +23,11 @@ enum { PAGE_LEVEL, PAGE_COUNT, PAGE_LINK, PAGE_RECORDS };
 
 #define PARAMETERS \
     struct bead_root *root, struct bead_party *party_row, size_t parties, uint32_t *locks, size_t lock_words, \
-        uint32_t *pages, size_t page_words
+        uint32_t *pages, size_t page_words, uint32_t *row, size_t row_words
 
 #define LOOKED_AT \
     const struct bead_root *root, const struct bead_party *party_row, size_t parties, const uint32_t *locks, \
-        size_t lock_words, const uint32_t *pages, size_t page_words
+        size_t lock_words, const uint32_t *pages, size_t page_words, const uint32_t *row, size_t row_words
 
 /* The calls: the library's, and those that do nothing. */
 struct calls {
@@ -55,7 +55,7 @@ enum call { STEP, FORMAT, BEGIN, WITHDRAW, TAKE_UP };
 static struct file {
     struct bead_root root;
     struct bead_party parties[BEAD_PARTY_ROW(Q)];
-    uint32_t locks[BEAD_LOCK_ROW(P)], pages[BEAD_PAGE_ROW(P, V, Q)];
+    uint32_t locks[BEAD_LOCK_ROW(P)], pages[BEAD_PAGE_ROW(P, V, Q)], row[BEAD_ROW(Q)];
 } lent;
 static const struct calls *volatile called;
 static enum call call;
@@ -65,7 +65,8 @@ static uint64_t *stack;
 static ucontext_t here, there;
 
 #define LENT \
-    &lent.root, lent.parties, BEAD_PARTY_ROW(Q), lent.locks, BEAD_LOCK_ROW(P), lent.pages, BEAD_PAGE_ROW(P, V, Q)
+    &lent.root, lent.parties, BEAD_PARTY_ROW(Q), lent.locks, BEAD_LOCK_ROW(P), lent.pages, BEAD_PAGE_ROW(P, V, Q), \
+        lent.row, BEAD_ROW(Q)
 
 static void perform(void)
 {
@@ -134,6 +135,7 @@ enum {
     ANSWER,    /* the answer so far: that of a change, or no page */
     ROOT,      /* level and next: some chains, all of them, the first alone */
     HELD,      /* whether the party holds every lock */
+    ROW,       /* who waits: nobody, all others, the party and then all others */
     WAYS
 };
 
@@ -155,6 +157,7 @@ static const struct {
     [ANSWER] = {2, AT(12)},
     [ROOT] = {3, AT(16) | AT(20) | AT(21) | AT(24) | AT(27)},
     [HELD] = {2, ALL},
+    [ROW] = {3, ALL},
 };
 
 /* The next way to call at a step, until there is none. */
@@ -208,6 +211,19 @@ static void put_party(const uint32_t *way, uint32_t step)
         me->answer = way[ANSWER] ? BEAD_NO_PAGE : operation == BEAD_INSERT ? BEAD_INSERTED : BEAD_DELETED;
 }
 
+/* The row of who waits. The others in it have begun a find. */
+static void put_row(const uint32_t *way)
+{
+    uint32_t *word = lent.row;
+    if (way[ROW] == 2)
+        *word++ = PARTY + 1;
+    for (uint32_t party = 0; party < Q && way[ROW]; party++)
+        if (party != PARTY) {
+            lent.parties[party] = (struct bead_party){.operation = BEAD_FIND, .step = 1};
+            *word++ = party + 1;
+        }
+}
+
 /* Memory with the party before a step, its overflow pages in chains. */
 static void craft(const uint32_t *way, uint32_t step, uint32_t overflow)
 {
@@ -217,6 +233,7 @@ static void craft(const uint32_t *way, uint32_t step, uint32_t overflow)
     memset(&lent, 0, sizeof lent);
     lent.root = (struct bead_root){N, B, P, V, Q, levels[way[ROOT]][0], levels[way[ROOT]][1], 0, 0};
     put_party(way, step);
+    put_row(way);
     const uint32_t last = put_chain(way, me->chain, P + 1, first);
     const uint32_t keys[4] = {me->chain, last, me->chain + 1, UINT32_MAX};
     me->key = keys[way[KEY]];

@@ -24,10 +24,12 @@ struct memory {
     struct bead_party parties[BEAD_PARTY_ROW(Q)];
     uint32_t locks[BEAD_LOCK_ROW(P)];
     uint32_t pages[BEAD_PAGE_ROW(P, V, Q)];
+    uint32_t row[BEAD_ROW(Q)];
 };
 static struct memory file, before;
 #define LENT                                                                                                           \
-    &file.root, file.parties, BEAD_PARTY_ROW(Q), file.locks, BEAD_LOCK_ROW(P), file.pages, BEAD_PAGE_ROW(P, V, Q)
+    &file.root, file.parties, BEAD_PARTY_ROW(Q), file.locks, BEAD_LOCK_ROW(P), file.pages, BEAD_PAGE_ROW(P, V, Q),     \
+        file.row, BEAD_ROW(Q)
 
 /* Says what has come about, or that it has not: the program then ends with 1. */
 static bool as_expected = true;

@@ -16,12 +16,14 @@
 /* The sizes: one chain at first and four at most, two beads a page, eight overflow pages, three parties. */
 enum { N = 1, B = 2, P = 4, V = 8, Q = 3 };
 
-/* The memory that the index is lent, which is all that it has. The same seven arguments go to every call. */
+/* The memory that the index is lent, which is all that it has. The same nine arguments go to every call. */
 static struct bead_root root;
 static struct bead_party parties[BEAD_PARTY_ROW(Q)];
 static uint32_t locks[BEAD_LOCK_ROW(P)];
 static uint32_t pages[BEAD_PAGE_ROW(P, V, Q)];
-#define LENT &root, parties, BEAD_PARTY_ROW(Q), locks, BEAD_LOCK_ROW(P), pages, BEAD_PAGE_ROW(P, V, Q)
+static uint32_t row[BEAD_ROW(Q)];
+#define LENT \
+    &root, parties, BEAD_PARTY_ROW(Q), locks, BEAD_LOCK_ROW(P), pages, BEAD_PAGE_ROW(P, V, Q), row, BEAD_ROW(Q)
 
 /* One operation: what is asked, of which bead, and the answer that must come; the nozzle setting is the one that an
  * insert brings, or that a find must answer. */
@@ -86,8 +88,9 @@ static bool begin(uint32_t party)
     return worker->begun;
 }
 
-/* Performs one step of a party's task. A step that waits alters nothing and is simply tried again at the next turn; it
- * is told once. False where the step is refused, or the answer or a setting found is not the expected one. */
+/* Performs one step of a party's task. A step that waits is simply tried again at the next turn: the index keeps the
+ * party's place among those who wait. It is told once. False where the step is refused, or the answer or a setting
+ * found is not the expected one. */
 static bool step(uint32_t party)
 {
     struct worker *worker = &workers[party];

@@ -32,11 +32,12 @@ struct shared {
     struct bead_party parties[BEAD_PARTY_ROW(Q)];
     uint32_t locks[BEAD_LOCK_ROW(P)];
     uint32_t pages[BEAD_PAGE_ROW(P, V, Q)];
+    uint32_t row[BEAD_ROW(Q)];
 };
 static struct shared *shared;
 #define LENT                                                                                                           \
     &shared->root, shared->parties, BEAD_PARTY_ROW(Q), shared->locks, BEAD_LOCK_ROW(P), shared->pages,                 \
-        BEAD_PAGE_ROW(P, V, Q)
+        BEAD_PAGE_ROW(P, V, Q), shared->row, BEAD_ROW(Q)
 
 /* Takes the mutex. A process that died while it had it may have cut a call in its middle. */
 static void take(void)

@@ -7,18 +7,18 @@
  * tests words that were saved, so that a program that starts again goes on with its file. An insert brings a key with
  * its setting, and leaves a key that is in with the setting that it has; a find answers the setting of its key.
  *
- * All memory is the caller's: a root record, a row of party's records, a row of lock words and a row of page words,
- * lent anew to every call. The library keeps nothing, allocates nothing and calls nobody. What each call leaves in
- * every lent word is proved, for all words that the memory may have held: docs/SPECIFICATION.md has the rules,
- * examples/first.c is a first program. What is said below of a file that only these calls have altered holds from the
- * bead_format that made it, or from a bead_take_up that answered BEAD_OK.
+ * All memory is the caller's: a root record, a row of party's records, a row of lock words, a row of page words and a
+ * row of who waits, lent anew to every call. The library keeps nothing, allocates nothing and calls nobody. What each
+ * call leaves in every lent word is proved, for all words that the memory may have held: docs/SPECIFICATION.md has the
+ * rules, examples/first.c is a first program. What is said below of a file that only these calls have altered holds
+ * from the bead_format that made it, or from a bead_take_up that answered BEAD_OK.
  *
  * What the caller sees to, since no call can: each pointer leads to as many records or words as its length says,
- * aligned as its type asks, and is not null; the four parts do not overlap; and nobody else reads or writes them
+ * aligned as its type asks, and is not null; the five parts do not overlap; and nobody else reads or writes them
  * during a call, so parties that run as threads call under one mutex.
  *
- * On chains of at most four pages no call was measured to take more than 1,928 bytes of stack (step 29); step 3, which
- * every operation performs, takes 1,504. On the longest chain that can be lent no call takes more than 472,256 bytes
+ * On chains of at most four pages no call was measured to take more than 1,960 bytes of stack (step 29); step 3, which
+ * every operation performs, takes 1,672. On the longest chain that can be lent no call takes more than 472,288 bytes
  * (step 17). docs/PERFORMANCE.md has every call.
  *
  * Link with libbead.a (x86-64 Linux), which tests/staticlib builds. */
@@ -48,11 +48,12 @@ extern "C" {
 /* The words of one page. */
 #define BEAD_PAGE_WORDS 16u
 
-/* The lengths of the rows to lend, for sizes within those limits: party's records, lock words, page words. Each is a
- * constant where the sizes are, so fit for an array's length. */
+/* The lengths of the rows to lend, for sizes within those limits: party's records, lock words, page words, words of who
+ * waits. Each is a constant where the sizes are, so fit for an array's length. */
 #define BEAD_PARTY_ROW(Q) (0u + (Q))
 #define BEAD_LOCK_ROW(P) (1u + (P))
 #define BEAD_PAGE_ROW(P, V, Q) (BEAD_PAGE_WORDS * (0u + (P) + (V) + (Q)))
+#define BEAD_ROW(Q) (0u + (Q))
 
 /* The calls of bead_step that an operation takes at most, whatever the other parties do: those that are answered
  * BEAD_MOVED or BEAD_DONE. The begin is not counted, nor are calls that wait or are refused. It holds of a file that
@@ -67,7 +68,8 @@ extern "C" {
 
 /* ---- The lent memory
  *
- * A caller need not look at it. The specification has the layout of lock words and pages. */
+ * A caller need not look at it. The specification has the layout of lock words and pages. The row of who waits has the
+ * number plus one of each party that does, in the order in which they came to wait, and 0 behind the last. */
 
 /* The root record. */
 struct bead_root {
@@ -112,7 +114,8 @@ enum bead_refusal {
     BEAD_OK = 0,              /* not refused */
     BEAD_NO_OPERATION = 255,  /* bead_begin of none of the three operations; not in the table */
     BEAD_SIZE_REFUSED = 2,    /* a size outside its limits: of those given to bead_format, else of the root record's */
-    BEAD_LENGTH_REFUSED = 1,  /* a length other than Q records, P + 1 lock words or 16 * (P + V + Q) page words */
+    BEAD_LENGTH_REFUSED = 1,  /* a length other than Q records, P + 1 lock words, 16 * (P + V + Q) page words or Q
+                               * words of who waits */
     BEAD_UNSAVED_REFUSED = 8, /* bead_take_up of words that are no file at rest */
     BEAD_PARTY_REFUSED = 3,   /* a party's number Q or above */
     BEAD_BUSY_REFUSED = 4,    /* bead_begin for a party that is not idle */
@@ -123,7 +126,8 @@ enum bead_refusal {
 
 /* What a step came to. */
 enum bead_outcome {
-    BEAD_WAITING = 0, /* the lock that it needs is not to be had now, and no word is altered: try again later */
+    BEAD_WAITING = 0, /* the lock that it needs is held, or a party that came to wait earlier wants it: try again later.
+                       * The first such reply to a step alters the row of who waits alone, the others no word */
     BEAD_MOVED = 1,   /* a step was performed, and there are more */
     BEAD_DONE = 2     /* the operation is over, and the party idle */
 };
@@ -172,8 +176,8 @@ BEAD_ASSERT_BYTES(struct bead_reply, 20);
 
 /* ---- The calls
  *
- * Each is lent the same four parts by seven arguments: the root record; the row of party's records and how many they
- * are; the row of lock words and how many; the row of page words and how many. */
+ * Each is lent the same five parts by nine arguments: the root record; the row of party's records and how many they
+ * are; the row of lock words and how many; the row of page words and how many; the row of who waits and how many. */
 
 /* Makes an empty file of the sizes N b P V Q, given last and in this order. What the memory held before does not
  * matter.
@@ -181,8 +185,9 @@ BEAD_ASSERT_BYTES(struct bead_reply, 20);
  *   BEAD_SIZE_REFUSED    a size given is outside its limits
  *   BEAD_LENGTH_REFUSED  a length is not the one that the sizes given ask for */
 uint32_t bead_format(struct bead_root *root, struct bead_party *party_row, size_t parties, uint32_t *locks,
-                     size_t lock_words, uint32_t *pages, size_t page_words, uint32_t originals, uint32_t capacity,
-                     uint32_t primaries, uint32_t overflow, uint32_t party_count);
+                     size_t lock_words, uint32_t *pages, size_t page_words, uint32_t *row, size_t row_words,
+                     uint32_t originals, uint32_t capacity, uint32_t primaries, uint32_t overflow,
+                     uint32_t party_count);
 
 /* Begins an operation (enum bead_operation) on a key for a party; parties are numbered from 0. Key and setting may be
  * any numbers; the setting is an insert's, and that of a find or a delete is ignored. It writes that party's record
@@ -194,35 +199,41 @@ uint32_t bead_format(struct bead_root *root, struct bead_party *party_row, size_
  *   BEAD_PARTY_REFUSED   there is no such party
  *   BEAD_BUSY_REFUSED    the party's last operation is neither done nor withdrawn */
 uint32_t bead_begin(struct bead_root *root, struct bead_party *party_row, size_t parties, uint32_t *locks,
-                    size_t lock_words, uint32_t *pages, size_t page_words, uint32_t party, uint32_t operation,
-                    uint32_t key, uint32_t setting);
+                    size_t lock_words, uint32_t *pages, size_t page_words, uint32_t *row, size_t row_words,
+                    uint32_t party, uint32_t operation, uint32_t key, uint32_t setting);
 
-/* Performs one step of a party's operation. In a file that only these calls have altered, of all parties with an
- * operation under way at least one would not wait, and a find is done after at most BEAD_MOST_FIND(V) calls that do not
- * wait, an insert after BEAD_MOST_INSERT, a delete after BEAD_MOST_DELETE.
+/* Performs one step of a party's operation. A lock is granted where the locks held permit it and no party that came to
+ * wait earlier wants a lock on the same root or chain that conflicts with it; else the step waits. A party that waits
+ * is in the row of who waits until a step of it is performed or its operation is withdrawn. In a file that only these
+ * calls have altered, no party that comes later is granted a conflicting lock ahead of one that waits, and while
+ * it waits each other party is granted one at most once; of all parties with an operation under way at least one would
+ * not wait; and a find is done after at most BEAD_MOST_FIND(V) calls that do not wait, an insert after
+ * BEAD_MOST_INSERT, a delete after BEAD_MOST_DELETE.
  * The reply's refusal is BEAD_OK or, tested in this order:
  *   BEAD_SIZE_REFUSED    a size in the root record is outside its limits: the memory was never formatted
  *   BEAD_LENGTH_REFUSED  a length is not the one that the root record asks for
  *   BEAD_PARTY_REFUSED   there is no such party
  *   BEAD_IDLE_REFUSED    the party has no operation under way
- *   BEAD_DAMAGE          a number that the step needs is damaged */
+ *   BEAD_DAMAGE          a number that the step needs, or the row of who waits, is damaged */
 struct bead_reply bead_step(struct bead_root *root, struct bead_party *party_row, size_t parties, uint32_t *locks,
-                            size_t lock_words, uint32_t *pages, size_t page_words, uint32_t party);
+                            size_t lock_words, uint32_t *pages, size_t page_words, uint32_t *row, size_t row_words,
+                            uint32_t party);
 
-/* Withdraws a party's operation: takes back its bead_begin. The locks that it holds are given up, the pages that it
- * has built are free again, and the party is idle, with no answer. No key is altered, and no setting. In a file that
- * only these calls have altered, and with no other party's call since the bead_begin, every lent word is what it was
- * before that. An operation that has taken its decisive step cannot be withdrawn, and is stepped to its end: a find
- * whose step number is 9, an insert or a delete whose step number is 12 or above.
+/* Withdraws a party's operation: takes back its bead_begin. The locks that it holds are given up, the pages that it has
+ * built are free again, it waits no more, and the party is idle, with no answer. No key is altered, and no setting. In
+ * a file that only these calls have altered, and with no other party's call since the bead_begin, every lent word is
+ * what it was before that. An operation that has taken its decisive step cannot be withdrawn, and is stepped to its
+ * end: a find whose step number is 9, an insert or a delete whose step number is 12 or above.
  * Answers BEAD_OK, or refuses, tested in this order:
  *   BEAD_SIZE_REFUSED     a size in the root record is outside its limits: the memory was never formatted
  *   BEAD_LENGTH_REFUSED   a length is not the one that the root record asks for
  *   BEAD_PARTY_REFUSED    there is no such party
  *   BEAD_IDLE_REFUSED     the party has no operation under way
  *   BEAD_DECIDED_REFUSED  the operation has taken its decisive step
- *   BEAD_DAMAGE           a number that the withdraw needs is damaged */
+ *   BEAD_DAMAGE           a number that the withdraw needs, or the row of who waits, is damaged */
 uint32_t bead_withdraw(struct bead_root *root, struct bead_party *party_row, size_t parties, uint32_t *locks,
-                       size_t lock_words, uint32_t *pages, size_t page_words, uint32_t party);
+                       size_t lock_words, uint32_t *pages, size_t page_words, uint32_t *row, size_t row_words,
+                       uint32_t party);
 
 /* Tests words that were saved: whether they are a file at rest, as these calls leave one when no operation is under
  * way. It alters nothing. Words that pass may stand where formatted memory stood, and all that is proved of a formatted
@@ -238,7 +249,8 @@ uint32_t bead_withdraw(struct bead_root *root, struct bead_party *party_row, siz
  * middle, go back to the file that was saved last. Save to a new file and rename it, so that there is always a whole
  * one (examples/restart.c). */
 uint32_t bead_take_up(const struct bead_root *root, const struct bead_party *party_row, size_t parties,
-                      const uint32_t *locks, size_t lock_words, const uint32_t *pages, size_t page_words);
+                      const uint32_t *locks, size_t lock_words, const uint32_t *pages, size_t page_words,
+                      const uint32_t *row, size_t row_words);
 
 #ifdef __cplusplus
 }

@@ -15,14 +15,15 @@ struct memory {
     struct bead_party parties[BEAD_PARTY_ROW(PARTIES)];
     uint32_t locks[BEAD_LOCK_ROW(P)];
     uint32_t pages[BEAD_PAGE_ROW(P, BEAD_MOST_OVERFLOW, PARTIES)];
+    uint32_t row[BEAD_ROW(PARTIES)];
 };
 static struct memory file;
 
-/* The lengths that the root record's sizes ask for, and the four parts. */
+/* The lengths that the root record's sizes ask for, and the five parts. */
 #define ROOT file.root
 #define LENT                                                                                                 \
     &ROOT, file.parties, BEAD_PARTY_ROW(ROOT.parties), file.locks, BEAD_LOCK_ROW(ROOT.primaries), file.pages, \
-        BEAD_PAGE_ROW(ROOT.primaries, ROOT.overflow, ROOT.parties)
+        BEAD_PAGE_ROW(ROOT.primaries, ROOT.overflow, ROOT.parties), file.row, BEAD_ROW(ROOT.parties)
 
 static unsigned checks, failures;
 #define CHECK(condition) check((condition) != 0, #condition, __LINE__)

@@ -1,7 +1,8 @@
 /* The C face of the index, tested through include/bead_index.h: every refusal in the table's order with every lent word
- * as it was, every outcome, answer and restructuring by its name, each field of both records in its place, operations
- * withdrawn with every lent word as before their begin, files taken up at rest and refused elsewhere, and words beside
- * the lent rows that no call touches. C11, and C++ as well. Prints one line, or each check that fails. */
+ * as it was, every outcome, answer and restructuring by its name, each field of both records and the row of who waits
+ * in its place, operations withdrawn with every lent word as before their begin, a party that waits and is not
+ * overtaken, files taken up at rest and refused elsewhere, and words beside the lent rows that no call touches. C11,
+ * and C++ as well. Prints one line, or each check that fails. */
 #include <stdio.h>
 #include <string.h>
 
@@ -22,14 +23,16 @@ struct memory {
     uint32_t locks[BEAD_LOCK_ROW(MOST_P)];
     uint32_t before_pages[GUARDS];
     uint32_t pages[BEAD_PAGE_ROW(MOST_P, MOST_V, MOST_Q)];
-    uint32_t after_pages[GUARDS];
+    uint32_t before_row[GUARDS];
+    uint32_t row[BEAD_ROW(MOST_Q)];
+    uint32_t after_row[GUARDS];
 };
 static struct memory file, before;
 
 /* The lengths of the rows for the sizes of `start`; and the lengths lent, the same but where a test says otherwise. */
-static size_t party_row, lock_row, page_row;
-static size_t parties, lock_words, page_words;
-#define LENT &file.root, file.parties, parties, file.locks, lock_words, file.pages, page_words
+static size_t party_row, lock_row, page_row, waiting_row;
+static size_t parties, lock_words, page_words, row_words;
+#define LENT &file.root, file.parties, parties, file.locks, lock_words, file.pages, page_words, file.row, row_words
 
 static unsigned checks, failures;
 #define CHECK(condition) check((condition) != 0, #condition, __LINE__)
@@ -52,6 +55,7 @@ static void start(uint32_t p, uint32_t v, uint32_t q)
     parties = party_row = BEAD_PARTY_ROW(q);
     lock_words = lock_row = BEAD_LOCK_ROW(p);
     page_words = page_row = BEAD_PAGE_ROW(p, v, q);
+    row_words = waiting_row = BEAD_ROW(q);
 }
 
 /* Whether words hold guards alone. */
@@ -69,17 +73,44 @@ static int kept_inside(void)
 {
     return guarded(file.before_root, &file.root) && guarded(file.before_parties, file.parties) &&
            guarded(file.parties + party_row, file.locks) && guarded(file.locks + lock_row, file.pages) &&
-           guarded(file.pages + page_row, &file + 1);
+           guarded(file.pages + page_row, file.row) && guarded(file.row + waiting_row, &file + 1);
 }
 
 /* Remembers every word, and tells whether all are as remembered. */
 static void remember(void) { memcpy(&before, &file, sizeof file); }
 static int unaltered(void) { return memcmp(&before, &file, sizeof file) == 0; }
 
+/* Where a party stands among those who wait, the first at 0; how many they are, where it does not. */
+static size_t place_of(uint32_t party, const uint32_t *row)
+{
+    size_t place = 0;
+    while (place < waiting_row && row[place] != 0 && row[place] != party + 1)
+        place++;
+    return place;
+}
+
+/* Whether a party is among them. */
+static int waits(uint32_t party)
+{
+    size_t place = place_of(party, file.row);
+    return place < waiting_row && file.row[place] == party + 1;
+}
+
+/* Whether no word but of the row was altered, and of it only that the party is in it, behind the others. */
+static int joined_at_most(uint32_t party)
+{
+    size_t place = place_of(party, before.row);
+    if (place == waiting_row)
+        return 0;
+    before.row[place] = party + 1;
+    return unaltered();
+}
+
 /* The setting that a key is begun with. */
 #define SETTING(key) (~(key))
 
-/* The five calls; each sees to the guards, and that a refusal, a wait or a take-up alters nothing. */
+/* The five calls; each sees to the guards, that a refusal or a take-up alters nothing, that a wait alters the row of
+ * who waits at most, and that a party which moves or is withdrawn is not in it. */
 static uint32_t format(uint32_t n, uint32_t b, uint32_t p, uint32_t v, uint32_t q)
 {
     remember();
@@ -103,7 +134,11 @@ static struct bead_reply step(uint32_t party)
     remember();
     struct bead_reply reply = bead_step(LENT, party);
     CHECK(kept_inside());
-    CHECK((reply.refusal == BEAD_OK && reply.outcome != BEAD_WAITING) || unaltered());
+    CHECK(reply.refusal == BEAD_OK || unaltered());
+    if (reply.refusal == BEAD_OK && reply.outcome == BEAD_WAITING)
+        CHECK(joined_at_most(party));
+    else
+        CHECK(reply.refusal != BEAD_OK || !waits(party));
     CHECK(reply.refusal == BEAD_OK || reply.outcome == 0);
     CHECK(reply.outcome == BEAD_DONE || (reply.answer == BEAD_NO_ANSWER && reply.restructuring == 0));
     CHECK(reply.answer == BEAD_FOUND || reply.setting == 0);
@@ -115,7 +150,7 @@ static uint32_t withdraw(uint32_t party)
     remember();
     uint32_t refusal = bead_withdraw(LENT, party);
     CHECK(kept_inside());
-    CHECK(refusal == BEAD_OK || unaltered());
+    CHECK(refusal == BEAD_OK ? !waits(party) : unaltered());
     return refusal;
 }
 
@@ -154,11 +189,11 @@ static int ends(uint32_t operation, uint32_t key, uint32_t answer, uint32_t rest
            reply.restructuring == restructuring && (answer != BEAD_FOUND || reply.setting == SETTING(key));
 }
 
-/* The three lengths, one by one too short and too long, and what a call says to it; all are right again afterwards. */
+/* The four lengths, one by one too short and too long, and what a call says to it; all are right again afterwards. */
 static void test_lengths(uint32_t (*refusal)(void))
 {
-    size_t *lengths[] = {&parties, &lock_words, &page_words};
-    for (int i = 0; i < 3; i++) {
+    size_t *lengths[] = {&parties, &lock_words, &page_words, &row_words};
+    for (int i = 0; i < 4; i++) {
         *lengths[i] -= 1;
         CHECK(refusal() == BEAD_LENGTH_REFUSED);
         *lengths[i] += 2;
@@ -319,6 +354,8 @@ static void test_taken_up(void)
     test_unsaved(&file.root.free, file.root.free - 1);
     test_unsaved(&file.parties[1].key, 7);
     test_unsaved(&file.locks[4], UINT32_C(1) << 31);
+    for (size_t i = 0; i < waiting_row; i++)
+        test_unsaved(&file.row[i], 1);
     for (size_t i = 0; i < page_row; i++)
         if (i != SETTING_OF_5 && i != SETTING_OF_4 && i != SETTING_OF_7)
             test_unsaved(&file.pages[i], file.pages[i] ^ UINT32_C(1) << 31);
@@ -417,6 +454,27 @@ static void test_damage(void)
     CHECK(step(0).refusal == BEAD_DAMAGE);
 }
 
+/* The row of who waits, in which party 1 is: a gap, a word above Q, a party twice, one that is idle, one whose next
+ * step requests no lock. A begin does not look at it. */
+static void test_row_damage(void)
+{
+    make(1, 2, 2, 2, 3);
+    CHECK(begin(0, BEAD_INSERT, 4) == BEAD_OK);
+    CHECK(begin(1, BEAD_DELETE, 4) == BEAD_OK);
+    CHECK(step_until(0, 11).outcome == BEAD_MOVED);
+    CHECK(step_until(1, 0).outcome == BEAD_WAITING);
+    CHECK(file.row[0] == 2 && file.row[1] == 0 && file.row[2] == 0);
+    test_both_damaged(&file.row[2], 2);
+    const uint32_t wrong[] = {4, UINT32_MAX, 2, 3, 1};
+    for (size_t i = 0; i < sizeof wrong / sizeof *wrong; i++)
+        test_both_damaged(&file.row[1], wrong[i]);
+    file.row[2] = UINT32_MAX;
+    CHECK(begin(2, BEAD_FIND, 4) == BEAD_OK);
+    file.row[2] = 0;
+    CHECK(step_until(0, 0).answer == BEAD_INSERTED);
+    CHECK(step_until(1, 0).answer == BEAD_DELETED);
+}
+
 /* Every answer and every restructuring; a merge is skipped at N chains, and where the records of both chains do not
  * fit. */
 static void test_answers(void)
@@ -474,6 +532,31 @@ static void test_waiting(void)
     CHECK(step_until(1, 0).answer == BEAD_DELETED);
 }
 
+/* An export that waits to give pages back, behind a preview, is not overtaken by a preview that comes later, though the
+ * locks held permit it; nor by a third one, whose wait is withdrawn. */
+static void test_overtaking(void)
+{
+    make(1, 1, 1, 4, 4);
+    CHECK(ends(BEAD_INSERT, 4, BEAD_INSERTED, BEAD_NO_RESTRUCTURING));
+    CHECK(ends(BEAD_INSERT, 5, BEAD_INSERTED, BEAD_SPLIT_SKIPPED));
+    CHECK(begin(0, BEAD_FIND, 4) == BEAD_OK && begin(1, BEAD_DELETE, 5) == BEAD_OK);
+    CHECK(begin(2, BEAD_FIND, 4) == BEAD_OK && begin(3, BEAD_FIND, 4) == BEAD_OK);
+    CHECK(step_until(0, 6).outcome == BEAD_MOVED);
+    CHECK(step_until(1, 0).outcome == BEAD_WAITING && file.parties[1].step == 13);
+    CHECK(step_until(3, 0).outcome == BEAD_WAITING && file.parties[3].step == 4);
+    CHECK(step_until(2, 0).outcome == BEAD_WAITING && file.parties[2].step == 4);
+    CHECK(file.row[0] == 2 && file.row[1] == 4 && file.row[2] == 3 && file.row[3] == 0);
+    CHECK(withdraw(3) == BEAD_OK);
+    CHECK(file.row[0] == 2 && file.row[1] == 3 && file.row[2] == 0 && file.row[3] == 0);
+    CHECK(step_until(0, 0).answer == BEAD_FOUND);
+    CHECK(step(2).outcome == BEAD_WAITING);
+    CHECK(step(1).outcome == BEAD_MOVED && file.row[0] == 3 && file.row[1] == 0);
+    CHECK(step(2).outcome == BEAD_WAITING);
+    CHECK(step_until(1, 0).answer == BEAD_DELETED);
+    CHECK(step_until(2, 0).answer == BEAD_FOUND);
+    CHECK(take_up() == BEAD_OK);
+}
+
 /* A withdraw ends another party's wait, and its own. */
 static void test_wait_withdrawn(void)
 {
@@ -500,9 +583,11 @@ int main(void)
     test_taken_up();
     test_withdrawn();
     test_damage();
+    test_row_damage();
     test_answers();
     test_settings();
     test_waiting();
+    test_overtaking();
     test_wait_withdrawn();
     if (failures == 0)
         printf("face: %u checks of the C face hold\n", checks);

@@ -1,15 +1,20 @@
-/* The replies of the C port, and its locks (docs/SPECIFICATION.md, "A lock word" and "Addresses and locks"). Every
- * request is judged by `request`. */
+/* The replies of the C port, and its locks (docs/SPECIFICATION.md, "A lock word" and "Addresses and locks"). */
 #ifndef BENCH_PORT_LOCKS_H
 #define BENCH_PORT_LOCKS_H
 
 #include "memory.h"
 
-/* A step under way: the memory lent, and whose step it is, by record and number. */
+/* How many parties wait, and how many of them stand before this one: all, where it does not wait. */
+typedef struct {
+    uint32_t length, place;
+} queue;
+
+/* A call under way: the memory lent, whose step it is, by record and number, and where that party stands. */
 typedef struct {
     root *r;
-    party *me;
-    uint32_t *locks, *pages, q;
+    party *parties, *me;
+    uint32_t *locks, *pages, *row, q;
+    queue line;
 } turn;
 
 /* ---- Replies */
@@ -52,6 +57,7 @@ static const uint8_t grants[3][3] = {
     {0, 0, 0},
 };
 
+/* Whether the locks held permit a request. */
 static inline int granted(uint32_t word, enum lock request)
 {
     if (!(word & (READERS | SELECTIVES | EXCLUSIVES)))
@@ -75,21 +81,6 @@ static inline int holds(uint32_t word, enum lock kind, uint32_t q) { return (wor
 
 /* Own mode: read for a find, selective for an insert or a delete. */
 static inline enum lock own_mode(const party *me) { return me->operation == BEAD_FIND ? READ : SELECTIVE; }
-
-/* Whether the lock is granted; the word then names the party. */
-static inline int request(const turn *t, uint32_t word, enum lock kind)
-{
-    if (!granted(t->locks[word], kind))
-        return 0;
-    t->locks[word] |= hold(kind, t->q);
-    return 1;
-}
-
-/* A step that requests a lock and does nothing else. */
-static inline reply request_then(const turn *t, uint32_t word, enum lock kind, uint32_t then)
-{
-    return request(t, word, kind) ? go(t->me, then) : waiting();
-}
 
 /* A step that gives up a lock and does nothing else. */
 static inline reply leave_then(const turn *t, uint32_t word, enum lock kind, uint32_t then)

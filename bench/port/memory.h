@@ -53,6 +53,31 @@ static inline uint32_t hash(const root *r, uint32_t level, uint32_t mix) { retur
 /* n: the number of chains outside a restructuring. */
 static inline uint32_t chains(const root *r) { return (r->originals << r->level) + r->next; }
 
+/* The target of a merge, where n is above N. */
+static inline uint32_t target_of(const root *r) { return (r->next ? r->next : r->originals << (r->level - 1)) - 1; }
+
+/* ---- Words to be zero */
+
+static inline uint64_t two_words(const uint32_t *words)
+{
+    uint64_t both;
+    memcpy(&both, words, sizeof both);
+    return both;
+}
+
+static inline uint64_t four_words(const uint32_t *words) { return two_words(words) | two_words(words + 2); }
+static inline uint64_t eight_words(const uint32_t *words) { return four_words(words) | four_words(words + 4); }
+
+/* Not 0 if one of these words is not, 16 words at most: a look from each end, which may meet. */
+static inline uint64_t any_word(const uint32_t *words, uint32_t count)
+{
+    if (count >= 8)
+        return eight_words(words) | eight_words(words + count - 8);
+    if (count >= 4)
+        return four_words(words) | four_words(words + count - 4);
+    return count ? words[0] | words[count / 2] | words[count - 1] : 0;
+}
+
 /* ---- Pages */
 
 static inline uint32_t *page_at(uint32_t *pages, uint32_t number) { return pages + PAGE * (size_t)number; }

@@ -4,7 +4,7 @@
 #ifndef BENCH_PORT_STEPS_H
 #define BENCH_PORT_STEPS_H
 
-#include "locks.h"
+#include "waiting.h"
 
 /* What a party owes once its change is made. */
 enum { OWES_NOTHING, OWES_SPLIT, OWES_MERGE, HAS_SPLIT };
@@ -301,9 +301,6 @@ static inline reply leave_split(const turn *t)
 }
 
 /* ---- Merging */
-
-/* The target of a merge, where n is above N. */
-static inline uint32_t target_of(const root *r) { return (r->next ? r->next : r->originals << (r->level - 1)) - 1; }
 
 /* 24: requests exclusive on the target; with N chains gives up the root. */
 static inline reply request_merge(const turn *t)

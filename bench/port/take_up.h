@@ -11,28 +11,7 @@ typedef struct {
     uint32_t count;
 } survey;
 
-/* ---- Words to be zero */
-
-static inline uint64_t two_words(const uint32_t *words)
-{
-    uint64_t both;
-    memcpy(&both, words, sizeof both);
-    return both;
-}
-
-static inline uint64_t four_words(const uint32_t *words) { return two_words(words) | two_words(words + 2); }
-static inline uint64_t eight_words(const uint32_t *words) { return four_words(words) | four_words(words + 4); }
-
-/* Not 0 if one of these words is not, 16 words at most: a look from each end, which may meet. */
-static inline uint64_t any_word(const uint32_t *words, uint32_t count)
-{
-    if (count >= 8)
-        return eight_words(words) | eight_words(words + count - 8);
-    if (count >= 4)
-        return four_words(words) | four_words(words + count - 4);
-    return count ? words[0] | words[count / 2] | words[count - 1] : 0;
-}
-
+/* Whether so many words are zero. */
 static inline int all_zero(const uint32_t *words, size_t count)
 {
     uint32_t any = 0;

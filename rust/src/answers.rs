@@ -137,8 +137,9 @@ impl fmt::Display for UnderWay {
 #[derive(Clone, Copy, Debug, PartialEq, Eq, Hash)]
 #[must_use]
 pub enum Outcome {
-    /// Another party has the lock that the step needs. Nothing is altered; the same step is tried again by the next
-    /// call. [`File::wait`](crate::File::wait) says who has it.
+    /// Another party has the lock that the step needs, or came to wait for it earlier. The party is now among those who
+    /// wait, and nothing else is altered; the same step is tried again by the next call.
+    /// [`File::wait`](crate::File::wait) says for whom it waits.
     Waiting,
     /// The step is performed, and there are more.
     Moved,

@@ -107,7 +107,7 @@ impl<'a> FileRef<'a> {
         })
     }
 
-    /// As [`format`](FileRef::format), in four parts that stand in different places.
+    /// As [`format`](FileRef::format), in five parts that stand in different places.
     ///
     /// # Errors
     /// [`Refusal::Size`] and [`Refusal::Length`].
@@ -116,7 +116,7 @@ impl<'a> FileRef<'a> {
         Ok(File { memory: parts })
     }
 
-    /// As [`open`](FileRef::open), in four parts that stand in different places.
+    /// As [`open`](FileRef::open), in five parts that stand in different places.
     ///
     /// # Errors
     /// [`Refusal::Size`] and [`Refusal::Length`].
@@ -142,7 +142,9 @@ impl<M: Memory> File<M> {
         ))
     }
 
-    /// Performs the next step of a party's operation.
+    /// Performs the next step of a party's operation. Where it waits, the party is among those who wait, first come
+    /// first, until a step of it is performed or its operation is withdrawn, and nobody who comes later is granted a
+    /// lock that does not go with the one it waits for.
     ///
     /// # Errors
     /// [`Refusal::Party`] where there is no such party, [`Refusal::Idle`] where it has no operation under way,
@@ -162,8 +164,9 @@ impl<M: Memory> File<M> {
     }
 
     /// Withdraws a party's operation: takes back its [`begin`](File::begin). The locks that it holds are given up, the
-    /// pages that it has built are free again, and the party is idle; there is no answer, and no key and no setting is
-    /// altered. Where no other party's call came since the begin, every word of the file is what it was before it.
+    /// pages that it has built are free again, it waits no more, and the party is idle; there is no answer, and no key
+    /// and no setting is altered. Where no other party's call came since the begin, every word of the file is what it
+    /// was before it.
     ///
     /// Once it has taken its decisive step an operation cannot be withdrawn, and goes on to its end: a find when the
     /// number of its next step is 9, an insert or a delete when that is 12 or above.

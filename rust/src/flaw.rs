@@ -16,6 +16,8 @@ pub enum Flaw {
     Party(u32),
     /// The lock word of the root or of a chain is not zero.
     Lock(Lock),
+    /// This word of those who wait is not zero.
+    Waiting(u32),
     /// The scratch page of this party is not zero.
     Scratch(u32),
     /// A number of the root record is outside its limits.
@@ -78,6 +80,7 @@ impl fmt::Display for Flaw {
         match *self {
             Flaw::Party(party) => write!(out, "party {party} has an operation under way"),
             Flaw::Lock(lock) => write!(out, "the lock word of {lock} is not zero"),
+            Flaw::Waiting(place) => write!(out, "word {place} of who waits is not zero"),
             Flaw::Scratch(party) => write!(out, "the scratch page of party {party} is not zero"),
             Flaw::Root(flaw) => flaw.fmt(out),
             Flaw::Chain { chain, page, flaw } => write!(out, "chain {chain}, page {page}: {flaw}"),
@@ -188,7 +191,7 @@ impl Parts<'_> {
         }
     }
 
-    /// Records, lock words and scratch pages are zero.
+    /// Records, lock words, the row of who waits and scratch pages are zero.
     fn at_rest(self) -> Result<(), Flaw> {
         let is_zero = |record: &PartyRecord| *record == PartyRecord::default();
         if let Some(party) = self.parties.iter().position(|record| !is_zero(record)) {
@@ -198,6 +201,9 @@ impl Parts<'_> {
             Some(0) => return Err(Flaw::Lock(Lock::Root)),
             Some(place) => return Err(Flaw::Lock(Lock::Chain(place as u32 - 1))),
             None => {}
+        }
+        if let Some(place) = self.waiting.iter().position(|word| *word != 0) {
+            return Err(Flaw::Waiting(place as u32));
         }
         let first = self.root.primaries + self.root.overflow;
         self.zero(first..first + self.root.parties, |page| {

@@ -19,8 +19,9 @@
 //!
 //! Parties share it step by step. A party [begins](File::begin) an operation, and each call of [`step`](File::step)
 //! performs one step of it. The caller picks whose step is next; locks see to it that every order comes out right. Of
-//! the parties that have an operation under way at least one can always move, and each is done after at most as many
-//! steps that do not wait as [`Sizes::most_calls`] says.
+//! the parties that have an operation under way at least one can always move; nobody who comes later is granted a lock
+//! ahead of one that waits for it, where the two do not go together; and each is done after at most as many steps that
+//! do not wait as [`Sizes::most_calls`] says.
 //!
 //! ```
 //! use bead_index::{Answer, File, Operation, Outcome, Sizes};
@@ -89,8 +90,8 @@
 //!
 //! # Stack
 //!
-//! On chains of at most four pages no call was measured to take more than 1,928 bytes of stack (step 29); step 3,
-//! which every operation performs, takes 1,504. On the longest chain that can be lent no call takes more than 472,256
+//! On chains of at most four pages no call was measured to take more than 1,960 bytes of stack (step 29); step 3,
+//! which every operation performs, takes 1,672. On the longest chain that can be lent no call takes more than 472,288
 //! bytes (step 17). docs/PERFORMANCE.md has every call.
 
 #![deny(unsafe_code)]

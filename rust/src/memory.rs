@@ -1,4 +1,4 @@
-//! The memory of a file: its records, its four parts, and who owns them.
+//! The memory of a file: its records, its five parts, and who owns them.
 
 use crate::error::Refusal;
 use crate::sizes::Sizes;
@@ -74,7 +74,7 @@ impl PartyRecord {
     pub const WORDS: usize = 10;
 }
 
-/// The four parts of a file's memory, lent for writing.
+/// The five parts of a file's memory, lent for writing.
 ///
 /// ```
 /// use bead_index::{FileRef, Lent, PartyRecord, RootRecord, Sizes};
@@ -84,7 +84,14 @@ impl PartyRecord {
 /// let mut parties = [PartyRecord::default(); 1];
 /// let mut locks = [0; 5];
 /// let mut pages = [0; 128];
-/// let lent = Lent { root: &mut root, parties: &mut parties, locks: &mut locks, pages: &mut pages };
+/// let mut waiting = [0; 1];
+/// let lent = Lent {
+///     root: &mut root,
+///     parties: &mut parties,
+///     locks: &mut locks,
+///     pages: &mut pages,
+///     waiting: &mut waiting,
+/// };
 /// let mut file = FileRef::format_parts(lent, sizes)?;
 /// assert_eq!(file.insert(7, 40), Ok(true));
 /// # Ok::<(), bead_index::Refusal>(())
@@ -99,6 +106,8 @@ pub struct Lent<'a> {
     pub locks: &'a mut [u32],
     /// The page words.
     pub pages: &'a mut [u32],
+    /// Who waits: party numbers plus one, first come first, 0 behind the last.
+    pub waiting: &'a mut [u32],
 }
 
 impl<'a> Lent<'a> {
@@ -110,12 +119,14 @@ impl<'a> Lent<'a> {
         }
         let (root, rest) = words.split_at_mut(RootRecord::WORDS);
         let (parties, rest) = rest.split_at_mut(PartyRecord::WORDS * sizes.party_records());
-        let (locks, pages) = rest.split_at_mut(sizes.lock_words());
+        let (locks, rest) = rest.split_at_mut(sizes.lock_words());
+        let (pages, waiting) = rest.split_at_mut(sizes.page_words());
         Ok(Lent {
             root: &mut records_mut(root)[0],
             parties: records_mut(parties),
             locks,
             pages,
+            waiting,
         })
     }
 
@@ -123,13 +134,19 @@ impl<'a> Lent<'a> {
     pub(crate) fn check(&self) -> Result<(), Refusal> {
         let sizes = self.root.sizes();
         sizes.check()?;
-        let lengths = (self.parties.len(), self.locks.len(), self.pages.len());
+        let lengths = [
+            self.parties.len(),
+            self.locks.len(),
+            self.pages.len(),
+            self.waiting.len(),
+        ];
         if lengths
-            == (
+            == [
                 sizes.party_records(),
                 sizes.lock_words(),
                 sizes.page_words(),
-            )
+                sizes.waiting_words(),
+            ]
         {
             Ok(())
         } else {
@@ -138,13 +155,14 @@ impl<'a> Lent<'a> {
     }
 }
 
-/// The four parts of a file's memory, lent for reading.
+/// The five parts of a file's memory, lent for reading.
 #[derive(Clone, Copy)]
 pub struct Parts<'a> {
     pub root: &'a RootRecord,
     pub parties: &'a [PartyRecord],
     pub locks: &'a [u32],
     pub pages: &'a [u32],
+    pub waiting: &'a [u32],
 }
 
 /// Memory that the file owns, as one row of words.
@@ -231,6 +249,7 @@ impl Room for Lent<'_> {
             parties: self.parties,
             locks: self.locks,
             pages: self.pages,
+            waiting: self.waiting,
         }
     }
 
@@ -240,6 +259,7 @@ impl Room for Lent<'_> {
             parties: self.parties,
             locks: self.locks,
             pages: self.pages,
+            waiting: self.waiting,
         }
     }
 }
@@ -250,12 +270,14 @@ impl Room for Owned {
         let root: &RootRecord = &records(root)[0];
         let sizes = root.sizes();
         let (parties, rest) = rest.split_at(PartyRecord::WORDS * sizes.party_records());
-        let (locks, pages) = rest.split_at(sizes.lock_words());
+        let (locks, rest) = rest.split_at(sizes.lock_words());
+        let (pages, waiting) = rest.split_at(sizes.page_words());
         Parts {
             root,
             parties: records(parties),
             locks,
             pages,
+            waiting,
         }
     }
 
@@ -300,8 +322,9 @@ mod tests {
             (parts.locks, parts.pages.len(), parts.pages[0]),
             (&[29, 30, 31, 32][..], 112, 33)
         );
+        assert_eq!(parts.waiting, [145, 146]);
         let lent = owned.lent();
-        lent.pages[111] = 7;
+        lent.waiting[1] = 7;
         assert_eq!(owned.words().last(), Some(&7));
     }
 

@@ -61,8 +61,8 @@ impl<M: Memory> File<M> {
     ///
     /// # Errors
     /// [`Error::Refused`] where a call is refused. [`Error::Waits`] where another party has a lock that the operation
-    /// needs, which does not happen while no other has an operation under way: this one then stays under way, see
-    /// [`finish`](File::finish).
+    /// needs or came to wait for it earlier, which does not happen while no other has an operation under way: this one
+    /// then stays under way, see [`finish`](File::finish).
     pub fn run(&mut self, party: u32, operation: Operation) -> Result<Answer, Error> {
         self.begin(party, operation)?;
         self.finish(party)

@@ -45,9 +45,9 @@ fn words_of(bytes: &[u8]) -> Result<Vec<u32>, Refusal> {
     Ok(words.map(word).collect())
 }
 
-/// Taking up a file in four parts.
+/// Taking up a file in five parts.
 impl<'a> FileRef<'a> {
-    /// As [`take_up`](File::take_up), in four parts that stand in different places.
+    /// As [`take_up`](File::take_up), in five parts that stand in different places.
     ///
     /// # Errors
     /// As [`take_up`](File::take_up).

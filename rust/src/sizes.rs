@@ -178,8 +178,14 @@ impl Sizes {
             * (self.most_chains as usize + self.overflow_pages as usize + self.parties as usize)
     }
 
-    /// How many words the whole file takes in one row: the root record, the parties' records, the lock words and the
-    /// page words, in this order.
+    /// How many words to lend for who waits: one a party.
+    #[must_use]
+    pub const fn waiting_words(&self) -> usize {
+        self.parties as usize
+    }
+
+    /// How many words the whole file takes in one row: the root record, the parties' records, the lock words, the page
+    /// words and who waits, in this order.
     ///
     /// ```
     /// use bead_index::{FileRef, Sizes};
@@ -194,6 +200,7 @@ impl Sizes {
             + PartyRecord::WORDS * self.party_records()
             + self.lock_words()
             + self.page_words()
+            + self.waiting_words()
     }
 }
 
@@ -267,11 +274,12 @@ mod tests {
             (
                 sizes.party_records(),
                 sizes.lock_words(),
-                sizes.page_words()
+                sizes.page_words(),
+                sizes.waiting_words()
             ),
-            (3, 9, 256)
+            (3, 9, 256, 3)
         );
-        assert_eq!(sizes.words(), 9 + 30 + 9 + 256);
-        assert_eq!(Sizes::default().words() * 4, 67_240);
+        assert_eq!(sizes.words(), 9 + 30 + 9 + 256 + 3);
+        assert_eq!(Sizes::default().words() * 4, 67_304);
     }
 }

@@ -25,6 +25,8 @@ extern "C" {
         lock_words: usize,
         pages: *mut u32,
         page_words: usize,
+        row: *mut u32,
+        row_words: usize,
         original_chains: u32,
         records_a_page: u32,
         most_chains: u32,
@@ -40,6 +42,8 @@ extern "C" {
         lock_words: usize,
         pages: *mut u32,
         page_words: usize,
+        row: *mut u32,
+        row_words: usize,
         party: u32,
         operation: u32,
         key: u32,
@@ -54,6 +58,8 @@ extern "C" {
         lock_words: usize,
         pages: *mut u32,
         page_words: usize,
+        row: *mut u32,
+        row_words: usize,
         party: u32,
     ) -> Reply;
 
@@ -65,6 +71,8 @@ extern "C" {
         lock_words: usize,
         pages: *mut u32,
         page_words: usize,
+        row: *mut u32,
+        row_words: usize,
         party: u32,
     ) -> u32;
 
@@ -76,6 +84,8 @@ extern "C" {
         lock_words: usize,
         pages: *const u32,
         page_words: usize,
+        row: *const u32,
+        row_words: usize,
     ) -> u32;
 }
 
@@ -86,8 +96,9 @@ pub(crate) fn format(lent: Lent<'_>, sizes: &Sizes) -> u32 {
         parties,
         locks,
         pages,
+        waiting,
     } = lent;
-    // SAFETY: four parts that are lent for writing do not overlap, and each goes with its own length.
+    // SAFETY: five parts that are lent for writing do not overlap, and each goes with its own length.
     // The library takes any words and any sizes.
     unsafe {
         bead_format(
@@ -98,6 +109,8 @@ pub(crate) fn format(lent: Lent<'_>, sizes: &Sizes) -> u32 {
             locks.len(),
             pages.as_mut_ptr(),
             pages.len(),
+            waiting.as_mut_ptr(),
+            waiting.len(),
             sizes.original_chains,
             sizes.records_a_page,
             sizes.most_chains,
@@ -114,6 +127,7 @@ pub(crate) fn begin(lent: Lent<'_>, party: u32, operation: u32, key: u32, settin
         parties,
         locks,
         pages,
+        waiting,
     } = lent;
     // SAFETY: as in `format`.
     unsafe {
@@ -125,6 +139,8 @@ pub(crate) fn begin(lent: Lent<'_>, party: u32, operation: u32, key: u32, settin
             locks.len(),
             pages.as_mut_ptr(),
             pages.len(),
+            waiting.as_mut_ptr(),
+            waiting.len(),
             party,
             operation,
             key,
@@ -140,6 +156,7 @@ pub(crate) fn step(lent: Lent<'_>, party: u32) -> Reply {
         parties,
         locks,
         pages,
+        waiting,
     } = lent;
     // SAFETY: as in `format`.
     unsafe {
@@ -151,6 +168,8 @@ pub(crate) fn step(lent: Lent<'_>, party: u32) -> Reply {
             locks.len(),
             pages.as_mut_ptr(),
             pages.len(),
+            waiting.as_mut_ptr(),
+            waiting.len(),
             party,
         )
     }
@@ -163,6 +182,7 @@ pub(crate) fn withdraw(lent: Lent<'_>, party: u32) -> u32 {
         parties,
         locks,
         pages,
+        waiting,
     } = lent;
     // SAFETY: as in `format`.
     unsafe {
@@ -174,6 +194,8 @@ pub(crate) fn withdraw(lent: Lent<'_>, party: u32) -> u32 {
             locks.len(),
             pages.as_mut_ptr(),
             pages.len(),
+            waiting.as_mut_ptr(),
+            waiting.len(),
             party,
         )
     }
@@ -186,6 +208,7 @@ pub(crate) fn take_up(parts: Parts<'_>) -> u32 {
         parties,
         locks,
         pages,
+        waiting,
     } = parts;
     // SAFETY: each part is lent for reading, goes with its own length, and is not written.
     unsafe {
@@ -197,6 +220,8 @@ pub(crate) fn take_up(parts: Parts<'_>) -> u32 {
             locks.len(),
             pages.as_ptr(),
             pages.len(),
+            waiting.as_ptr(),
+            waiting.len(),
         )
     }
 }
@@ -239,9 +264,10 @@ fn words<R: Record>(records: &[R]) -> &[u32] {
 }
 
 /// All words of a file, part by part in their order.
-pub(crate) fn all_words(parts: Parts<'_>) -> [&[u32]; 4] {
+pub(crate) fn all_words(parts: Parts<'_>) -> [&[u32]; 5] {
     let root = words(std::slice::from_ref(parts.root));
-    [root, words(parts.parties), parts.locks, parts.pages]
+    let records = words(parts.parties);
+    [root, records, parts.locks, parts.pages, parts.waiting]
 }
 
 /// The words that bytes are, such as those of a mapped file: none where the bytes do not start at a word's address or

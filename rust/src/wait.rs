@@ -1,4 +1,4 @@
-//! Who waits for whom: the lock that a party's next step asks for, and who keeps it from being granted.
+//! Who waits for whom: the lock that a party's next step asks for, who holds it, and who came to wait for it earlier.
 
 use crate::answers::{Kind, Operation, UnderWay};
 use crate::memory::{Parts, PartyRecord};
@@ -34,6 +34,16 @@ pub enum Mode {
     Exclusive,
 }
 
+impl Mode {
+    /// Whether two parties may hold these at once.
+    fn goes_with(self, other: Mode) -> bool {
+        matches!(
+            (self, other),
+            (Mode::Read, Mode::Read | Mode::Selective) | (Mode::Selective, Mode::Read)
+        )
+    }
+}
+
 impl fmt::Display for Mode {
     fn fmt(&self, out: &mut fmt::Formatter<'_>) -> fmt::Result {
         out.write_str(match self {
@@ -44,7 +54,8 @@ impl fmt::Display for Mode {
     }
 }
 
-/// Why a party's next step would wait.
+/// Why a party's next step would wait: the lock is held, or others came to wait for it earlier, in a way that does not
+/// go with what the party asks for. One of them at least is not empty.
 ///
 /// ```
 /// use bead_index::{File, Mode, Operation, Sizes};
@@ -74,30 +85,31 @@ pub struct Wait {
     pub mode: Mode,
     /// Who holds it in a way that does not go with this, ascending.
     pub holders: Vec<u32>,
+    /// Who waits for it in a way that does not go with this, and came to wait earlier, first come first.
+    pub behind: Vec<u32>,
 }
 
 impl fmt::Display for Wait {
     fn fmt(&self, out: &mut fmt::Formatter<'_>) -> fmt::Result {
         write!(
             out,
-            "party {} waits for {} ({}), held by ",
+            "party {} waits for {} ({})",
             self.party, self.lock, self.mode
         )?;
-        out.write_str(if self.holders.len() == 1 {
-            "party "
-        } else {
-            "parties "
-        })?;
-        for (place, holder) in self.holders.iter().enumerate() {
-            out.write_str(match place {
-                0 => "",
-                _ if place + 1 == self.holders.len() => " and ",
-                _ => ", ",
-            })?;
-            write!(out, "{holder}")?;
-        }
-        Ok(())
+        list(out, ", held by ", &self.holders)?;
+        list(out, ", behind ", &self.behind)
     }
+}
+
+/// Parties after some words: "party 1", "parties 1, 2 and 4"; nothing where there is none.
+fn list(out: &mut fmt::Formatter<'_>, words: &str, parties: &[u32]) -> fmt::Result {
+    let (last, rest) = match parties {
+        [] => return Ok(()),
+        [party] => return write!(out, "{words}party {party}"),
+        [rest @ .., last] => (last, rest),
+    };
+    let rest: Vec<String> = rest.iter().map(u32::to_string).collect();
+    write!(out, "{words}parties {} and {last}", rest.join(", "))
 }
 
 impl Parts<'_> {
@@ -155,8 +167,8 @@ impl Parts<'_> {
             Lock::Root => *self.locks.first()?,
             Lock::Chain(chain) => *self.locks.get(chain as usize + 1)?,
         };
-        let holders = holders(word, mode);
-        if holders.is_empty() {
+        let (holders, behind) = (holders(word, mode), self.earlier(party, lock, mode));
+        if holders.is_empty() && behind.is_empty() {
             None
         } else {
             Some(Wait {
@@ -164,8 +176,24 @@ impl Parts<'_> {
                 lock,
                 mode,
                 holders,
+                behind,
             })
         }
+    }
+
+    /// Who came to wait earlier for a lock, in a way that does not go with this, first come first.
+    fn earlier(self, party: u32, lock: Lock, mode: Mode) -> Vec<u32> {
+        let waiting = self.waiting.iter().take_while(|word| **word != 0);
+        waiting
+            .map(|word| word - 1)
+            .take_while(|other| *other != party)
+            .filter(|other| {
+                let theirs = self.wanted(*other);
+                theirs.map_or(false, |(other, theirs)| {
+                    other == lock && !mode.goes_with(theirs)
+                })
+            })
+            .collect()
     }
 }
 
@@ -207,22 +235,45 @@ mod tests {
     }
 
     #[test]
+    fn modes_by_the_table() {
+        let modes = [Mode::Read, Mode::Selective, Mode::Exclusive];
+        let table = modes.map(|request| modes.map(|other| request.goes_with(other)));
+        assert_eq!(
+            table,
+            [
+                [true, true, false],
+                [true, false, false],
+                [false, false, false]
+            ]
+        );
+    }
+
+    #[test]
     fn a_wait_reads_well() {
-        let wait = |holders: &[u32]| {
+        let wait = |holders: &[u32], behind: &[u32]| {
             let wait = Wait {
                 party: 5,
                 lock: Lock::Root,
                 mode: Mode::Exclusive,
                 holders: holders.to_vec(),
+                behind: behind.to_vec(),
             };
             wait.to_string()
         };
         assert_eq!(
-            wait(&[1]),
+            wait(&[], &[3, 2]),
+            "party 5 waits for the root (exclusive), behind parties 3 and 2"
+        );
+        assert_eq!(
+            wait(&[0], &[3]),
+            "party 5 waits for the root (exclusive), held by party 0, behind party 3"
+        );
+        assert_eq!(
+            wait(&[1], &[]),
             "party 5 waits for the root (exclusive), held by party 1"
         );
         assert_eq!(
-            wait(&[1, 2, 4]),
+            wait(&[1, 2, 4], &[]),
             "party 5 waits for the root (exclusive), held by parties 1, 2 and 4"
         );
     }

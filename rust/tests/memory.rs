@@ -16,7 +16,7 @@ const SIZES: Sizes = Sizes::new()
 
 /// The place of a file's first page word in its row.
 fn pages_start(sizes: Sizes) -> usize {
-    sizes.words() - sizes.page_words()
+    sizes.words() - sizes.waiting_words() - sizes.page_words()
 }
 
 /// A file with some keys and three operations under way, as a row of words.
@@ -77,16 +77,18 @@ fn a_slice_amid_other_words() {
 }
 
 #[test]
-fn four_parts_in_different_places() {
+fn five_parts_in_different_places() {
     let mut root = RootRecord::default();
     let mut parties = [PartyRecord::default(); 3];
     let mut locks = [0; 9];
     let mut pages = [0; 16 * 23];
+    let mut waiting = [0; 3];
     let lent = Lent {
         root: &mut root,
         parties: &mut parties,
         locks: &mut locks,
         pages: &mut pages,
+        waiting: &mut waiting,
     };
     let mut file = FileRef::format_parts(lent, SIZES).unwrap();
     file.begin(1, Operation::insert(9, 40)).unwrap();
@@ -100,6 +102,7 @@ fn four_parts_in_different_places() {
         parties: &mut parties,
         locks: &mut locks,
         pages: &mut pages,
+        waiting: &mut waiting,
     };
     let mut file = FileRef::open_parts(lent).unwrap();
     assert!(file.finish(1).is_ok());
@@ -180,14 +183,18 @@ fn any_words_are_read_without_harm() {
     let mut met = [0; 5];
     for round in 0..600 {
         let mut words = busy_words(&mut random);
-        // Half the rounds alter lock words and records, half any word; the sizes stay.
+        // Half the rounds alter lock words and records, half any word, one in eight of them who waits; the sizes stay.
         let end = if round % 2 == 0 {
             pages_start(SIZES)
         } else {
             SIZES.words()
         };
         for _ in 0..=round / 100 {
-            let place = 5 + random.below(end as u32 - 5) as usize;
+            let place = if random.below(8) == 0 {
+                SIZES.words() - 1 - random.below(3) as usize
+            } else {
+                5 + random.below(end as u32 - 5) as usize
+            };
             words[place] = if random.below(2) == 0 {
                 random.below(30)
             } else {

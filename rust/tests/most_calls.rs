@@ -41,7 +41,7 @@ fn one_long_chain(sizes: Sizes) -> Vec<u32> {
     let (head, free) = (7, 8);
     words[head] = 0;
     words[free] = 0;
-    let pages = sizes.words() - sizes.page_words();
+    let pages = sizes.words() - sizes.waiting_words() - sizes.page_words();
     let last = sizes.overflow_pages;
     for key in 0..=last {
         let link = if key < last { key + 2 } else { 0 };

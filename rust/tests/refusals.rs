@@ -61,15 +61,25 @@ fn memory_of_another_length() {
 
 #[test]
 fn parts_of_another_length() {
-    for (parties, locks, pages) in [(2, 9, 272), (3, 8, 272), (3, 9, 271), (0, 0, 0)] {
+    let lengths = [
+        (2, 9, 272, 3),
+        (3, 8, 272, 3),
+        (3, 9, 271, 3),
+        (3, 9, 272, 2),
+        (3, 9, 272, 4),
+        (0, 0, 0, 0),
+    ];
+    for (parties, locks, pages, waiting) in lengths {
         let (mut root, mut party_row) =
             (RootRecord::default(), vec![PartyRecord::default(); parties]);
         let (mut lock_words, mut page_words) = (vec![0; locks], vec![0; pages]);
+        let mut waiting_words = vec![0; waiting];
         let lent = Lent {
             root: &mut root,
             parties: &mut party_row,
             locks: &mut lock_words,
             pages: &mut page_words,
+            waiting: &mut waiting_words,
         };
         assert_eq!(
             FileRef::format_parts(lent, SIZES).unwrap_err(),
@@ -82,6 +92,7 @@ fn parts_of_another_length() {
             parties: &mut party_row,
             locks: &mut lock_words,
             pages: &mut page_words,
+            waiting: &mut waiting_words,
         };
         assert_eq!(FileRef::open_parts(lent).unwrap_err(), Refusal::Length);
     }
@@ -215,6 +226,30 @@ fn too_few_pages() {
         file.records().unwrap().collect::<Vec<_>>(),
         [(1, 40), (2, 45)]
     );
+}
+
+#[test]
+fn one_that_waits_is_not_overtaken() {
+    let mut file = file();
+    // 5, 13 and 14 have even mixed keys, and go to chain 0.
+    for key in [5, 13] {
+        file.insert(key, 40).unwrap();
+    }
+    file.begin(2, Operation::find(5)).unwrap();
+    for _ in 0..5 {
+        assert_eq!(file.step(2), Ok(Outcome::Moved));
+    }
+    assert!(matches!(file.insert(14, 60), Err(Error::Waits(_))));
+    // A find that comes later goes with the one that holds the chain, and not with the insert that waits for it.
+    let later = file.run(1, Operation::find(5)).unwrap_err();
+    assert_eq!(
+        later.to_string(),
+        "party 1 waits for chain 0 (read), behind party 0; the operation stays under way"
+    );
+    assert_eq!(file.finish(2), Ok(Answer::Found { setting: 40 }));
+    assert!(file.wait(1).is_some());
+    assert_eq!(file.finish(0), Ok(Answer::Inserted));
+    assert_eq!(file.finish(1), Ok(Answer::Found { setting: 40 }));
 }
 
 #[test]

@@ -23,6 +23,11 @@ fn filled() -> File {
     file
 }
 
+/// The place of a file's first page word in its row.
+fn first_page(sizes: Sizes) -> usize {
+    sizes.words() - sizes.waiting_words() - sizes.page_words()
+}
+
 fn saved(file: &File) -> Vec<u8> {
     let mut bytes = Vec::new();
     file.save(&mut bytes).unwrap();
@@ -65,6 +70,9 @@ fn bytes_that_are_no_file_are_refused() {
     assert_eq!(refused(&[&bytes[..], &[0]].concat()), Refusal::Length);
     assert_eq!(refused(&[&bytes[..], &[0; 4]].concat()), Refusal::Length);
     assert_eq!(refused(&[0; 4000]), Refusal::Size);
+    // A file in which there is no row of who waits.
+    let without = bytes.len() - 4 * SIZES.waiting_words();
+    assert_eq!(refused(&bytes[..without]), Refusal::Length);
     let mut altered = bytes.clone();
     *altered.last_mut().unwrap() = 1;
     assert_eq!(refused(&altered), Refusal::Unsaved);
@@ -197,7 +205,7 @@ fn damaged_words_are_settled_or_not_but_settling_ends() {
         let mut words = file.into_words();
         for _ in 0..=random.below(3) {
             // Half of them before the pages: what is left of the root record, records and lock words.
-            let end = [SIZES.words(), SIZES.words() - SIZES.page_words()][random.below(2) as usize];
+            let end = [SIZES.words(), first_page(SIZES)][random.below(2) as usize];
             let place = 5 + random.below(end as u32 - 5) as usize;
             words[place] = [random.below(30), random.word() as u32][random.below(2) as usize];
         }
@@ -230,7 +238,7 @@ fn a_find_that_goes_round_is_not_settled() {
     while file.under_way(0).unwrap().unwrap().step != 9 {
         let _ = file.step(0).unwrap();
     }
-    let first_page = SIZES.most_chains(1).words() - SIZES.most_chains(1).page_words();
+    let first_page = first_page(SIZES.most_chains(1));
     let mut words = file.into_words();
     let link = words[first_page + 2];
     words[first_page + 16 * (link as usize - 1) + 2] = link;

@@ -140,8 +140,15 @@ impl Run {
             wait.is_some(),
             "party {party}, {under_way}: {outcome}, {wait:?}"
         );
-        if let Some(before) = before {
-            assert!(self.file.words() == before, "a waiting step altered a word");
+        if let Some(mut before) = before {
+            let row = before.len() - self.file.sizes().waiting_words();
+            let (word, mut waiting) = (party + 1, before[row..].iter_mut());
+            let joins = waiting.find(|other| **other == 0 || **other == word);
+            *joins.expect("a row with room") = word;
+            assert!(
+                self.file.words() == before,
+                "a waiting step altered more than who waits"
+            );
             self.met.waits += 1;
             return;
         }

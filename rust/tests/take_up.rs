@@ -19,7 +19,8 @@ const SIZES: Sizes = Sizes::new()
 
 /// The place of a page's word in a file's row.
 fn place_of(sizes: Sizes, page: u32, word: usize) -> usize {
-    sizes.words() - sizes.page_words() + 16 * page as usize + word
+    let first = sizes.words() - sizes.waiting_words() - sizes.page_words();
+    first + 16 * page as usize + word
 }
 
 /// Some inserts and deletes, each run to its end.
@@ -119,6 +120,7 @@ fn altered_words_and_every_flaw() {
         "Party()",
         "Lock(Root)",
         "Lock(Chain())",
+        "Waiting()",
         "Scratch()",
         "Root(Level)",
         "Root(Next)",
@@ -159,6 +161,7 @@ fn flaws_have_their_places() {
     assert_eq!(altered(&file, 9 + 2 * 10 + 5, 1), Flaw::Party(2));
     assert_eq!(altered(&file, locks, 1 << 31), Flaw::Lock(Lock::Root));
     assert_eq!(altered(&file, locks + 8, 1), Flaw::Lock(Lock::Chain(7)));
+    assert_eq!(altered(&file, SIZES.words() - 1, 1), Flaw::Waiting(2));
     assert_eq!(altered(&file, page(19, 15), 1), Flaw::Scratch(1));
     assert_eq!(altered(&file, 6, 9), Flaw::Root(RootFlaw::Next));
     assert_eq!(altered(&file, page(7, 0), 1), Flaw::Beyond(7));
@@ -220,10 +223,10 @@ fn refused_in_their_order() {
 }
 
 #[test]
-fn in_four_parts() {
+fn in_five_parts() {
     let mut root = RootRecord::default();
     let mut parties = [PartyRecord::default(); 3];
-    let (mut locks, mut pages) = ([0; 9], [0; 16 * 21]);
+    let (mut locks, mut pages, mut waiting) = ([0; 9], [0; 16 * 21], [0; 3]);
     macro_rules! lent {
         () => {
             Lent {
@@ -231,6 +234,7 @@ fn in_four_parts() {
                 parties: &mut parties,
                 locks: &mut locks,
                 pages: &mut pages,
+                waiting: &mut waiting,
             }
         };
     }

@@ -145,12 +145,13 @@ fn in_memory_of_the_caller() {
 fn in_four_parts() {
     let mut root = RootRecord::default();
     let mut parties = [PartyRecord::default(); 4];
-    let (mut locks, mut pages) = ([0; 7], [0; 16 * 22]);
+    let (mut locks, mut pages, mut waiting) = ([0; 7], [0; 16 * 22], [0; 4]);
     let lent = Lent {
         root: &mut root,
         parties: &mut parties,
         locks: &mut locks,
         pages: &mut pages,
+        waiting: &mut waiting,
     };
     let mut file = FileRef::format_parts(lent, SIZES).unwrap();
     file.begin(2, Operation::insert(9, 40)).unwrap();

@@ -19,7 +19,7 @@ CHECKS = [
     "Book.bookAgrees Book.emptyBook (Runs.events m calls)",
     "Links.linksFresh Links.clockStart m calls",
     "Progress.alwaysProgresses (m .root .parties) Book.emptyBook m calls",
-    "Holds.grantsRight (m .root) Book.emptyBook [] m calls",
+    "Holds.grantsRight (m .root) Book.emptyBook [] [] m calls",
     "NoPage.noPageKept NoPage.noneWrote (Runs.events m calls)",
     "Withdrawals.withdrawnUnwritten NoPage.noneWrote (Runs.events m calls)",
     "FittingMerges.mergesFit FittingMerges.nothingHad m calls",
@@ -60,17 +60,17 @@ data Reply : Type 0 where
   toWithdraw : WithdrawAnswer → Reply
   toTakeUp : TakeUpAnswer → Reply
 
-abbrev memory : Root → List Party → List ℕ → List ℕ → Memory.Memory
-memory r ps ls ws = record { root = r; parties = ps; locks = ls; pages = ws }
+abbrev memory : Root → List Party → List ℕ → List ℕ → List ℕ → Memory.Memory
+memory r ps ls ws row = record { root = r; parties = ps; locks = ls; pages = ws; waiting = row }
 
 -- "memory starts zero".
 abbrev blank : Memory.Memory
-blank = memory (Records.rootOfSizes 0 0 0 0 0) [] [] []
+blank = memory (Records.rootOfSizes 0 0 0 0 0) [] [] [] []
 
 -- Memory of the lengths that the sizes ask for. Sizes outside their limits are refused whatever is lent: the memory stays as it was.
 abbrev lent : Memory.Memory → ℕ → ℕ → ℕ → ℕ → ℕ → Memory.Memory
 lent m n b p v q = elim (Sizes.withinLimits (Records.rootOfSizes n b p v q)) [
-    true ↦ memory (m .root) (replicate q Records.idle) (replicate (p + 1) 0) (replicate (16 * (p + v + q)) 0)
+    true ↦ memory (m .root) (replicate q Records.idle) (replicate (p + 1) 0) (replicate (16 * (p + v + q)) 0) (replicate q 0)
   | false ↦ m ]
 
 -- After a refused format the earlier file stays.
@@ -146,7 +146,8 @@ def call_on(form, memory):
 def memory_term(memory):
     root = f"(rootOf {spaced(words(memory['root'], len(ROOT_FIELDS)))})"
     parties = listed(f"partyOf {spaced(words(party, len(PARTY_FIELDS)))}" for party in memory["parties"])
-    return f"memory {root} {parties} {listed(map(str, words(memory['locks'])))} {listed(map(str, words(memory['pages'])))}"
+    rows = " ".join(listed(map(str, words(memory[row]))) for row in ("locks", "pages", "row"))
+    return f"memory {root} {parties} {rows}"
 
 
 # The value where it is a list of 32-bit words, of the length given if one is.

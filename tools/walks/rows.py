@@ -10,6 +10,7 @@ BEGIN_ANSWER = Declared('B', 'BeginAnswer', 'model', is_enum=True)
 STEP_ANSWER = Declared('N', 'StepAnswer', 'model', is_enum=True)
 WITHDRAW_ANSWER = Declared('G', 'WithdrawAnswer', 'model', is_enum=True)
 MARK = Declared('K', 'Mark', 'marks', is_enum=True)
+PLACE = Declared('D', 'Place', 'waiting_row')
 TAKE_UP_ANSWER = Declared('U', 'TakeUpAnswer', 'model', is_enum=True)
 FORMATTED = Declared('X', 'Formatted', 'calls', fields=[('root', ROOT), ('answer', FORMAT_ANSWER)])
 BEGUN = Declared('X', 'Begun', 'calls', fields=[('party', PARTY), ('answer', BEGIN_ANSWER)])
@@ -19,7 +20,8 @@ REPLY = Declared('Y', 'BeadReply', 'bead')
 
 
 def memory(root, row, words):
-    """The four parameters of every call. Each says whether its borrow is opened in the function, or is passed on, or is a &."""
+    """The five parameters of every call: root, records, lock words, page words, waiting row. Each says whether its borrow is opened in the function, or is passed on, or is a &."""
     def lent(kind, form, row_type, k, name):
         return Lent(('Shr' if form == 'looked at' else 'Mut') + kind, row_type, k, name, stays=form == 'opened')
-    return (lent('Ref', root, ROOT, 0, 'h'), lent('Slice', row, PARTY, 1, 'ps'), lent('Slice', words, U32, 2, 'ls'), lent('Slice', words, U32, 3, 'gs'))
+    return (lent('Ref', root, ROOT, 0, 'h'), lent('Slice', row, PARTY, 1, 'ps'), lent('Slice', words, U32, 2, 'ls'), lent('Slice', words, U32, 3, 'gs'),
+            lent('Slice', words, U32, 4, 'ws'))

@@ -203,15 +203,23 @@ pub extern "C" fn bead_format(
     parties: &mut [Party],
     locks: &mut [u32],
     pages: &mut [u32],
+    waiting: &mut [u32],
     n: u32,
     b: u32,
     p: u32,
     v: u32,
     q: u32,
 ) -> u32
-    ensures { λ r. ⌜ BeadFormatted (lent (now (root .entry)) (now (parties .entry)) (now (locks .entry)) (now (pages .entry))) n b p v q r (lent (now (root .exit)) (now (parties .exit)) (now (locks .exit)) (now (pages .exit))) ⌝ }
+    ensures { λ r. ⌜ BeadFormatted (lent (now (root .entry)) (now (parties .entry)) (now (locks .entry)) (now (pages .entry)) (now (waiting .entry))) n b p v q r (lent (now (root .exit)) (now (parties .exit)) (now (locks .exit)) (now (pages .exit)) (now (waiting .exit))) ⌝ }
 {
-    let answer = index::format(root, parties, locks, pages, sizes_of(n, b, p, v, q));
+    let answer = index::format(
+        root,
+        parties,
+        locks,
+        pages,
+        waiting,
+        sizes_of(n, b, p, v, q),
+    );
     format_number(answer)
 }
 
@@ -222,12 +230,13 @@ pub extern "C" fn bead_begin(
     parties: &mut [Party],
     locks: &[u32],
     pages: &[u32],
+    waiting: &[u32],
     q: u32,
     operation: u32,
     key: u32,
     setting: u32,
 ) -> u32
-    ensures { λ r. ⌜ BeadBegun (lent (now (root .entry)) (now (parties .entry)) (now (locks .entry)) (now (pages .entry))) q operation key setting r (lent (now (root .entry)) (now (parties .exit)) (now (locks .entry)) (now (pages .entry))) ⌝ }
+    ensures { λ r. ⌜ BeadBegun (lent (now (root .entry)) (now (parties .entry)) (now (locks .entry)) (now (pages .entry)) (now (waiting .entry))) q operation key setting r (lent (now (root .entry)) (now (parties .exit)) (now (locks .entry)) (now (pages .entry)) (now (waiting .entry))) ⌝ }
 {
     if is_operation(operation) {
         let answer = index::begin(
@@ -235,6 +244,7 @@ pub extern "C" fn bead_begin(
             parties,
             locks,
             pages,
+            waiting,
             q,
             operation_of(operation, setting),
             key,
@@ -252,11 +262,12 @@ pub extern "C" fn bead_step(
     parties: &mut [Party],
     locks: &mut [u32],
     pages: &mut [u32],
+    waiting: &mut [u32],
     q: u32,
 ) -> BeadReply
-    ensures { λ r. ⌜ BeadStepped (lent (now (root .entry)) (now (parties .entry)) (now (locks .entry)) (now (pages .entry))) q r (lent (now (root .exit)) (now (parties .exit)) (now (locks .exit)) (now (pages .exit))) ⌝ }
+    ensures { λ r. ⌜ BeadStepped (lent (now (root .entry)) (now (parties .entry)) (now (locks .entry)) (now (pages .entry)) (now (waiting .entry))) q r (lent (now (root .exit)) (now (parties .exit)) (now (locks .exit)) (now (pages .exit)) (now (waiting .exit))) ⌝ }
 {
-    let answer = index::step(root, parties, locks, pages, q);
+    let answer = index::step(root, parties, locks, pages, waiting, q);
     reply_of(answer)
 }
 
@@ -267,11 +278,12 @@ pub extern "C" fn bead_withdraw(
     parties: &mut [Party],
     locks: &mut [u32],
     pages: &mut [u32],
+    waiting: &mut [u32],
     q: u32,
 ) -> u32
-    ensures { λ r. ⌜ BeadWithdrew (lent (now (root .entry)) (now (parties .entry)) (now (locks .entry)) (now (pages .entry))) q r (lent (now (root .exit)) (now (parties .exit)) (now (locks .exit)) (now (pages .exit))) ⌝ }
+    ensures { λ r. ⌜ BeadWithdrew (lent (now (root .entry)) (now (parties .entry)) (now (locks .entry)) (now (pages .entry)) (now (waiting .entry))) q r (lent (now (root .exit)) (now (parties .exit)) (now (locks .exit)) (now (pages .exit)) (now (waiting .exit))) ⌝ }
 {
-    let answer = index::withdraw(root, parties, locks, pages, q);
+    let answer = index::withdraw(root, parties, locks, pages, waiting, q);
     withdraw_number(answer)
 }
 
@@ -287,9 +299,15 @@ fn take_up_number(answer: TakeUpAnswer) -> u32
 
 // Take up a saved file: the number of the refusal, or 0.
 #[no_mangle]
-pub extern "C" fn bead_take_up(root: &Root, parties: &[Party], locks: &[u32], pages: &[u32]) -> u32
-    ensures { λ r. ⌜ BeadLooked (lent (now (root .entry)) (now (parties .entry)) (now (locks .entry)) (now (pages .entry))) r (lent (now (root .entry)) (now (parties .entry)) (now (locks .entry)) (now (pages .entry))) ⌝ }
+pub extern "C" fn bead_take_up(
+    root: &Root,
+    parties: &[Party],
+    locks: &[u32],
+    pages: &[u32],
+    waiting: &[u32],
+) -> u32
+    ensures { λ r. ⌜ BeadLooked (lent (now (root .entry)) (now (parties .entry)) (now (locks .entry)) (now (pages .entry)) (now (waiting .entry))) r (lent (now (root .entry)) (now (parties .entry)) (now (locks .entry)) (now (pages .entry)) (now (waiting .entry))) ⌝ }
 {
-    let answer = index::take_up(root, parties, locks, pages);
+    let answer = index::take_up(root, parties, locks, pages, waiting);
     take_up_number(answer)
 }

@@ -2,3 +2,4 @@
 pub mod Calling
 pub mod Filled
 pub mod TakingUp
+pub mod Waiting

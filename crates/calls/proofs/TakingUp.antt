@@ -2,7 +2,7 @@
 -- Main statements: idleFrom, idle-more, idle-all (a row of records looked through, one after the other); early-cause,
 -- words-taken, words-refused (the cause, found before the words are looked at and by them); answer-taken,
 -- answer-refused (the answer by the cause).
-use mathlib.Core.Path.{_≡_, refl, sym, ap, _∙_}
+use mathlib.Core.Path.{_≡_, refl, sym, ap, ap₂, _∙_}
 use mathlib.Core.Logic.{_≢_}
 use mathlib.Core.Bool.{Bool, true, false, _&&_, and-true}
 use mathlib.Core.List.{List, [], _∷_}
@@ -16,12 +16,13 @@ use Rattle.model.specs.declared.TakeUpAnswer.{TakeUpAnswer}
 use Rattle.model.specs.declared.TakeUpAnswer.the-variants as TakeUpAnswer
 use Rattle.model.specs.Records.{idle}
 use Rattle.model.specs.Memory.{Memory}
-use Rattle.model.specs.Refusals.{firstCause}
+use Rattle.model.specs.Refusals.{firstCause, rootSound}
 use Rattle.model.specs.Calls.{called}
-use Rattle.model.specs.TakeUp.{isZeroRecord, allIdle, partiesRest, isSaved, takeUpRows, takeUpAnswer, takeUpCall}
-use Rattle.model.proofs.Laws.Lists.{and-both, left-fails, eqb-diff}
-use Rattle.model.proofs.TakingUp.Tests.{record-zero}
-use Rattle.refusals.specs.Causes.{takeUpCause}
+use Rattle.model.specs.WaitingRow.{allZero}
+use Rattle.model.specs.TakeUp.{isZeroRecord, allIdle, partiesRest, locksClear, scratchClear, chainsSaved, beyondClear, freeSaved, pagesOnce, rowClear, isSaved, takeUpRows, takeUpAnswer, takeUpCall}
+use Rattle.model.proofs.Laws.Lists.{Told, holds, fails, tell, and-both, left-fails, right-fails, eqb-diff}
+use Rattle.model.proofs.TakingUp.Tests.{record-zero, zeros}
+use Rattle.refusals.specs.Causes.{formatCause, takeUpCause}
 use Rattle.refusals.proofs.Causes.{unsaved-refused, take-up-passed, early-stands}
 use Rattle.refusals.proofs.Accepted.{take-up-cause-is, file-of-take-up, take-up-ready}
 use Rattle.take_up.specs.Seen.{atRest}
@@ -58,34 +59,50 @@ idle-row (p ∷ row) e =
 
 -- ---- The cause
 
-module _ (r : Root) (ls ps : List ℕ) (row : List Party) (parties : ℕ) (rests : Bool) (many : length row ≡ parties) (rest : allIdle row ≡ rests) where
+module _ (r : Root) (ls ps : List ℕ) (row : List Party) (ws : List ℕ) (parties waiting : ℕ) (rests : Bool) (many : length row ≡ parties) (long : length ws ≡ waiting) (rest : (allIdle row && allZero ws) ≡ rests) where
   abbrev m : Memory
-  m = lent r row ls ps
+  m = lent r row ls ps ws
 
-  cause-is : takeUpCause r (isSaved m) parties (length ls) (length ps) ≡ firstCause (takeUpRows m)
-  cause-is = ap (λ (k : ℕ). takeUpCause r (isSaved m) k (length ls) (length ps)) (sym many) ∙ take-up-cause-is m
+  cause-is : takeUpCause r (isSaved m) parties (length ls) (length ps) waiting ≡ firstCause (takeUpRows m)
+  cause-is = ap₂ (λ (k n : ℕ). takeUpCause r (isSaved m) k (length ls) (length ps) n) (sym many) (sym long) ∙ take-up-cause-is m
+
+  -- All conditions but the waiting row's.
+  abbrev before : Bool
+  before = partiesRest m && locksClear m && scratchClear m && rootSound r && chainsSaved m && beyondClear m && freeSaved m && pagesOnce m
 
   busy-unsaved : rests ≡ false → isSaved m ≡ false
-  unfolding isSaved partiesRest
-  busy-unsaved e = left-fails _ (left-fails _ (left-fails _ (left-fails _ (left-fails _ (left-fails _ (left-fails _ (rest ∙ e)))))))
+  unfolding isSaved partiesRest rowClear
+  busy-unsaved e = go (tell (allIdle row))
+    where
+      go : Told (allIdle row) → isSaved m ≡ false
+      go (holds t) = right-fails before (ap (λ (b : Bool). b && allZero ws) (sym t) ∙ rest ∙ e)
+      go (fails t) =
+          left-fails (rowClear m)
+          (left-fails (pagesOnce m)
+          (left-fails (freeSaved m)
+          (left-fails (beyondClear m)
+          (left-fails (chainsSaved m) (left-fails (rootSound r) (left-fails (scratchClear m) (left-fails (locksClear m) t)))))))
 
-  pub early-cause : takeUpCause r rests parties (length ls) (length ps) ≢ 0 → takeUpCause r rests parties (length ls) (length ps) ≡ firstCause (takeUpRows m)
-  early-cause h = early-stands r parties (length ls) (length ps) rests (isSaved m) busy-unsaved h ∙ cause-is
+  pub early-cause : takeUpCause r rests parties (length ls) (length ps) waiting ≢ 0 → takeUpCause r rests parties (length ls) (length ps) waiting ≡ firstCause (takeUpRows m)
+  early-cause h = early-stands r parties (length ls) (length ps) waiting rests (isSaved m) busy-unsaved h ∙ cause-is
 
-  module _ (passed : takeUpCause r rests parties (length ls) (length ps) ≡ 0) where
-    -- The file is the one with a row of zero records.
+  module _ (passed : takeUpCause r rests parties (length ls) (length ps) waiting ≡ 0) where
+    -- The file is the one with a row of zero records, and zeros in its waiting row.
     file-is : atRest r ls ps ≡ m
     file-is =
-        let k = take-up-ready r rests parties (length ls) (length ps) passed in
-        ap (λ (l : List Party). lent r l ls ps) (sym (idle-row row (rest ∙ k .4) ∙ ap (λ (n : ℕ). replicate n idle) (many ∙ k .1)))
+        let k = take-up-ready r rests parties (length ls) (length ps) waiting passed in
+        let clear = and-both (allIdle row) (allZero ws) (rest ∙ k .5) in
+        ap₂ (λ (l : List Party) (w : List ℕ). lent r l ls ps w) (sym (idle-row row (clear .0) ∙ ap (λ (n : ℕ). replicate n idle) (many ∙ k .1)))
+        (sym (zeros ws (clear .1) ∙ ap (λ (n : ℕ). replicate n 0) (long ∙ k .4)))
+
+    passes : formatCause r parties (length ls) (length ps) waiting ≡ 0
+    passes = file-of-take-up r rests parties (length ls) (length ps) waiting passed
 
     pub words-taken : isSaved (atRest r ls ps) ≡ true → 0 ≡ firstCause (takeUpRows m)
-    words-taken e =
-        take-up-passed r parties (length ls) (length ps) (file-of-take-up r rests parties (length ls) (length ps) passed) (isSaved m) (ap isSaved (sym file-is) ∙ e) ∙ cause-is
+    words-taken e = take-up-passed r parties (length ls) (length ps) waiting passes (isSaved m) (ap isSaved (sym file-is) ∙ e) ∙ cause-is
 
     pub words-refused : isSaved (atRest r ls ps) ≡ false → 8 ≡ firstCause (takeUpRows m)
-    words-refused e =
-        unsaved-refused r parties (length ls) (length ps) (file-of-take-up r rests parties (length ls) (length ps) passed) (isSaved m) (ap isSaved (sym file-is) ∙ e) ∙ cause-is
+    words-refused e = unsaved-refused r parties (length ls) (length ps) waiting passes (isSaved m) (ap isSaved (sym file-is) ∙ e) ∙ cause-is
 
 -- ---- The answer
 

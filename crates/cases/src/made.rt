@@ -30,6 +30,8 @@ const LOCK_ROOM: usize = 258;
 
 const PAGE_ROOM: usize = 16400;
 
+const WAITING_ROOM: usize = 17;
+
 // Records for the most parties there may be.
 const RECORDS: usize = 16;
 
@@ -38,81 +40,140 @@ pub fn came_of(call: Call, s: Scene) -> Came {
     let mut row = [words; RECORDS];
     let mut locks = [WORD; LOCK_ROOM];
     let mut pages = [WORD; PAGE_ROOM];
+    let mut waiting = waiting_of(s);
     match call {
-        Call::Format => formatted(s, &mut row, &mut locks, &mut pages),
-        Call::Begin => begun(s, &mut row, &locks, &pages),
-        Call::Step => stepped(s, &mut row, &mut locks, &mut pages),
-        Call::Withdraw => withdrawn(s, &mut row, &mut locks, &mut pages),
-        Call::TakeUp => taken_up(s, &mut row, &mut locks, &mut pages),
+        Call::Format => formatted(s, &mut row, &mut locks, &mut pages, &mut waiting),
+        Call::Begin => begun(s, &mut row, &locks, &pages, &waiting),
+        Call::Step => stepped(s, &mut row, &mut locks, &mut pages, &mut waiting),
+        Call::Withdraw => withdrawn(s, &mut row, &mut locks, &mut pages, &mut waiting),
+        Call::TakeUp => taken_up(s, &mut row, &mut locks, &mut pages, &waiting),
     }
 }
 
-fn formatted(s: Scene, row: &mut [[u32; 10]], locks: &mut [u32], pages: &mut [u32]) -> Came {
+// The waiting row of the case: so many words are lent, and those behind them are words that no call writes.
+fn waiting_of(s: Scene) -> [u32; WAITING_ROOM] {
+    let mut row = [WORD; WAITING_ROOM];
+    let waits = s.waits;
+    let n = least(s.waiting_words, WAITING_ROOM);
+    let mut i: usize = 0;
+    while i < n {
+        row[i] = waiter_at(waits, i);
+        i += 1;
+    }
+    row
+}
+
+fn waiter_at(waits: [u32; 3], i: usize) -> u32 {
+    if i < 3 {
+        return waits[i];
+    }
+    0
+}
+
+fn formatted(
+    s: Scene,
+    row: &mut [[u32; 10]],
+    locks: &mut [u32],
+    pages: &mut [u32],
+    waiting: &mut [u32],
+) -> Came {
     let root = s.root;
     let l = least(s.lock_words, locks.len());
     let g = least(s.page_words, pages.len());
+    let w = least(s.waiting_words, waiting.len());
     let made = held::format(
         root,
         row,
         &mut locks[0..l],
         &mut pages[0..g],
+        &mut waiting[0..w],
         sizes_of(root),
     );
     let after = made.root;
     let answer = made.answer;
     Came {
         refusal: format_refusal(answer),
-        altered: altered(s, after, row, locks, pages),
+        altered: altered(s, after, row, locks, pages, waiting),
     }
 }
 
-fn begun(s: Scene, row: &mut [[u32; 10]], locks: &[u32], pages: &[u32]) -> Came {
+fn begun(s: Scene, row: &mut [[u32; 10]], locks: &[u32], pages: &[u32], waiting: &[u32]) -> Came {
     let root = s.root;
     let l = least(s.lock_words, locks.len());
     let g = least(s.page_words, pages.len());
+    let w = least(s.waiting_words, waiting.len());
     let answer = held::begin(
         root,
         row,
         &locks[0..l],
         &pages[0..g],
+        &waiting[0..w],
         s.party,
         Operation::Delete,
         11,
     );
     Came {
         refusal: begin_refusal(answer),
-        altered: altered(s, root, row, locks, pages),
+        altered: altered(s, root, row, locks, pages, waiting),
     }
 }
 
-fn stepped(s: Scene, row: &mut [[u32; 10]], locks: &mut [u32], pages: &mut [u32]) -> Came {
+fn stepped(
+    s: Scene,
+    row: &mut [[u32; 10]],
+    locks: &mut [u32],
+    pages: &mut [u32],
+    waiting: &mut [u32],
+) -> Came {
     let root = s.root;
     let l = least(s.lock_words, locks.len());
     let g = least(s.page_words, pages.len());
-    let made = held::step(root, row, &mut locks[0..l], &mut pages[0..g], s.party);
+    let w = least(s.waiting_words, waiting.len());
+    let made = held::step(
+        root,
+        row,
+        &mut locks[0..l],
+        &mut pages[0..g],
+        &mut waiting[0..w],
+        s.party,
+    );
     let after = made.root;
     let answer = made.answer;
     Came {
         refusal: step_refusal(answer),
-        altered: altered(s, after, row, locks, pages),
+        altered: altered(s, after, row, locks, pages, waiting),
     }
 }
 
-fn withdrawn(s: Scene, row: &mut [[u32; 10]], locks: &mut [u32], pages: &mut [u32]) -> Came {
+fn withdrawn(
+    s: Scene,
+    row: &mut [[u32; 10]],
+    locks: &mut [u32],
+    pages: &mut [u32],
+    waiting: &mut [u32],
+) -> Came {
     let root = s.root;
     let l = least(s.lock_words, locks.len());
     let g = least(s.page_words, pages.len());
-    let made = held::withdraw(root, row, &mut locks[0..l], &mut pages[0..g], s.party);
+    let w = least(s.waiting_words, waiting.len());
+    let made = held::withdraw(
+        root,
+        row,
+        &mut locks[0..l],
+        &mut pages[0..g],
+        &mut waiting[0..w],
+        s.party,
+    );
     let after = made.root;
     let answer = made.answer;
     Came {
         refusal: withdraw_refusal(answer),
-        altered: altered(s, after, row, locks, pages),
+        altered: altered(s, after, row, locks, pages, waiting),
     }
 }
 
 // A file at rest, as format leaves it with b at most 6: then the root record has the b of the case, and where the
-// records of the case do not rest, the row has them.
+// records of the case do not rest, the row has them. The waiting row is that of the case.
 fn at_rest(s: Scene, row: &mut [[u32; 10]], locks: &mut [u32], pages: &mut [u32]) -> Root {
     let given = s.root;
     let b = given.capacity;
@@ -121,7 +182,16 @@ fn at_rest(s: Scene, row: &mut [[u32; 10]], locks: &mut [u32], pages: &mut [u32]
     let l = least(sizes.primaries as usize + 1, locks.len());
     let p = sizes.primaries as usize + sizes.overflow as usize + sizes.parties as usize;
     let g = least(16 * p, pages.len());
-    let made = held::format(given, row, &mut locks[0..l], &mut pages[0..g], sizes);
+    let mut waiting = [WORD; WAITING_ROOM];
+    let w = least(sizes.parties as usize, WAITING_ROOM);
+    let made = held::format(
+        given,
+        row,
+        &mut locks[0..l],
+        &mut pages[0..g],
+        &mut waiting[0..w],
+        sizes,
+    );
     let mut root = made.root;
     root.capacity = b;
     if !s.rests {
@@ -140,7 +210,13 @@ fn put_everywhere(row: &mut [[u32; 10]], words: [u32; 10]) {
 }
 
 // The words are compared with those of a second file, made in the same way.
-fn taken_up(s: Scene, row: &mut [[u32; 10]], locks: &mut [u32], pages: &mut [u32]) -> Came {
+fn taken_up(
+    s: Scene,
+    row: &mut [[u32; 10]],
+    locks: &mut [u32],
+    pages: &mut [u32],
+    waiting: &[u32],
+) -> Came {
     let words = records::words_of_party(s.record);
     let mut former_row = [words; RECORDS];
     let mut former_locks = [WORD; LOCK_ROOM];
@@ -149,12 +225,16 @@ fn taken_up(s: Scene, row: &mut [[u32; 10]], locks: &mut [u32], pages: &mut [u32
     let root = at_rest(s, row, locks, pages);
     let l = least(s.lock_words, locks.len());
     let g = least(s.page_words, pages.len());
-    let answer = held::take_up(root, row, &locks[0..l], &pages[0..g]);
+    let w = least(s.waiting_words, waiting.len());
+    let answer = held::take_up(root, row, &locks[0..l], &pages[0..g], &waiting[0..w]);
     Came {
         refusal: take_up_refusal(answer),
         altered: add(
-            differing(&former_locks, locks),
-            differing(&former_pages, pages),
+            add(
+                differing(&former_locks, locks),
+                differing(&former_pages, pages),
+            ),
+            differing(&waiting_of(s), waiting),
         ),
     }
 }
@@ -217,13 +297,20 @@ fn take_up_refusal(answer: TakeUpAnswer) -> u32 {
 }
 
 // How many words are altered, lent or not.
-fn altered(s: Scene, root: Root, row: &[[u32; 10]], locks: &[u32], pages: &[u32]) -> u32 {
+fn altered(
+    s: Scene,
+    root: Root,
+    row: &[[u32; 10]],
+    locks: &[u32],
+    pages: &[u32],
+    waiting: &[u32],
+) -> u32 {
     let held = add(
         altered_root(s.root, root),
         altered_row(row, records::words_of_party(s.record)),
     );
     let lent = add(altered_words(locks), altered_words(pages));
-    add(held, lent)
+    add(add(held, lent), differing(&waiting_of(s), waiting))
 }
 
 fn add(a: u32, b: u32) -> u32 {

@@ -85,29 +85,40 @@ fn parties(first: Tally, call: Call) -> Tally {
 // ---- Lengths
 
 // So many words lent, with the usual sizes.
-fn lent(t: Tally, call: Call, lock_words: u32, page_words: u32, expected: u32) -> Tally {
+fn lent(
+    t: Tally,
+    call: Call,
+    lock_words: u32,
+    page_words: u32,
+    waiting_words: u32,
+    expected: u32,
+) -> Tally {
     let mut s = sound(call, sizes(2, 3, 5, 4, 3), 0);
     s.lock_words = lock_words as usize;
     s.page_words = page_words as usize;
+    s.waiting_words = waiting_words as usize;
     judged(
         t,
         call,
-        b"lock words and page words",
-        &[lock_words, page_words],
+        b"lock words, page words and waiting words",
+        &[lock_words, page_words, waiting_words],
         s,
         expected,
     )
 }
 
-// "a lent length other than Q records, P+1 lock words or 16 × (P+V+Q) page words". Where the sizes are in their
-// limits `held` lends Q records, and no other length can be had.
+// "a lent length other than Q records, P+1 lock words or 16 × (P+V+Q) page words"; and other than Q words of the
+// waiting row (change 7). Where the sizes are in their limits `held` lends Q records, and no other length can be had.
 fn lengths(first: Tally, call: Call) -> Tally {
     let mut t = first;
-    t = lent(t, call, 6, 192, ACCEPTED);
-    t = lent(t, call, 5, 192, 1);
-    t = lent(t, call, 7, 192, 1);
-    t = lent(t, call, 6, 191, 1);
-    t = lent(t, call, 6, 193, 1);
+    t = lent(t, call, 6, 192, 3, ACCEPTED);
+    t = lent(t, call, 5, 192, 3, 1);
+    t = lent(t, call, 7, 192, 3, 1);
+    t = lent(t, call, 6, 191, 3, 1);
+    t = lent(t, call, 6, 193, 3, 1);
+    t = lent(t, call, 6, 192, 2, 1);
+    t = lent(t, call, 6, 192, 4, 1);
+    t = lent(t, call, 6, 192, 0, 1);
     t
 }
 
@@ -211,6 +222,94 @@ fn causes_of_take_up(first: Tally) -> Tally {
     t
 }
 
+// ---- The waiting row (change 7)
+
+// The three words of the row, and a cause that is met beside; 0 is no cause.
+fn lined(
+    t: Tally,
+    call: Call,
+    first: u32,
+    second: u32,
+    third: u32,
+    cause: u32,
+    expected: u32,
+) -> Tally {
+    let mut s = crate::scene::meeting(call, cause, 0);
+    s.waits = [first, second, third];
+    judged(
+        t,
+        call,
+        b"waiting row and cause",
+        &[first, second, third, cause],
+        s,
+        expected,
+    )
+}
+
+// Party 2 calls. Sound rows, without it and with it; then "a word above Q, a repeat, a gap".
+fn rows_told(first: Tally, call: Call) -> Tally {
+    let mut t = first;
+    t = lined(t, call, 1, 2, 0, 0, ACCEPTED);
+    t = lined(t, call, 1, 3, 2, 0, ACCEPTED);
+    t = lined(t, call, 4, 0, 0, 0, 6);
+    t = lined(t, call, 1, 4294967295, 0, 0, 6);
+    t = lined(t, call, 1, 1, 0, 0, 6);
+    t = lined(t, call, 3, 1, 3, 0, 6);
+    t = lined(t, call, 0, 1, 0, 0, 6);
+    t = lined(t, call, 1, 0, 2, 0, 6);
+    t
+}
+
+// The row is the last that is tested.
+fn causes_before_the_row(first: Tally, call: Call) -> Tally {
+    let mut t = first;
+    t = lined(t, call, 4, 0, 0, 2, 2);
+    t = lined(t, call, 4, 0, 0, 1, 1);
+    t = lined(t, call, 4, 0, 0, 3, 3);
+    t = lined(t, call, 4, 0, 0, 5, 5);
+    t
+}
+
+// Party 2 steps, and every record is about to make this step of this operation.
+fn steps_by(t: Tally, operation: u32, step: u32, first: u32, second: u32, expected: u32) -> Tally {
+    let mut s = crate::scene::meeting(Call::Step, 0, 0);
+    s.record = crate::scene::about_to(operation, step, model::NO_ANSWER);
+    s.waits = [first, second, 0];
+    judged(
+        t,
+        Call::Step,
+        b"operation, step and waiting row",
+        &[operation, step, first, second, 0],
+        s,
+        expected,
+    )
+}
+
+// "a party whose next step requests no lock": 2 requests none. 4 requests the chain: read for a find, which passes one
+// that waits; selective otherwise, and then the party joins behind it, or leaves the row as the first.
+fn requests(first: Tally) -> Tally {
+    let mut t = first;
+    t = steps_by(t, model::FIND, 2, 0, 0, ACCEPTED);
+    t = steps_by(t, model::FIND, 2, 1, 0, 6);
+    t = steps_by(t, model::FIND, 2, 3, 0, 6);
+    t = steps_by(t, model::FIND, 4, 1, 0, ACCEPTED);
+    t = steps_by(t, model::INSERT, 4, 1, 0, ACCEPTED);
+    t = steps_by(t, model::INSERT, 4, 3, 1, ACCEPTED);
+    t
+}
+
+// The others do not test the row for damage: format zeroes it, begin leaves it, and take-up wants it zero (8).
+fn rows_untold(first: Tally) -> Tally {
+    let mut t = first;
+    t = lined(t, Call::Format, 4, 1, 1, 0, ACCEPTED);
+    t = lined(t, Call::Begin, 4, 1, 1, 0, ACCEPTED);
+    t = lined(t, Call::TakeUp, 1, 0, 0, 0, 8);
+    t = lined(t, Call::TakeUp, 0, 0, 4, 0, 8);
+    t = lined(t, Call::TakeUp, 1, 0, 0, 2, 2);
+    t = lined(t, Call::TakeUp, 1, 0, 0, 1, 1);
+    t
+}
+
 // ---- All of it
 
 fn cases_of_all(first: Tally, call: Call) -> Tally {
@@ -241,6 +340,13 @@ fn main() {
     t = causes_of_withdraw(t);
     t = earlier_causes_of_withdraw(t);
     t = causes_of_take_up(t);
+    t = rows_told(t, Call::Step);
+    t = rows_told(t, Call::Withdraw);
+    t = causes_before_the_row(t, Call::Step);
+    t = causes_before_the_row(t, Call::Withdraw);
+    t = lined(t, Call::Withdraw, 4, 0, 0, 7, 7);
+    t = requests(t);
+    t = rows_untold(t);
     say_number(b"", t.cases);
     say_number(b" cases, ", t.wrong);
     say(b" wrong\n");

@@ -1,6 +1,6 @@
 // The memory that a case lends.
 // Main functions: sound (memory of given sizes, on which the call can be made), meeting (memory in which two given
-// causes of refusal are met).
+// causes of refusal are met), about_to (a record before a step).
 
 use model::FileSizes;
 use model::Party;
@@ -15,12 +15,15 @@ pub enum Call {
 }
 
 // What a call is lent, and for whom: the root record, whose sizes format is given, the first Q records of a row in
-// which every record is this one, and so many words. Where the records rest, take-up is lent zero ones.
+// which every record is this one, and so many words. Where the records rest, take-up is lent zero ones. `waits` are the
+// first words of the waiting row, and the others are 0.
 pub struct Scene {
     pub root: Root,
     pub record: Party,
     pub lock_words: usize,
     pub page_words: usize,
+    pub waiting_words: usize,
+    pub waits: [u32; 3],
     pub party: u32,
     pub rests: bool,
 }
@@ -62,7 +65,7 @@ const FIRST: u32 = 1;
 const DECIDED: u32 = 12;
 
 // A record about to make this step, with this answer so far; idle where the operation is 0.
-fn about_to(operation: u32, step: u32, answer: u32) -> Party {
+pub fn about_to(operation: u32, step: u32, answer: u32) -> Party {
     Party {
         operation,
         key: 7,
@@ -97,6 +100,8 @@ pub fn sound(call: Call, z: FileSizes, party: u32) -> Scene {
         record,
         lock_words: z.primaries as usize + 1,
         page_words: 16 * (z.primaries as usize + z.overflow as usize + z.parties as usize),
+        waiting_words: z.parties as usize,
+        waits: [0, 0, 0],
         party,
         rests: true,
     }
@@ -113,8 +118,8 @@ fn pick(earlier: u32, later: u32, cause: u32, met: u32, unmet: u32) -> u32 {
     unmet
 }
 
-// Memory of the usual sizes (N 2, b 3, P 5, V 4, Q 3: 6 lock words, 192 page words) in which the causes of these
-// numbers are met, and no other; 0 is no cause.
+// Memory of the usual sizes (N 2, b 3, P 5, V 4, Q 3: 6 lock words, 192 page words, 3 words of the waiting row) in
+// which the causes of these numbers are met, and no other; 0 is no cause.
 // 2: b is 7. 1: a lock word too few. 3: party Q. 4 and 5: every record is busy, or idle. 7: every record is past a
 // decisive step. 6: the free count is above V. 8: every record is idle, and none of them zero.
 pub fn meeting(call: Call, earlier: u32, later: u32) -> Scene {
@@ -133,6 +138,8 @@ pub fn meeting(call: Call, earlier: u32, later: u32) -> Scene {
         record,
         lock_words,
         page_words: 192,
+        waiting_words: 3,
+        waits: [0, 0, 0],
         party,
         rests: pick(earlier, later, 8, 0, 1) == 1,
     }

@@ -24,16 +24,17 @@ abbrev pub recordsIn : List (List ℕ) → List Party
 recordsIn row = map partyIn row
 
 -- All that is held and lent.
-abbrev pub heldIn : Root → List (List ℕ) → List ℕ → List ℕ → Memory
-heldIn r row ls gs = lent r (recordsIn row) ls gs
+abbrev pub heldIn : Root → List (List ℕ) → List ℕ → List ℕ → List ℕ → Memory
+heldIn r row ls gs ws = lent r (recordsIn row) ls gs ws
 
 -- The memory with the first n records alone, or all where there are fewer: what a call goes by.
 abbrev pub firstOf : ℕ → Memory → Memory
-firstOf n m = lent (m .root) (take n (m .parties)) (m .locks) (m .pages)
+firstOf n m = lent (m .root) (take n (m .parties)) (m .locks) (m .pages) (m .waiting)
 
 -- What such a call leaves of it, with the records past n as they were.
 abbrev pub withRest : {A : Type 0} → ℕ → Memory → Called A → Called A
-withRest n m c = called (c .answer) (lent (c .memory .root) (c .memory .parties ++ drop n (m .parties)) (c .memory .locks) (c .memory .pages))
+withRest n m c =
+    called (c .answer) (lent (c .memory .root) (c .memory .parties ++ drop n (m .parties)) (c .memory .locks) (c .memory .pages) (c .memory .waiting))
 
 -- Format with these sizes.
 abbrev pub heldFormat : Memory → FileSizes → Called FormatAnswer

@@ -1,32 +1,37 @@
 -- What a caller reads off StartRight, FormatRight and IndexRight, of the memory that he lent, the calls that he made
 -- and the events that he saw, and of nothing else.
 -- Main statements: formatted-told, empty-told; singly-told (a list of operations run singly); events-told,
--- memory-told; answer-told, somebody-moves, sizes-kept, links-told, no-page-told, grants-told, alone-told (one
--- operation run alone); order-told, found-told; withdrawn-told, restored-told, merges-told, calls-told; goes-on (at
--- rest the memory opens another run, with the records of the book), first-look.
+-- memory-told; answer-told, somebody-moves, sizes-kept, links-told, no-page-told, grants-told; overtaken-told,
+-- wanted-told, passed-told, row-told, again-told, clear-told (who waits); alone-told (one operation run alone);
+-- order-told, found-told; withdrawn-told, restored-told, merges-told, calls-told; goes-on (at rest the memory opens
+-- another run, with the records of the book), first-look.
 use mathlib.Core.Path.{_≡_, refl, sym, _∙_, ap, ap₂, subst}
 use mathlib.Core.Bool.{Bool, true, false, cond}
 use mathlib.Core.List.{List, [], _∷_, _++_}
 use mathlib.Core.Option.{some}
-use Prim.Native.Nat.{ℕ, zero, suc, _<_}
+use Prim.Native.Nat.{ℕ, zero, suc, _+_, _-_, _<_, _≤_}
 use lib.Dec.{eqb}
+use lib.ListN.{length, replicate}
 use borrow.Author.Tests.{eqb-true}
 use Rattle.model.specs.declared.Root.{Root}
 use Rattle.model.specs.declared.FileSizes.{FileSizes}
 use Rattle.model.specs.declared.OperationAnswer.the-variants as OperationAnswer
 use Rattle.model.specs.declared.BeginAnswer.the-variants as BeginAnswer
 use Rattle.model.specs.declared.WithdrawAnswer.the-variants as WithdrawAnswer
+use Rattle.model.specs.declared.StepAnswer.the-variants as StepAnswer
 use Rattle.model.specs.declared.TakeUpAnswer.{TakeUpAnswer}
 use Rattle.model.specs.Records.{rootOfSizes, rootSized}
 use Rattle.model.specs.Memory.{Memory, formatted}
 use Rattle.model.specs.Sizes.{withinLimits}
 use Rattle.model.specs.Refusals.{lengthsFit}
-use Rattle.model.specs.Calls.{beginCall, withdrawCall}
+use Rattle.model.specs.LockWords.{Claim, tableOne}
+use Rattle.model.specs.WaitingRow.{allZero}
+use Rattle.model.specs.Calls.{beginCall, stepCall, withdrawCall}
 use Rattle.model.specs.TakeUp.{isSaved, recordsSaved, openBook, savedBook, unsavedRefusal}
 use Rattle.model.specs.Runs.{Call, Event, afterCall, events, finalMemory}
 use Rattle.model.specs.Book.{Book, emptyBook, bookAtEnd, bookAfter, agrees, bookAgrees}
 use Rattle.model.specs.Progress.{isEntered, underWay, canMove, someBelow, progresses, bookAfterCall}
-use Rattle.model.specs.Holds.{grantsRight}
+use Rattle.model.specs.Holds.{grantsRight, wantedBy}
 use Rattle.theory.specs.Links.{clockStart, linksFresh}
 use Rattle.theory.specs.NoPage.{noneWrote, noPageKept}
 use Rattle.theory.specs.PlainMap.{PlainMap}
@@ -37,6 +42,7 @@ use Rattle.theory.specs.Linearization.{IsOneOf, Ended, Operated, operationsOf, 
 use Rattle.theory.specs.Settings.{Came}
 use Rattle.theory.specs.Withdrawals.{callsBegun, callsWithdrawn, withdrawnUnwritten}
 use Rattle.theory.specs.FittingMerges.{nothingHad, mergesFit}
+use Rattle.theory.specs.Overtaking.{waitsAfterEvents, waitStays, WaitsFor, passesBy, passesAll, waitsAtEnd, wordsOfLedger}
 use Rattle.theory.specs.CallsBounded.{noneCounted, mostCalls, callsBounded}
 use Rattle.theory.specs.TakenUp.{takenRightly, alwaysTaken}
 use Rattle.model.proofs.Laws.Lists.{and-both}
@@ -165,8 +171,70 @@ module _ {m₀ m : Memory} {cs : List Call} {es : List Event} {run : Ran m₀ cs
   pub no-page-told : noPageKept noneWrote es ≡ true
   no-page-told = ap (noPageKept noneWrote) (right .events-are) ∙ right .schedule .no-page
 
-  pub grants-told : grantsRight (sizesIn m₀) (savedBook m₀) [] m₀ cs ≡ true
-  grants-told = at-lent (λ x. grantsRight (sizesIn x) (savedBook x) [] x cs ≡ true) (right .grants .grants)
+  pub grants-told : grantsRight (sizesIn m₀) (savedBook m₀) [] [] m₀ cs ≡ true
+  grants-told = at-lent (λ x. grantsRight (sizesIn x) (savedBook x) [] [] x cs ≡ true) (right .grants .grants)
+
+  -- ---- Change 7
+
+  -- What a party wants here is what it wants in the memory reached; and so after more calls.
+  wants-there : (p : ℕ) → wantedBy (sizesIn m₀) m p ≡ wantedBy (sizesOf s) (Reached s cs) p
+  wants-there p = ap₂ (λ (x y : Memory). wantedBy (sizesIn x) y p) (right .starts) (right .memory-is)
+
+  waits-there : (p : ℕ) → waitsAfterEvents p es ≡ waitsAfterEvents p (events (start s) cs)
+  waits-there p = ap (waitsAfterEvents p) (right .events-are)
+
+  waits-for : (p : ℕ) (c : Claim) → waitsAfterEvents p es ≡ true → wantedBy (sizesIn m₀) m p ≡ some c → WaitsFor s cs p c
+  waits-for p c waits wants = record { waits = sym (waits-there p) ∙ waits; wanted = sym (wants-there p) ∙ wants }
+
+  -- Party p waits for lock c, and more calls are made, none of which ends its wait.
+  module _ {ds : List Call} {fs : List Event} {m′ : Memory} (on : Ran m ds fs m′) (p : ℕ) (c : Claim) (waits : waitsAfterEvents p es ≡ true)
+      (wants : wantedBy (sizesIn m₀) m p ≡ some c) (stays : waitStays p fs ≡ true) where
+    left-there : m′ ≡ Reached s (cs ++ ds)
+    left-there = ran-memory on ∙ ap (λ (u : Memory). finalMemory u ds) (right .memory-is) ∙ sym (final-append (start s) cs ds)
+
+    wants-later : (q : ℕ) → wantedBy (sizesIn m₀) m′ q ≡ wantedBy (sizesOf s) (Reached s (cs ++ ds)) q
+    wants-later q = ap₂ (λ (x y : Memory). wantedBy (sizesIn x) y q) (right .starts) left-there
+
+    stays-there : waitStays p (events (Reached s cs) ds) ≡ true
+    stays-there = ap (λ (u : Memory). waitStays p (events u ds)) (sym (right .memory-is)) ∙ ap (waitStays p) (sym (ran-events on)) ∙ stays
+
+    -- A party that did not wait then, and now wants a lock that clashes with it, is told to wait.
+    pub overtaken-told : (q : ℕ) (d : Claim) → waitsAfterEvents q es ≡ false → wantedBy (sizesIn m₀) m′ q ≡ some d → d .word ≡ c .word
+        → tableOne (d .mode) (c .mode) ≡ false → stepCall m′ q .answer ≡ StepAnswer.Waiting
+    overtaken-told q d later wants′ word apart =
+        ap (λ (u : Memory). stepCall u q .answer) left-there
+        ∙ right .overtaken ds p q c d .waits-too (waits-for p c waits wants) (sym (waits-there q) ∙ later) stays-there (sym (wants-later q) ∙ wants′) word apart
+
+    -- The lock that it wants is the same.
+    pub wanted-told : wantedBy (sizesIn m₀) m′ p ≡ some c
+    wanted-told = wants-later p ∙ right .wanted ds p c .same (waits-for p c waits wants) stays-there
+
+    -- Each party passed it at most once, and at most Q - 1 grants did.
+    pub passed-told : ((q : ℕ) → passesBy (sizesIn m₀) c q m ds ≤ 1) × (passesAll (sizesIn m₀) c m ds + 1 ≤ m₀ .root .parties)
+    passed-told =
+        let at : (P : Root → Memory → Type 0) → P (sizesOf s) (Reached s cs) → P (sizesIn m₀) m =
+        λ P x. subst (P (sizesIn m₀)) (sym (right .memory-is)) (at-lent (λ u. P (sizesIn u) (Reached s cs)) x) in (
+          (λ q. at (λ z u. passesBy z c q u ds ≤ 1) (right .passed ds p c .once (waits-for p c waits wants) stays-there q)),
+          at (λ z u. passesAll z c u ds + 1 ≤ z .parties) (right .passed ds p c .in-all (waits-for p c waits wants) stays-there),
+        )
+
+  -- The waiting row is the parties of the ledger of waits, each plus one, first come first, then zeros.
+  pub row-told : m .waiting ≡ wordsOfLedger (waitsAtEnd (sizesIn m₀) [] m₀ cs) ++ replicate (m₀ .root .parties - length (waitsAtEnd (sizesIn m₀) [] m₀ cs)) 0
+  row-told =
+      ap (λ (u : Memory). u .waiting) (right .memory-is)
+      ∙ at-lent (λ x. Reached s cs .waiting ≡ wordsOfLedger (waitsAtEnd (sizesIn x) [] x cs) ++ replicate (x .root .parties - length (waitsAtEnd (sizesIn x) [] x cs)) 0) (right .row .row-is)
+
+  -- A waiting call of one that waits alters nothing.
+  pub again-told : (p : ℕ) → waitsAfterEvents p es ≡ true → stepCall m p .answer ≡ StepAnswer.Waiting → stepCall m p .memory ≡ m
+  again-told p waits answer =
+      subst (λ (u : Memory). stepCall u p .answer ≡ StepAnswer.Waiting → stepCall u p .memory ≡ u) (sym (right .memory-is))
+      (λ a. right .again p .again (sym (waits-there p) ∙ waits) a) answer
+
+  -- Where nobody is under way, nobody waits.
+  pub clear-told : AtRest b → allZero (m .waiting) ≡ true
+  clear-told rest = ap (λ (u : Memory). allZero (u .waiting)) (right .memory-is) ∙ right .clear .clear (subst AtRest same-book rest)
+
+  -- ---- Alone, in order, withdrawn, merged
 
   -- At rest, an operation run alone is answered as the yardstick does.
   pub alone-told : AtRest b → (x : Wanted) → x .party < m₀ .root .parties → Alone (sizesIn m₀) m x

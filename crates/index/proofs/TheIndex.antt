@@ -27,6 +27,7 @@ use Rattle.theory.proofs.Withdrawals.{withdrawals-right}
 use Rattle.theory.proofs.Restored.{restored}
 use Rattle.theory.proofs.FittingMerges.{merges-right}
 use Rattle.theory.proofs.Reached.{started-inv}
+use Rattle.theory.proofs.Overtaking.{nobody-overtaken, same-want, passed-once, row-is-ledger, waits-again, rests-clear}
 use Rattle.theory.proofs.CallsBounded.{calls-right}
 use Rattle.theory.proofs.TakenUp.{taken-right, reached-records, formatted-empty, formatted-book, formatted-holds}
 use Rattle.theory.proofs.Demands.{schedule-right, granted-right, singly-right, lists-right}
@@ -41,9 +42,9 @@ fileSizes s = record { originals = s .originals; capacity = s .capacity; primari
 
 -- Memory of the lengths that the sizes ask for is formatted, whatever its words are.
 pub format-accepts : (s : Sizes) (m : Memory) → length (m .parties) ≡ s .parties → length (m .locks) ≡ lockWords (sizesGiven s) → length (m .pages) ≡ allPageWords (sizesGiven s)
-    → Formatted m (fileSizes s) (formatted (sizesGiven s))
+    → length (m .waiting) ≡ s .parties → Formatted m (fileSizes s) (formatted (sizesGiven s))
 unfolding lengthsFit
-format-accepts s m parties locks pages = format-starts m (fileSizes s) (s .fit) (rw (eq-eqb _ _ parties, eq-eqb _ _ locks, eq-eqb _ _ pages))
+format-accepts s m parties locks pages waiting = format-starts m (fileSizes s) (s .fit) (rw (eq-eqb _ _ parties, eq-eqb _ _ locks, eq-eqb _ _ pages, eq-eqb _ _ waiting))
 
 pub format-right : (m₀ : Memory) (z : FileSizes) (m : Memory) → Formatted m₀ z m → FormatRight z m
 format-right m₀ z m is =
@@ -96,6 +97,12 @@ from-start s cs es m′ run =
       records = λ rest.
           ap recordsSaved left ∙ reached-records s cs (subst (λ (xs : List Event). AtRest (bookAtEnd (savedBook (start s)) xs)) made rest)
           ∙ ap (λ (xs : List Event). bookAtEnd (savedBook (start s)) xs .contents) (sym made);
+      overtaken = nobody-overtaken s cs;
+      wanted = same-want s cs;
+      passed = passed-once s cs;
+      row = row-is-ledger s cs;
+      again = waits-again s cs;
+      clear = rests-clear s cs;
       calls = calls-right s cs;
     }
 

@@ -12,6 +12,7 @@ use mathlib.Core.List.{List, []}
 use Prim.Native.Nat.{ℕ, _<_}
 use Rattle.model.specs.declared.FileSizes.{FileSizes}
 use Rattle.model.specs.Records.{rootSized}
+use Rattle.model.specs.LockWords.{Claim}
 use Rattle.model.specs.Memory.{Memory, formatted}
 use Rattle.model.specs.Runs.{Call, Event, events}
 use Rattle.model.specs.Book.{emptyBook, bookAgrees, bookAtEnd}
@@ -25,6 +26,7 @@ use Rattle.theory.specs.Settings.{FoundsRight}
 use Rattle.theory.specs.Withdrawals.{Restored, WithdrawalsRight}
 use Rattle.theory.specs.FittingMerges.{nothingHad, mergesFit}
 use Rattle.theory.specs.CallsBounded.{CallsRight}
+use Rattle.theory.specs.Overtaking.{NobodyOvertaken, SameWant, PassedOnce, RowIsLedger, WaitsAgain, RestsClear}
 use Rattle.theory.specs.TakenUp.{alwaysTaken}
 -- ---- Calls of the functions
 
@@ -87,5 +89,14 @@ pub record IndexRight (m₀ : Memory) (cs : List Call) (es : List Event) (m : Me
   pub taken : alwaysTaken (m₀ .root .parties) (savedBook m₀) m₀ cs ≡ true
   pub looks : looksRight (m₀ .root .parties) (savedBook m₀) ran ≡ true
   pub records : AtRest (bookAtEnd (savedBook m₀) es) → recordsSaved m ≡ bookAtEnd (savedBook m₀) es .contents
+  -- Change 7: who waits is overtaken by nobody that comes later, whatever calls ds follow; the lock that it wants stays
+  -- the same; each other party passes it at most once; the waiting row is the ledger of waits, a second waiting call
+  -- alters nothing, and where nobody is under way the row is zero.
+  pub overtaken : (ds : List Call) (p q : ℕ) (c d : Claim) → NobodyOvertaken begins cs ds p q c d
+  pub wanted : (ds : List Call) (p : ℕ) (c : Claim) → SameWant begins cs ds p c
+  pub passed : (ds : List Call) (p : ℕ) (c : Claim) → PassedOnce begins cs ds p c
+  pub row : RowIsLedger begins cs
+  pub again : (p : ℕ) → WaitsAgain begins cs p
+  pub clear : RestsClear begins cs
   -- Change 8: waiting ones set aside, a find takes at most 31 + V calls, an insert or a delete at most 45.
   pub calls : CallsRight begins cs

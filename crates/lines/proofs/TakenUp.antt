@@ -33,6 +33,7 @@ pub take-up-kept : (m : Memory) → performed Form.TakeUp m .memory ≡ m
 unfolding performed takeUpCall
 take-up-kept m =
     λ i. lent (m .root) (take-append-drop (m .root .parties) (m .parties) i) (take-append-drop (lockWords (m .root)) (m .locks) i) (take-append-drop (allPageWords (m .root)) (m .pages) i)
+    (take-append-drop (m .root .parties) (m .waiting) i)
 
 -- The answer is the one that take-up gives for the file held.
 answered : (m : Memory) → performed Form.TakeUp m .answer ≡ Reply.TakeUp (takeUpCall (fileIn m) .answer)

@@ -1,5 +1,6 @@
 -- Words lent: the first ones alone, as many as are asked for, or all.
--- Main statements: words-left (what a call leaves that was lent the first words of locks and pages), words-kept (the same of a call that alters neither).
+-- Main statements: words-left (what a call leaves that was lent the first words of locks, pages and waiting row),
+-- words-kept (the same of a call that alters none of them).
 use mathlib.Core.Path.{_≡_, sym, _∙_, ap}
 use mathlib.Core.List.{List, _++_}
 use Prim.Native.Nat.{ℕ, min}
@@ -15,26 +16,26 @@ use Rattle.forms.specs.declared.Reply.{Reply}
 use Rattle.lines.specs.Lines.{withWords}
 
 -- What a call left, its answer made a reply and these words put after those it was lent.
-abbrev before : {A : Type 0} → (A → Reply) → List ℕ → List ℕ → Called A → Called Reply
-before f ls gs c = called (f (c .answer)) (lent (c .memory .root) (c .memory .parties) (c .memory .locks ++ ls) (c .memory .pages ++ gs))
+abbrev before : {A : Type 0} → (A → Reply) → List ℕ → List ℕ → List ℕ → Called A → Called Reply
+before f ls gs ws c = called (f (c .answer)) (lent (c .memory .root) (c .memory .parties) (c .memory .locks ++ ls) (c .memory .pages ++ gs) (c .memory .waiting ++ ws))
 
--- A call was lent the first l of the lock words and the first g of the page words: as many as the sizes in a root record ask for, or all.
-pub words-left : {A : Type 0} (r : Root) (call : List ℕ → List ℕ → Called A) (f : A → Reply) (m : Memory) (l g : ℕ)
-    → l ≡ min (lockWords r) (length (m .locks)) → g ≡ min (allPageWords r) (length (m .pages))
-    → (a : A) (x : Root) (row : List Party) (ls gs : List ℕ) → called a (lent x row ls gs) ≡ call (take l (m .locks)) (take g (m .pages))
-    → called (f a) (lent x row (ls ++ drop l (m .locks)) (gs ++ drop g (m .pages))) ≡ withWords r m f (call (take (lockWords r) (m .locks)) (take (allPageWords r) (m .pages)))
-words-left {A} r call f m l g el eg a x row ls gs said =
-    ap (before f (drop l (m .locks)) (drop g (m .pages))) said
-    ∙ ap (λ (us : List ℕ). before f us (drop g (m .pages)) (call (take l (m .locks)) (take g (m .pages)))) (rest-of (lockWords r) l (m .locks) el)
-    ∙ ap (λ (us : List ℕ). before f (drop (lockWords r) (m .locks)) us (call (take l (m .locks)) (take g (m .pages)))) (rest-of (allPageWords r) g (m .pages) eg)
-    ∙ ap (λ (us : List ℕ). before f (drop (lockWords r) (m .locks)) (drop (allPageWords r) (m .pages)) (call us (take g (m .pages)))) (first-of (lockWords r) l (m .locks) el)
-    ∙ ap (λ (us : List ℕ). before f (drop (lockWords r) (m .locks)) (drop (allPageWords r) (m .pages)) (call (take (lockWords r) (m .locks)) us)) (first-of (allPageWords r) g (m .pages) eg)
+-- A call was lent the first l of the lock words, the first g of the page words and the first w of the waiting row: as
+-- many as the sizes in a root record ask for, or all.
+module _ {A : Type 0} (r : Root) (call : List ℕ → List ℕ → List ℕ → Called A) (f : A → Reply) (m : Memory) (l g w : ℕ)
+    (el : l ≡ min (lockWords r) (length (m .locks))) (eg : g ≡ min (allPageWords r) (length (m .pages))) (ew : w ≡ min (r .parties) (length (m .waiting)))
+    (a : A) (x : Root) (row : List Party) where
+  abbrev Performed : Called Reply
+  Performed = withWords r m f (call (take (lockWords r) (m .locks)) (take (allPageWords r) (m .pages)) (take (r .parties) (m .waiting)))
 
-pub words-kept : {A : Type 0} (r : Root) (call : List ℕ → List ℕ → Called A) (f : A → Reply) (m : Memory) (l g : ℕ)
-    → l ≡ min (lockWords r) (length (m .locks)) → g ≡ min (allPageWords r) (length (m .pages))
-    → (a : A) (x : Root) (row : List Party) → called a (lent x row (take l (m .locks)) (take g (m .pages))) ≡ call (take l (m .locks)) (take g (m .pages))
-    → called (f a) (lent x row (m .locks) (m .pages)) ≡ withWords r m f (call (take (lockWords r) (m .locks)) (take (allPageWords r) (m .pages)))
-words-kept {A} r call f m l g el eg a x row said =
-    ap (λ (us : List ℕ). called (f a) (lent x row us (m .pages))) (sym (take-append-drop l (m .locks)))
-    ∙ ap (λ (us : List ℕ). called (f a) (lent x row (take l (m .locks) ++ drop l (m .locks)) us)) (sym (take-append-drop g (m .pages)))
-    ∙ words-left r call f m l g el eg a x row (take l (m .locks)) (take g (m .pages)) said
+  pub words-left : (ls gs ws : List ℕ) → called a (lent x row ls gs ws) ≡ call (take l (m .locks)) (take g (m .pages)) (take w (m .waiting))
+      → called (f a) (lent x row (ls ++ drop l (m .locks)) (gs ++ drop g (m .pages)) (ws ++ drop w (m .waiting))) ≡ Performed
+  words-left ls gs ws said =
+      ap (before f (drop l (m .locks)) (drop g (m .pages)) (drop w (m .waiting))) said
+      ∙ (λ i. before f (rest-of (lockWords r) l (m .locks) el i) (rest-of (allPageWords r) g (m .pages) eg i) (rest-of (r .parties) w (m .waiting) ew i)
+      (call (first-of (lockWords r) l (m .locks) el i) (first-of (allPageWords r) g (m .pages) eg i) (first-of (r .parties) w (m .waiting) ew i)))
+
+  pub words-kept : called a (lent x row (take l (m .locks)) (take g (m .pages)) (take w (m .waiting))) ≡ call (take l (m .locks)) (take g (m .pages)) (take w (m .waiting))
+      → called (f a) (lent x row (m .locks) (m .pages) (m .waiting)) ≡ Performed
+  words-kept said =
+      (λ i. called (f a) (lent x row (sym (take-append-drop l (m .locks)) i) (sym (take-append-drop g (m .pages)) i) (sym (take-append-drop w (m .waiting)) i)))
+      ∙ words-left (take l (m .locks)) (take g (m .pages)) (take w (m .waiting)) said

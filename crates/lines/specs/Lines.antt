@@ -18,14 +18,17 @@ use Rattle.forms.specs.declared.Reply.{Reply}
 use Rattle.forms.specs.declared.Reply.the-variants as Reply
 use Rattle.forms.specs.Reading.{readForm}
 
--- The memory with the first lock words and page words that the sizes in a root record ask for, or all where there are
--- fewer.
+-- The memory with the first lock words, page words and words of the waiting row that the sizes in a root record ask
+-- for, or all where there are fewer.
 abbrev pub wordsFor : Root → Memory → Memory
-wordsFor r m = lent (m .root) (m .parties) (take (lockWords r) (m .locks)) (take (allPageWords r) (m .pages))
+wordsFor r m = lent (m .root) (m .parties) (take (lockWords r) (m .locks)) (take (allPageWords r) (m .pages)) (take (r .parties) (m .waiting))
 
 -- What a call on it answers and leaves, with the words past them as they were; f makes the reply of the answer.
 abbrev pub withWords : {A : Type 0} → Root → Memory → (A → Reply) → Called A → Called Reply
-withWords r m f c = called (f (c .answer)) (lent (c .memory .root) (c .memory .parties) (c .memory .locks ++ drop (lockWords r) (m .locks)) (c .memory .pages ++ drop (allPageWords r) (m .pages)))
+withWords r m f c =
+    called (f (c .answer))
+    (lent (c .memory .root) (c .memory .parties) (c .memory .locks ++ drop (lockWords r) (m .locks)) (c .memory .pages ++ drop (allPageWords r) (m .pages))
+    (c .memory .waiting ++ drop (r .parties) (m .waiting)))
 
 -- The call that a form names: a format is lent words by the sizes given, any other call by those of the root record.
 unfoldable pub performed : Form → Memory → Called Reply

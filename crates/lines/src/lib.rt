@@ -1,6 +1,7 @@
 // A line of turns answered (document 01, "The turns program"): the form is read, its call is performed on the root
-// record and on records and words that are lent, and the reply is printed. Each call is lent the first lock words and
-// page words that the sizes ask for: those given for a format, else those of the root record.
+// record and on records and words that are lent, and the reply is printed. Each call is lent the first lock words,
+// page words and words of the waiting row that the sizes ask for: those given for a format, else those of the root
+// record.
 // Main statements: answer leaves the memory, and prints the reply, that lineAnswered says of the line and of all
 // memory (specs/Lines.antt); there is nothing that a caller must see to.
 
@@ -68,15 +69,24 @@ fn format(
     row: &mut [[u32; 10]],
     locks: &mut [u32],
     pages: &mut [u32],
+    waiting: &mut [u32],
 ) -> Performed
-    ensures { λ r. ⌜ called (r .reply) (heldIn (r .root) (now (row .exit)) (now (locks .exit)) (now (pages .exit))) ≡ performed (Form.Format sizes) (heldIn root (now (row .entry)) (now (locks .entry)) (now (pages .entry))) ⌝ }
+    ensures { λ r. ⌜ called (r .reply) (heldIn (r .root) (now (row .exit)) (now (locks .exit)) (now (pages .exit)) (now (waiting .exit))) ≡ performed (Form.Format sizes) (heldIn root (now (row .entry)) (now (locks .entry)) (now (pages .entry)) (now (waiting .entry))) ⌝ }
 {
     let l = words_lent(lock_words(sizes.primaries), locks.len());
     let g = words_lent(
         page_words(sizes.primaries, sizes.overflow, sizes.parties),
         pages.len(),
     );
-    let c = held::format(root, row, &mut locks[0..l], &mut pages[0..g], sizes);
+    let w = words_lent(sizes.parties as usize, waiting.len());
+    let c = held::format(
+        root,
+        row,
+        &mut locks[0..l],
+        &mut pages[0..g],
+        &mut waiting[0..w],
+        sizes,
+    );
     let after = c.root;
     let answer = c.answer;
     Performed {
@@ -94,15 +104,26 @@ fn begin(
     row: &mut [[u32; 10]],
     locks: &[u32],
     pages: &[u32],
+    waiting: &[u32],
 ) -> Performed
-    ensures { λ r. ⌜ called (r .reply) (heldIn (r .root) (now (row .exit)) (now (locks .entry)) (now (pages .entry))) ≡ performed (Form.Begin q operation key) (heldIn root (now (row .entry)) (now (locks .entry)) (now (pages .entry))) ⌝ }
+    ensures { λ r. ⌜ called (r .reply) (heldIn (r .root) (now (row .exit)) (now (locks .entry)) (now (pages .entry)) (now (waiting .entry))) ≡ performed (Form.Begin q operation key) (heldIn root (now (row .entry)) (now (locks .entry)) (now (pages .entry)) (now (waiting .entry))) ⌝ }
 {
     let l = words_lent(lock_words(root.primaries), locks.len());
     let g = words_lent(
         page_words(root.primaries, root.overflow, root.parties),
         pages.len(),
     );
-    let answer = held::begin(root, row, &locks[0..l], &pages[0..g], q, operation, key);
+    let w = words_lent(root.parties as usize, waiting.len());
+    let answer = held::begin(
+        root,
+        row,
+        &locks[0..l],
+        &pages[0..g],
+        &waiting[0..w],
+        q,
+        operation,
+        key,
+    );
     Performed {
         root,
         reply: Reply::Begin(q, answer),
@@ -116,15 +137,24 @@ fn step(
     row: &mut [[u32; 10]],
     locks: &mut [u32],
     pages: &mut [u32],
+    waiting: &mut [u32],
 ) -> Performed
-    ensures { λ r. ⌜ called (r .reply) (heldIn (r .root) (now (row .exit)) (now (locks .exit)) (now (pages .exit))) ≡ performed (Form.Step q) (heldIn root (now (row .entry)) (now (locks .entry)) (now (pages .entry))) ⌝ }
+    ensures { λ r. ⌜ called (r .reply) (heldIn (r .root) (now (row .exit)) (now (locks .exit)) (now (pages .exit)) (now (waiting .exit))) ≡ performed (Form.Step q) (heldIn root (now (row .entry)) (now (locks .entry)) (now (pages .entry)) (now (waiting .entry))) ⌝ }
 {
     let l = words_lent(lock_words(root.primaries), locks.len());
     let g = words_lent(
         page_words(root.primaries, root.overflow, root.parties),
         pages.len(),
     );
-    let c = held::step(root, row, &mut locks[0..l], &mut pages[0..g], q);
+    let w = words_lent(root.parties as usize, waiting.len());
+    let c = held::step(
+        root,
+        row,
+        &mut locks[0..l],
+        &mut pages[0..g],
+        &mut waiting[0..w],
+        q,
+    );
     let after = c.root;
     let answer = c.answer;
     Performed {
@@ -140,15 +170,24 @@ fn withdraw(
     row: &mut [[u32; 10]],
     locks: &mut [u32],
     pages: &mut [u32],
+    waiting: &mut [u32],
 ) -> Performed
-    ensures { λ r. ⌜ called (r .reply) (heldIn (r .root) (now (row .exit)) (now (locks .exit)) (now (pages .exit))) ≡ performed (Form.Withdraw q) (heldIn root (now (row .entry)) (now (locks .entry)) (now (pages .entry))) ⌝ }
+    ensures { λ r. ⌜ called (r .reply) (heldIn (r .root) (now (row .exit)) (now (locks .exit)) (now (pages .exit)) (now (waiting .exit))) ≡ performed (Form.Withdraw q) (heldIn root (now (row .entry)) (now (locks .entry)) (now (pages .entry)) (now (waiting .entry))) ⌝ }
 {
     let l = words_lent(lock_words(root.primaries), locks.len());
     let g = words_lent(
         page_words(root.primaries, root.overflow, root.parties),
         pages.len(),
     );
-    let c = held::withdraw(root, row, &mut locks[0..l], &mut pages[0..g], q);
+    let w = words_lent(root.parties as usize, waiting.len());
+    let c = held::withdraw(
+        root,
+        row,
+        &mut locks[0..l],
+        &mut pages[0..g],
+        &mut waiting[0..w],
+        q,
+    );
     let after = c.root;
     let answer = c.answer;
     Performed {
@@ -158,15 +197,22 @@ fn withdraw(
 }
 
 // A take-up: nothing is altered.
-fn take_up(root: Root, row: &[[u32; 10]], locks: &[u32], pages: &[u32]) -> Performed
-    ensures { λ r. ⌜ called (r .reply) (heldIn (r .root) (now (row .entry)) (now (locks .entry)) (now (pages .entry))) ≡ performed Form.TakeUp (heldIn root (now (row .entry)) (now (locks .entry)) (now (pages .entry))) ⌝ }
+fn take_up(
+    root: Root,
+    row: &[[u32; 10]],
+    locks: &[u32],
+    pages: &[u32],
+    waiting: &[u32],
+) -> Performed
+    ensures { λ r. ⌜ called (r .reply) (heldIn (r .root) (now (row .entry)) (now (locks .entry)) (now (pages .entry)) (now (waiting .entry))) ≡ performed Form.TakeUp (heldIn root (now (row .entry)) (now (locks .entry)) (now (pages .entry)) (now (waiting .entry))) ⌝ }
 {
     let l = words_lent(lock_words(root.primaries), locks.len());
     let g = words_lent(
         page_words(root.primaries, root.overflow, root.parties),
         pages.len(),
     );
-    let answer = held::take_up(root, row, &locks[0..l], &pages[0..g]);
+    let w = words_lent(root.parties as usize, waiting.len());
+    let answer = held::take_up(root, row, &locks[0..l], &pages[0..g], &waiting[0..w]);
     Performed {
         root,
         reply: Reply::TakeUp(answer),
@@ -180,15 +226,25 @@ fn perform(
     row: &mut [[u32; 10]],
     locks: &mut [u32],
     pages: &mut [u32],
+    waiting: &mut [u32],
 ) -> Performed
-    ensures { λ r. ⌜ called (r .reply) (heldIn (r .root) (now (row .exit)) (now (locks .exit)) (now (pages .exit))) ≡ performed form (heldIn root (now (row .entry)) (now (locks .entry)) (now (pages .entry))) ⌝ }
+    ensures { λ r. ⌜ called (r .reply) (heldIn (r .root) (now (row .exit)) (now (locks .exit)) (now (pages .exit)) (now (waiting .exit))) ≡ performed form (heldIn root (now (row .entry)) (now (locks .entry)) (now (pages .entry)) (now (waiting .entry))) ⌝ }
 {
     match form {
-        Form::Format(sizes) => format(sizes, root, row, locks, pages),
-        Form::Begin(q, operation, key) => begin(q, operation, key, root, row, locks, pages),
-        Form::Step(q) => step(q, root, row, locks, pages),
-        Form::Withdraw(q) => withdraw(q, root, row, locks, pages),
-        Form::TakeUp => take_up(root, row, locks, pages),
+        Form::Format(sizes) => format(sizes, root, row, locks, pages, waiting),
+        Form::Begin(q, operation, key) => begin(
+            q,
+            operation,
+            key,
+            root,
+            row,
+            locks,
+            pages,
+            waiting,
+        ),
+        Form::Step(q) => step(q, root, row, locks, pages, waiting),
+        Form::Withdraw(q) => withdraw(q, root, row, locks, pages, waiting),
+        Form::TakeUp => take_up(root, row, locks, pages, waiting),
     }
 }
 
@@ -199,8 +255,9 @@ fn perform_line(
     row: &mut [[u32; 10]],
     locks: &mut [u32],
     pages: &mut [u32],
+    waiting: &mut [u32],
 ) -> Performed
-    ensures { λ r. ⌜ called (r .reply) (heldIn (r .root) (now (row .exit)) (now (locks .exit)) (now (pages .exit))) ≡ lineAnswered (now (line .entry)) (heldIn root (now (row .entry)) (now (locks .entry)) (now (pages .entry))) ⌝ }
+    ensures { λ r. ⌜ called (r .reply) (heldIn (r .root) (now (row .exit)) (now (locks .exit)) (now (pages .exit)) (now (waiting .exit))) ≡ lineAnswered (now (line .entry)) (heldIn root (now (row .entry)) (now (locks .entry)) (now (pages .entry)) (now (waiting .entry))) ⌝ }
 {
     let read = forms::read_form(line);
     match read {
@@ -208,7 +265,7 @@ fn perform_line(
             root,
             reply: Reply::Unread,
         },
-        FormRead::Read(form) => perform(form, root, row, locks, pages),
+        FormRead::Read(form) => perform(form, root, row, locks, pages, waiting),
     }
 }
 
@@ -220,14 +277,15 @@ pub fn answer(
     row: &mut [[u32; 10]],
     locks: &mut [u32],
     pages: &mut [u32],
+    waiting: &mut [u32],
     out: &mut [u8],
     at: usize,
 ) -> Answered
-    ensures { λ r. ⌜ heldIn (r .root) (now (row .exit)) (now (locks .exit)) (now (pages .exit)) ≡ lineAnswered (now (line .entry)) (heldIn root (now (row .entry)) (now (locks .entry)) (now (pages .entry))) .memory ⌝ }
-    ensures { λ _. ⌜ now (out .exit) ≡ sets (now (out .entry)) at (given (length (now (out .entry))) at longestReply (replyText (lineAnswered (now (line .entry)) (heldIn root (now (row .entry)) (now (locks .entry)) (now (pages .entry))) .answer))) ⌝ }
-    ensures { λ r. ⌜ r .end ≡ at + length (given (length (now (out .entry))) at longestReply (replyText (lineAnswered (now (line .entry)) (heldIn root (now (row .entry)) (now (locks .entry)) (now (pages .entry))) .answer))) ⌝ }
+    ensures { λ r. ⌜ heldIn (r .root) (now (row .exit)) (now (locks .exit)) (now (pages .exit)) (now (waiting .exit)) ≡ lineAnswered (now (line .entry)) (heldIn root (now (row .entry)) (now (locks .entry)) (now (pages .entry)) (now (waiting .entry))) .memory ⌝ }
+    ensures { λ _. ⌜ now (out .exit) ≡ sets (now (out .entry)) at (given (length (now (out .entry))) at longestReply (replyText (lineAnswered (now (line .entry)) (heldIn root (now (row .entry)) (now (locks .entry)) (now (pages .entry)) (now (waiting .entry))) .answer))) ⌝ }
+    ensures { λ r. ⌜ r .end ≡ at + length (given (length (now (out .entry))) at longestReply (replyText (lineAnswered (now (line .entry)) (heldIn root (now (row .entry)) (now (locks .entry)) (now (pages .entry)) (now (waiting .entry))) .answer))) ⌝ }
 {
-    let p = perform_line(line, root, row, locks, pages);
+    let p = perform_line(line, root, row, locks, pages, waiting);
     let after = p.root;
     let reply = p.reply;
     let end = forms::print_reply(reply, out, at);
@@ -268,10 +326,11 @@ pub fn answer_lines(
     row: &mut [[u32; 10]],
     locks: &mut [u32],
     pages: &mut [u32],
+    waiting: &mut [u32],
     out: &mut [u8],
 ) -> Lines
     ensures { λ r. ⌜ (r .from ≤ length (now (text .entry))) × (r .end ≤ length (now (out .exit))) ⌝ }
-    ensures { λ r. ⌜ ((t : List ℕ) → textAnswered [] (now (text .entry) ++ t) (heldIn root (now (row .entry)) (now (locks .entry)) (now (pages .entry))) ≡ printedBefore (take (r .end) (now (out .exit))) (textAnswered [] (drop (r .from) (now (text .entry)) ++ t) (heldIn (r .root) (now (row .exit)) (now (locks .exit)) (now (pages .exit))))) ⌝ }
+    ensures { λ r. ⌜ ((t : List ℕ) → textAnswered [] (now (text .entry) ++ t) (heldIn root (now (row .entry)) (now (locks .entry)) (now (pages .entry)) (now (waiting .entry))) ≡ printedBefore (take (r .end) (now (out .exit))) (textAnswered [] (drop (r .from) (now (text .entry)) ++ t) (heldIn (r .root) (now (row .exit)) (now (locks .exit)) (now (pages .exit)) (now (waiting .exit))))) ⌝ }
     ensures { λ r. ⌜ (r .from ≡ 0 → 58 ≤ length (now (out .entry)) → lineLength (now (text .entry)) ≡ length (now (text .entry))) ⌝ }
 {
     let mut root = root;
@@ -282,7 +341,7 @@ pub fn answer_lines(
         if out.len() - end < LONGEST_REPLY + 1 {
             return Lines { root, from, end };
         }
-        let a = answer(&text[from..to], root, row, locks, pages, out, end);
+        let a = answer(&text[from..to], root, row, locks, pages, waiting, out, end);
         let e = a.end;
         root = a.root;
         out[e] = NEWLINE;

@@ -1,5 +1,6 @@
 -- What holds of the sizes and the lent lengths once format meets no cause of refusal.
--- Main statements: can-format (what format_words asks), row-fits (as many records as the sizes ask for).
+-- Main statements: can-format (what format_words asks), row-fits and waiting-fits (as many records, and as
+-- many words of the waiting row, as the sizes ask for).
 use mathlib.Core.Path.{_≡_}
 use mathlib.Core.Bool.{true, false}
 use Prim.Native.Nat.{ℕ}
@@ -14,13 +15,13 @@ use Rattle.model.proofs.Invariant.Start.{limits-within}
 use Rattle.refusals.specs.Causes.{lengthsAre, fileRows, formatCause}
 use Rattle.memory.specs.Lent.{CanFormat}
 
-module _ (r : Root) (parties locks pages : ℕ) (none : formatCause r parties locks pages ≡ 0) where
-  unmet : All (λ x. x .met ≡ false) (fileRows r parties locks pages)
+module _ (r : Root) (parties locks pages waiting : ℕ) (none : formatCause r parties locks pages waiting ≡ 0) where
+  unmet : All (λ x. x .met ≡ false) (fileRows r parties locks pages waiting)
   unfolding formatCause
-  unmet = none-met (fileRows r parties locks pages) (omega arith) none
+  unmet = none-met (fileRows r parties locks pages waiting) (omega arith) none
 
-  lengths : lengthsAre r parties locks pages ≡ true
-  lengths = not-false (lengthsAre r parties locks pages) (unmet .1 .0)
+  lengths : lengthsAre r parties locks pages waiting ≡ true
+  lengths = not-false (lengthsAre r parties locks pages waiting) (unmet .1 .0)
 
   pub can-format : CanFormat r locks pages
   unfolding lengthsAre
@@ -36,3 +37,7 @@ module _ (r : Root) (parties locks pages : ℕ) (none : formatCause r parties lo
   pub row-fits : parties ≡ r .parties
   unfolding lengthsAre
   row-fits = let l = lengths in eqb-true parties (r .parties) (search (and-left, and-right))
+
+  pub waiting-fits : waiting ≡ r .parties
+  unfolding lengthsAre
+  waiting-fits = let l = lengths in eqb-true waiting (r .parties) (search (and-left, and-right))

@@ -29,8 +29,9 @@ pub locks-formatted : (s : Root) {locks pages : ℕ} {ls : List ℕ} → CanForm
 unfolding formatted
 locks-formatted s can e = e ∙ ap (λ (k : ℕ). replicate k 0) (can .locks-fit)
 
--- The parts, with a row of idle parties, are the whole.
-pub memory-formatted : (s : Root) {r : Root} {rs : List Party} {ls ps : List ℕ} → r ≡ formatted s .root → rs ≡ replicate (s .parties) idle
-    → ls ≡ formatted s .locks → ps ≡ formatted s .pages → record { root = r; parties = rs; locks = ls; pages = ps } ≡ formatted s
+-- The parts, with a row of idle parties and a waiting row of zeros, are the whole.
+pub memory-formatted : (s : Root) {r : Root} {rs : List Party} {ls ps ws : List ℕ} → r ≡ formatted s .root → rs ≡ replicate (s .parties) idle
+    → ls ≡ formatted s .locks → ps ≡ formatted s .pages → ws ≡ replicate (s .parties) 0
+    → record { root = r; parties = rs; locks = ls; pages = ps; waiting = ws } ≡ formatted s
 unfolding formatted
-memory-formatted s er ep el eg = rw (er, ep, el, eg)
+memory-formatted s er ep el eg ew = rw (er, ep, el, eg, ew)

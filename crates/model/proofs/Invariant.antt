@@ -6,6 +6,7 @@ pub mod Claims
 pub mod LockMoves
 pub mod Statement
 pub mod Frame
+pub mod Asks
 pub mod Facts
 pub mod Ahead
 pub mod Turn

@@ -1,4 +1,4 @@
--- Laws of the definitions: lists, fields, pages, addresses, filling, the free list, formatted memory.
+-- Laws of the definitions: lists, fields, pages, addresses, filling, the free list, formatted memory, the waiting row.
 pub mod Lists
 pub mod Booleans
 pub mod Answers
@@ -23,3 +23,5 @@ pub mod FreeList
 pub mod Format
 pub mod Retreat
 pub mod StepTable
+pub mod WaitingRow
+pub mod WaitLedger

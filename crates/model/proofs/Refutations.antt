@@ -10,3 +10,4 @@ pub mod Causes
 pub mod Steps
 pub mod Files
 pub mod Effects
+pub mod WaitingRow

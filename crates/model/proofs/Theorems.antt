@@ -5,9 +5,9 @@ pub mod Pairs
 pub mod RefusalOrder
 pub mod Gate
 pub mod GrantTable
+pub mod Answering
 pub mod Calls
 pub mod AllSteps
-pub mod Answering
 pub mod Meanings
 pub mod Merges
 pub mod Records

@@ -15,10 +15,12 @@ use Rattle.model.specs.declared.FormatAnswer.{FormatAnswer}
 use Rattle.model.specs.declared.FormatAnswer.the-variants as FormatAnswer
 use Rattle.model.specs.Records.{rootOfSizes, begun}
 use Rattle.model.specs.Answers.{operationNumber, settingGiven}
-use Rattle.model.specs.Memory.{Memory, partyAt, viewOf, afterStep, formatted}
+use Rattle.model.specs.Memory.{Memory, partyAt, viewOf, afterStep, withWaiting, formatted}
+use Rattle.model.specs.Outcome.{Outcome}
 use Rattle.model.specs.Refusals.{firstCause, formatRows, beginRows, stepRows, withdrawRows}
 use Rattle.model.specs.Steps.Dispatch.{stepOf}
 use Rattle.model.specs.Withdraw.{withdrawn}
+use Rattle.model.specs.WaitingRow.{rowAfter, rowLeft}
 
 -- What a call answers, and the memory it leaves.
 pub record Called (A : Type 0) : Type 0 where
@@ -37,7 +39,7 @@ formatCall m n b p v q =
 
 -- The memory with an operation begun for party q.
 unfoldable pub withBegun : Memory → ℕ → Operation → ℕ → Memory
-withBegun m q o k = record { root = m .root; parties = set (m .parties) q (begun (operationNumber o) k (settingGiven o)); locks = m .locks; pages = m .pages }
+withBegun m q o k = record { root = m .root; parties = set (m .parties) q (begun (operationNumber o) k (settingGiven o)); locks = m .locks; pages = m .pages; waiting = m .waiting }
 
 -- Begin an operation with key k for party q.
 unfoldable pub beginCall : Memory → ℕ → Operation → ℕ → Called BeginAnswer
@@ -45,11 +47,13 @@ beginCall m q o k =
     let c = firstCause (beginRows m q) in
     cond (eqb c 0) (called BeginAnswer.Begun (withBegun m q o k)) (called (BeginAnswer.Refused c) m)
 
+-- What a call of step is whose step has the outcome o: the waiting row goes by the answer.
+abbrev pub calledBy : Memory → ℕ → Outcome → Called StepAnswer
+calledBy m q o = called (o .answer) (withWaiting (rowAfter q (m .waiting) (o .answer)) (afterStep m (o .after)))
+
 -- The party's next step performed.
 unfoldable pub stepped : Memory → ℕ → Called StepAnswer
-stepped m q =
-    let o = stepOf (partyAt (m .parties) q .step) (viewOf m q) in
-    called (o .answer) (afterStep m (o .after))
+stepped m q = calledBy m q (stepOf (partyAt (m .parties) q .step) (viewOf m q))
 
 -- One step for party q.
 unfoldable pub stepCall : Memory → ℕ → Called StepAnswer
@@ -61,7 +65,7 @@ stepCall m q =
 unfoldable pub withdrawnFrom : Memory → ℕ → Called WithdrawAnswer
 withdrawnFrom m q =
     let o = withdrawn (viewOf m q) in
-    called (o .answer) (afterStep m (o .after))
+    called (o .answer) (withWaiting (rowLeft q (m .waiting) (o .answer)) (afterStep m (o .after)))
 
 -- Withdraw, for party q.
 unfoldable pub withdrawCall : Memory → ℕ → Called WithdrawAnswer

@@ -2,12 +2,12 @@
 -- Main definitions: AltersOwn, StepAlters (a step that moved or is done alters the party's own words, any other call of step alters nothing); WaitsForLock; Begins, BeginAlters;
 -- Withdraws, WithdrawAlters; BookFed, BookCompares, BookEnters, BookLeaves. The theorems that they hold are in proofs/.
 use mathlib.Core.Path.{_≡_}
-use mathlib.Core.Logic.{_≢_}
+use mathlib.Core.Logic.{_≢_, _⊎_}
 use mathlib.Core.Bool.{Bool, true, false}
 use mathlib.Core.List.{List, _∷_}
 use mathlib.Core.Option.{none, some}
-use Prim.Native.Nat.{ℕ}
-use lib.ListN.{length}
+use Prim.Native.Nat.{ℕ, _+_}
+use lib.ListN.{length, getD}
 use Rattle.model.specs.declared.Party.{Party}
 use Rattle.model.specs.declared.Operation.{Operation}
 use Rattle.model.specs.declared.OperationAnswer.{OperationAnswer}
@@ -17,13 +17,14 @@ use Rattle.model.specs.declared.BeginAnswer.the-variants as BeginAnswer
 use Rattle.model.specs.declared.WithdrawAnswer.the-variants as WithdrawAnswer
 use Rattle.model.specs.Records.{begun, idle, withFreeList}
 use Rattle.model.specs.Answers.{operationNumber, settingGiven, performs}
-use Rattle.model.specs.LockWords.{Claim}
+use Rattle.model.specs.LockWords.{Claim, permits}
 use Rattle.model.specs.Pages.{pageOf, linkOf, scratchPage, zeroPage}
 use Rattle.model.specs.Chains.{pagesListed}
 use Rattle.model.specs.FreeList.{isAmong}
-use Rattle.model.specs.LockRequests.{isGranted, givenUp}
+use Rattle.model.specs.LockRequests.{givenUp}
 use Rattle.model.specs.Steps.Dispatch.{wants}
-use Rattle.model.specs.Memory.{Memory, partyAt, viewOf}
+use Rattle.model.specs.Memory.{Memory, partyAt, viewOf, withWaiting}
+use Rattle.model.specs.WaitingRow.{standsBehind, rowWith, rowWithout}
 use Rattle.model.specs.Claims.{claims}
 use Rattle.model.specs.Withdraw.{builtPages}
 use Rattle.model.specs.Calls.{withBegun, beginCall, stepCall, withdrawCall}
@@ -62,16 +63,23 @@ pub data AltersOwn (m : Memory) (q : ℕ) : Type 0 where
   own-record : AltersRecord m q → AltersOwn m q
   own-scratch : AltersScratch m q → AltersOwn m q
 
--- A call that answers moved or done alters the party's own words. A call that waits or is refused alters nothing.
+-- "Only the first waiting call alters memory, and only the row": on all memory. A refused call alters nothing.
+pub record QuietAlters (m : Memory) (q : ℕ) : Type 0 where
+  pub waits : stepCall m q .answer ≡ StepAnswer.Waiting → stepCall m q .memory ≡ withWaiting (rowWith q (m .waiting)) m
+  pub waits-again : stepCall m q .answer ≡ StepAnswer.Waiting → isAmong (q + 1) (m .waiting) ≡ true → stepCall m q .memory ≡ m
+  pub refused : (n : ℕ) → stepCall m q .answer ≡ StepAnswer.Refused n → stepCall m q .memory ≡ m
+
+-- A call that answers moved or done alters the party's own words; any other call of step the waiting row at most.
 pub record StepAlters (m : Memory) (q : ℕ) : Type 0 where
   pub performed : performs (stepCall m q .answer) ≡ true → AltersOwn m q
-  pub otherwise : performs (stepCall m q .answer) ≡ false → stepCall m q .memory ≡ m
+  pub otherwise : QuietAlters m q
 
--- The party's next step requests a lock, and Table I forbids it against the lock word.
+-- The party's next step requests a lock, and Table I forbids it against the lock word, or an earlier waiting request
+-- conflicts.
 pub record WaitsForLock (m : Memory) (q : ℕ) : Type 0 where
   pub lock : Claim
   pub wanted : wants (m .root) (recordBefore m q) ≡ some lock
-  pub forbidden : isGranted (viewOf m q) lock ≡ false
+  pub forbidden : (permits (getD (m .locks) (lock .word) 0) (lock .mode) ≡ false) ⊎ (standsBehind (m .root) (m .parties) (m .waiting) q ≡ true)
 
 -- ---- A call of begin
 
@@ -83,6 +91,7 @@ pub record Begins (m : Memory) (q : ℕ) (o : Operation) (k : ℕ) : Type 0 wher
   pub root : beginCall m q o k .memory .root ≡ m .root
   pub locks : beginCall m q o k .memory .locks ≡ m .locks
   pub pages : beginCall m q o k .memory .pages ≡ m .pages
+  pub waiting : beginCall m q o k .memory .waiting ≡ m .waiting
   pub memory : beginCall m q o k .memory ≡ withBegun m q o k
 
 -- A begin accepted leaves what Begins says; one refused leaves all memory.
@@ -103,6 +112,7 @@ pub record Withdraws (m : Memory) (q : ℕ) : Type 0 where
   pub as-many : length (withdrawAfter m q .parties) ≡ length (m .parties)
   pub root : withdrawAfter m q .root ≡ withFreeList (withdrawAfter m q .root .head) (withdrawAfter m q .root .free) (m .root)
   pub locks : withdrawAfter m q .locks ≡ givenUp (claims (m .root) (partyAt (m .parties) q)) (viewOf m q) .locks
+  pub waiting : withdrawAfter m q .waiting ≡ rowWithout q (m .waiting)
   pub scratch : pageOf (withdrawAfter m q .pages) (scratchPage (m .root) q) ≡ zeroPage
   pub elsewhere : (x : ℕ) → x ≢ scratchPage (m .root) q → isAmong x (pagesListed (builtPages (viewOf m q))) ≡ false → pageOf (withdrawAfter m q .pages) x ≡ pageOf (m .pages) x
 

@@ -10,4 +10,4 @@ sizedRoot z r = withFreeList (r .head) (r .free) (withNext (r .next) (withLevel 
 
 -- The memory with that root record.
 abbrev pub sizedMemory : Root → Memory → Memory
-sizedMemory z m = record { root = sizedRoot z (m .root); parties = m .parties; locks = m .locks; pages = m .pages }
+sizedMemory z m = record { root = sizedRoot z (m .root); parties = m .parties; locks = m .locks; pages = m .pages; waiting = m .waiting }

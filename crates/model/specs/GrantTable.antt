@@ -7,8 +7,7 @@ use Prim.Native.Nat.{ℕ, _≤_}
 use lib.Dec.{eqb}
 use Rattle.model.specs.declared.Mode.{Mode}
 use Rattle.model.specs.declared.Mode.the-variants.{Read, Selective, Exclusive}
-use Rattle.model.specs.LockWords.{readersOf, selectiveOf, exclusiveOf}
-use Rattle.model.specs.Holds.{tableOne}
+use Rattle.model.specs.LockWords.{readersOf, selectiveOf, exclusiveOf, tableOne}
 
 -- The order of Table I's rows and columns, which is that of strength: read, selective, exclusive.
 unfoldable pub rank : Mode → ℕ

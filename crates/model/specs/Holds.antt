@@ -1,9 +1,10 @@
 -- Locks held, derived from the calls made and not from the lock words (demand 2): each grant adds a lock, each give-up takes it away.
 -- Sizes are those of a root record z, given to format; who is under way goes by the calls (the book's entries).
--- Main definitions: tableOne (Table I, its nine entries), Hold, permitted; givesUp (what each step gives up), holdsAfter; grantRight, stepRight, beginRight, withdrawRight (one answer);
--- grantsRight (over a whole list).
+-- Beside them the ledger of who waits, likewise by the calls and their answers alone.
+-- Main definitions: Hold, permitted; givesUp (what each step gives up), holdsAfter; waitsAfter (who waits, first come
+-- first), waitsBefore; grantRight, stepRight, beginRight, withdrawRight (one answer); grantsRight (over a whole list).
 use mathlib.Core.Bool.{Bool, true, false, cond, not, _&&_, _||_}
-use mathlib.Core.List.{List, [], _∷_}
+use mathlib.Core.List.{List, [], _∷_, _++_}
 use mathlib.Core.Option.{Option, none, some}
 use Prim.Native.Nat.{ℕ}
 use lib.ListN.{getD}
@@ -18,7 +19,7 @@ use Rattle.model.specs.declared.BeginAnswer.{BeginAnswer}
 use Rattle.model.specs.declared.BeginAnswer.the-variants as BeginAnswer
 use Rattle.model.specs.declared.WithdrawAnswer.{WithdrawAnswer}
 use Rattle.model.specs.declared.WithdrawAnswer.the-variants as WithdrawAnswer
-use Rattle.model.specs.LockWords.{Claim}
+use Rattle.model.specs.LockWords.{Claim, tableOne}
 use Rattle.model.specs.Memory.{Memory, partyAt}
 use Rattle.model.specs.GivenSizes.{sizedRoot}
 use Rattle.model.specs.Calls.{beginCall, stepCall, withdrawCall}
@@ -30,18 +31,6 @@ use Rattle.model.specs.Steps.Table.{rowAt}
 use Rattle.model.specs.Steps.Dispatch.{wants}
 use Rattle.model.specs.Claims.{noLock, claimTable, claims}
 use Rattle.model.specs.Withdraw.{isDecided}
-
--- Table I: a request (first) beside a lock held (second): true to grant, false to wait.
-unfoldable pub tableOne : Mode → Mode → Bool
-tableOne Read Read = true
-tableOne Read Selective = true
-tableOne Read Exclusive = false
-tableOne Selective Read = true
-tableOne Selective Selective = false
-tableOne Selective Exclusive = false
-tableOne Exclusive Read = false
-tableOne Exclusive Selective = false
-tableOne Exclusive Exclusive = false
 
 -- A lock held: by which party, and which lock.
 pub record Hold : Type 0 where
@@ -126,6 +115,48 @@ holdsAfter z hs m (beginFor q o k) = hs
 holdsAfter z hs m (stepFor q) = holdsAfterStep z hs m q
 holdsAfter z hs m (withdrawFor q) = holdsAfterWithdraw z hs m q
 
+-- ---- Who waits, by the calls and their answers alone: party and wanted lock, first come first
+
+-- Whether party q has an entry.
+unfoldable pub waitsIn : List Hold → ℕ → Bool
+waitsIn [] q = false
+waitsIn (w ∷ ws) q = eqb (w .party) q || waitsIn ws q
+
+-- A party that waits comes last, with the lock that it wants, unless it has an entry.
+unfoldable pub joins : List Hold → ℕ → Option Claim → List Hold
+joins ws q none = ws
+joins ws q (some c) = cond (waitsIn ws q) ws (ws ++ (hold q c ∷ []))
+
+-- The ledger without party q's entry.
+unfoldable pub leaves : List Hold → ℕ → List Hold
+leaves [] q = []
+leaves (w ∷ ws) q = let rest = leaves ws q in cond (eqb (w .party) q) ws (w ∷ rest)
+
+-- After a step of party q that wants o, by its answer: who is moved or done waits no longer.
+unfoldable pub waitsAfterStep : List Hold → ℕ → Option Claim → StepAnswer → List Hold
+waitsAfterStep ws q o StepAnswer.Waiting = joins ws q o
+waitsAfterStep ws q o StepAnswer.Moved = leaves ws q
+waitsAfterStep ws q o (StepAnswer.Done a s) = leaves ws q
+waitsAfterStep ws q o (StepAnswer.Refused n) = ws
+
+-- After a withdraw, by its answer.
+unfoldable pub waitsAfterWithdraw : List Hold → ℕ → WithdrawAnswer → List Hold
+waitsAfterWithdraw ws q WithdrawAnswer.Withdrawn = leaves ws q
+waitsAfterWithdraw ws q (WithdrawAnswer.Refused n) = ws
+
+-- After a call.
+unfoldable pub waitsAfter : Root → List Hold → Memory → Call → List Hold
+waitsAfter z ws m (beginFor q o k) = ws
+waitsAfter z ws m (stepFor q) = waitsAfterStep ws q (wantedBy z m q) (stepCall m q .answer)
+waitsAfter z ws m (withdrawFor q) = waitsAfterWithdraw ws q (withdrawCall m q .answer)
+
+-- Whether an entry before party q's own (any entry, where it has none) conflicts with its request c.
+unfoldable pub waitsBefore : List Hold → ℕ → Claim → Bool
+waitsBefore [] q c = false
+waitsBefore (w ∷ ws) q c =
+    let further = waitsBefore ws q c in
+    cond (eqb (w .party) q) false ((eqb (w .claim .word) (c .word) && not (tableOne (c .mode) (w .claim .mode))) || further)
+
 -- ---- Grants
 
 -- Whether an answer to a request is right: moved where the lock is permitted, waiting where it is not, and never a refusal.
@@ -143,9 +174,9 @@ neverWaits (StepAnswer.Done a s) = true
 neverWaits (StepAnswer.Refused n) = false
 
 -- Whether an answer is right for an operation under way.
-unfoldable pub answerRight : List Hold → Option Claim → StepAnswer → Bool
-answerRight hs none a = neverWaits a
-answerRight hs (some c) a = grantRight (permitted hs c) a
+unfoldable pub answerRight : List Hold → List Hold → ℕ → Option Claim → StepAnswer → Bool
+answerRight hs ws q none a = neverWaits a
+answerRight hs ws q (some c) a = grantRight (permitted hs c && not (waitsBefore ws q c)) a
 
 -- ---- Refusals
 
@@ -190,17 +221,22 @@ withdrawRight parties q busy decided a =
 
 -- ---- Over a list of calls
 
-unfoldable pub stepRight : Root → Book → List Hold → Memory → ℕ → Bool
-stepRight z b hs m q =
+-- Whether a step of party q is answered rightly.
+unfoldable pub stepRight : Root → Book → List Hold → List Hold → Memory → ℕ → Bool
+stepRight z b hs ws m q =
     let a = stepCall m q .answer in
-    cond (underWay b q) (answerRight hs (wantedBy z m q) a) (idleRight (z .parties) q a)
+    cond (underWay b q) (answerRight hs ws q (wantedBy z m q) a) (idleRight (z .parties) q a)
 
-unfoldable pub callRight : Root → Book → List Hold → Memory → Call → Bool
-callRight z b hs m (beginFor q o k) = beginRight (z .parties) q (underWay b q) (beginCall m q o k .answer)
-callRight z b hs m (stepFor q) = stepRight z b hs m q
-callRight z b hs m (withdrawFor q) = withdrawRight (z .parties) q (underWay b q) (isDecided (partyAt (m .parties) q)) (withdrawCall m q .answer)
+-- Whether a call is.
+unfoldable pub callRight : Root → Book → List Hold → List Hold → Memory → Call → Bool
+callRight z b hs ws m (beginFor q o k) = beginRight (z .parties) q (underWay b q) (beginCall m q o k .answer)
+callRight z b hs ws m (stepFor q) = stepRight z b hs ws m q
+callRight z b hs ws m (withdrawFor q) = withdrawRight (z .parties) q (underWay b q) (isDecided (partyAt (m .parties) q)) (withdrawCall m q .answer)
 
--- A requesting step is granted exactly where Table I permits it against the locks held, else it waits; no step of an operation under way is refused, and every other call as the table of refusals has it.
-unfoldable pub grantsRight : Root → Book → List Hold → Memory → List Call → Bool
-grantsRight z b hs m [] = true
-grantsRight z b hs m (c ∷ cs) = callRight z b hs m c && grantsRight z (bookAfterCall b m c) (holdsAfter z hs m c) (afterCall m c) cs
+-- A requesting step is granted exactly where Table I permits it against the locks held and no earlier waiting request
+-- conflicts, else it waits; no step of an operation under way is refused, and every other call as the table of refusals
+-- has it.
+unfoldable pub grantsRight : Root → Book → List Hold → List Hold → Memory → List Call → Bool
+grantsRight z b hs ws m [] = true
+grantsRight z b hs ws m (c ∷ cs) =
+    callRight z b hs ws m c && grantsRight z (bookAfterCall b m c) (holdsAfter z hs m c) (waitsAfter z ws m c) (afterCall m c) cs

@@ -1,6 +1,6 @@
 -- How steps request locks and give them up (document 01, "Addresses and locks" and the steps), and the locks that several steps name.
 -- Main definitions: modeOf (the mode in which an operation locks its chain); request (the one path of all requesting steps); heldAll, givenUp and release.
-use mathlib.Core.Bool.{Bool, true, cond, _&&_}
+use mathlib.Core.Bool.{Bool, true, cond, not, _&&_}
 use mathlib.Core.List.{List, [], _∷_}
 use Prim.Native.Nat.{ℕ}
 use lib.Dec.{eqb}
@@ -50,9 +50,10 @@ otherExclusive p = claim (chainWord (p .other)) Exclusive
 abbrev pub lockWord : View → ℕ → ℕ
 lockWord v i = getD (v .locks) i 0
 
--- Whether a request is granted: Table I against the lock word as it stands.
+-- Whether a request is granted: Table I against the lock word as it stands, and no conflicting request that waits came
+-- before it.
 unfoldable pub isGranted : View → Claim → Bool
-isGranted v c = permits (lockWord v (c .word)) (c .mode)
+isGranted v c = permits (lockWord v (c .word)) (c .mode) && not (v .behind)
 
 -- The memory with the lock held.
 unfoldable pub withHold : Claim → View → View

@@ -1,5 +1,5 @@
 -- The lent memory whole (document 01, "The lent memory"), and what format makes of it.
--- Main definitions: Memory, partyAt, viewOf, afterStep; formatted.
+-- Main definitions: Memory, partyAt, viewOf, afterStep, withWaiting; formatted.
 use mathlib.Core.Bool.{cond}
 use mathlib.Core.List.{List, [], _++_}
 use Prim.Native.Nat.{ℕ, zero, suc, _+_, _*_}
@@ -11,13 +11,15 @@ use Rattle.model.specs.Sizes.{pageWords, lockWords}
 use Rattle.model.specs.Records.{idle, withFreeList}
 use Rattle.model.specs.Pages.{freePage, linkTo}
 use Rattle.model.specs.Outcome.{View}
+use Rattle.model.specs.WaitingRow.{standsBehind}
 
--- The root record, the row of party records, the lock words and the page words.
+-- The root record, the row of party records, the lock words, the page words and the waiting row.
 pub record Memory : Type 0 where
   pub root : Root
   pub parties : List Party
   pub locks : List ℕ
   pub pages : List ℕ
+  pub waiting : List ℕ
 
 -- Party q's record; past the row's end, the zero record.
 abbrev pub partyAt : List Party → ℕ → Party
@@ -25,11 +27,15 @@ partyAt ps q = getD ps q idle
 
 -- The memory as party q's step is lent it.
 abbrev pub viewOf : Memory → ℕ → View
-viewOf m q = record { root = m .root; party = partyAt (m .parties) q; number = q; locks = m .locks; pages = m .pages }
+viewOf m q = record { root = m .root; party = partyAt (m .parties) q; number = q; locks = m .locks; pages = m .pages; behind = standsBehind (m .root) (m .parties) (m .waiting) q }
 
 -- The memory after a step of party q left this view.
 abbrev pub afterStep : Memory → View → Memory
-afterStep m v = record { root = v .root; parties = set (m .parties) (v .number) (v .party); locks = v .locks; pages = v .pages }
+afterStep m v = record { root = v .root; parties = set (m .parties) (v .number) (v .party); locks = v .locks; pages = v .pages; waiting = m .waiting }
+
+-- The memory with another waiting row.
+abbrev pub withWaiting : List ℕ → Memory → Memory
+withWaiting row m = record { root = m .root; parties = m .parties; locks = m .locks; pages = m .pages; waiting = row }
 
 -- ---- Format
 
@@ -51,4 +57,5 @@ formatted r = record {
   parties = replicate (r .parties) idle;
   locks = replicate (lockWords r) 0;
   pages = formattedPages r;
+  waiting = replicate (r .parties) 0;
 }

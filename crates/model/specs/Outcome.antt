@@ -16,18 +16,20 @@ pub record View : Type 0 where
   pub number : ℕ
   pub locks : List ℕ
   pub pages : List ℕ
+  -- Whether an earlier waiting request for the lock that it requests conflicts (change 7).
+  pub behind : Bool
 
 abbrev pub withRoot : Root → View → View
-withRoot r v = record { root = r; party = v .party; number = v .number; locks = v .locks; pages = v .pages }
+withRoot r v = record { root = r; party = v .party; number = v .number; locks = v .locks; pages = v .pages; behind = v .behind }
 
 abbrev pub withParty : Party → View → View
-withParty p v = record { root = v .root; party = p; number = v .number; locks = v .locks; pages = v .pages }
+withParty p v = record { root = v .root; party = p; number = v .number; locks = v .locks; pages = v .pages; behind = v .behind }
 
 abbrev pub withLocks : List ℕ → View → View
-withLocks ls v = record { root = v .root; party = v .party; number = v .number; locks = ls; pages = v .pages }
+withLocks ls v = record { root = v .root; party = v .party; number = v .number; locks = ls; pages = v .pages; behind = v .behind }
 
 abbrev pub withPages : List ℕ → View → View
-withPages ps v = record { root = v .root; party = v .party; number = v .number; locks = v .locks; pages = ps }
+withPages ps v = record { root = v .root; party = v .party; number = v .number; locks = v .locks; pages = ps; behind = v .behind }
 
 -- The answer, and what the memory then is.
 pub record Outcome : Type 0 where

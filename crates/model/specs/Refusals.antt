@@ -14,6 +14,7 @@ use Rattle.model.specs.Outcome.{damage}
 use Rattle.model.specs.Memory.{Memory, partyAt}
 use Rattle.model.specs.Steps.Dispatch.{hasStep}
 use Rattle.model.specs.Withdraw.{isDecided}
+use Rattle.model.specs.WaitingRow.{rowSound}
 
 -- One row of the table: whether its cause is met, and the number returned.
 pub record Row : Type 0 where
@@ -30,7 +31,7 @@ firstCause (x ∷ xs) = cond (x .met) (x .number) (firstCause xs)
 
 -- "a lent length other than Q records, P+1 lock words or 16 × (P+V+Q) page words".
 unfoldable pub lengthsFit : Root → Memory → Bool
-lengthsFit r m = eqb (length (m .parties)) (r .parties) && eqb (length (m .locks)) (lockWords r) && eqb (length (m .pages)) (allPageWords r)
+lengthsFit r m = eqb (length (m .parties)) (r .parties) && eqb (length (m .locks)) (lockWords r) && eqb (length (m .pages)) (allPageWords r) && eqb (length (m .waiting)) (r .parties)
 
 -- The table's numbers; that of a damaged number is `damage`.
 abbrev pub sizeRefusal : ℕ
@@ -94,6 +95,10 @@ recordSound r p = rootSound r && partySound r p
 abbrev pub damageRow : Root → Party → Row
 damageRow r p = row (not (recordSound r p)) damage
 
+-- The waiting row is damaged (document 02, change 7).
+abbrev pub waitingRow : Memory → Row
+waitingRow m = row (not (rowSound (m .root) (m .parties) (m .waiting))) damage
+
 -- ---- The rows of each call
 
 -- Format: the sizes given, and the lengths against them.
@@ -108,11 +113,11 @@ beginRows m q = sizeRow (m .root) ∷ (lengthRow (m .root) m ∷ (partyRow (m .r
 unfoldable pub stepRows : Memory → ℕ → List Row
 stepRows m q =
     sizeRow (m .root)
-    ∷ (lengthRow (m .root) m ∷ (partyRow (m .root) q ∷ (idleRow (partyAt (m .parties) q) ∷ (damageRow (m .root) (partyAt (m .parties) q) ∷ []))))
+    ∷ (lengthRow (m .root) m ∷ (partyRow (m .root) q ∷ (idleRow (partyAt (m .parties) q) ∷ (damageRow (m .root) (partyAt (m .parties) q) ∷ (waitingRow m ∷ [])))))
 
 -- Withdraw, for party q: 7 is "tested after 5 (the party is idle) and before 6"; the tests of damage that go by the step number are its own.
 unfoldable pub withdrawRows : Memory → ℕ → List Row
 withdrawRows m q =
     sizeRow (m .root)
     ∷ (lengthRow (m .root) m ∷ (partyRow (m .root) q
-    ∷ (idleRow (partyAt (m .parties) q) ∷ (decidedRow (partyAt (m .parties) q) ∷ (damageRow (m .root) (partyAt (m .parties) q) ∷ [])))))
+    ∷ (idleRow (partyAt (m .parties) q) ∷ (decidedRow (partyAt (m .parties) q) ∷ (damageRow (m .root) (partyAt (m .parties) q) ∷ (waitingRow m ∷ []))))))

@@ -1,7 +1,7 @@
 -- Take-up (document 02, change 6): "Take-up tests a saved file."
 -- Main definitions: the conditions by name, each a test over the memory: partiesRest, locksClear, scratchClear,
--- rootSound, chainsSaved, beyondClear, freeSaved, pagesOnce; isSaved (all of them), takeUpRows and takeUpCall;
--- recordsSaved (the records of a file, keys ascending) and savedBook (the book at the start).
+-- rootSound, chainsSaved, beyondClear, freeSaved, pagesOnce, rowClear; isSaved (all of them), takeUpRows and
+-- takeUpCall; recordsSaved (the records of a file, keys ascending) and savedBook (the book at the start).
 use mathlib.Core.Bool.{Bool, true, false, cond, not, _&&_, _||_}
 use mathlib.Core.List.{List, [], _∷_, _++_}
 use mathlib.Core.Option.{none}
@@ -24,6 +24,7 @@ use Rattle.model.specs.Refusals.{Row, row, firstCause, sizeRow, lengthRo
 use Rattle.model.specs.Calls.{Called, called}
 use Rattle.model.specs.PagePlaces.{count, freeList, chainedFrom}
 use Rattle.model.specs.Book.{Book}
+use Rattle.model.specs.WaitingRow.{allZero}
 
 -- ---- Words
 
@@ -33,11 +34,6 @@ sameWords [] [] = true
 sameWords [] (y ∷ ys) = false
 sameWords (x ∷ xs) [] = false
 sameWords (x ∷ xs) (y ∷ ys) = eqb x y && sameWords xs ys
-
--- Whether every word is zero, in all its bits.
-unfoldable pub allZero : List ℕ → Bool
-allZero [] = true
-allZero (w ∷ ws) = eqb w 0 && allZero ws
 
 -- Whether each of the n pages from page x on is zero.
 unfoldable pub zeroPages : List ℕ → ℕ → ℕ → Bool
@@ -135,12 +131,16 @@ eachOnce xs (suc v) x = eqb (count x xs) 1 && eachOnce xs v (x + 1)
 unfoldable pub pagesOnce : Memory → Bool
 pagesOnce m = eachOnce (freeList m ++ chainedFrom m (countOfChains (m .root)) 0) (m .root .overflow) (m .root .primaries)
 
+-- "take-up wants it zero" (change 7): the waiting row.
+unfoldable pub rowClear : Memory → Bool
+rowClear m = allZero (m .waiting)
+
 -- ---- The whole test
 
 -- Every condition of take-up.
 unfoldable pub isSaved : Memory → Bool
 isSaved m =
-    partiesRest m && locksClear m && scratchClear m && rootSound (m .root) && chainsSaved m && beyondClear m && freeSaved m && pagesOnce m
+    partiesRest m && locksClear m && scratchClear m && rootSound (m .root) && chainsSaved m && beyondClear m && freeSaved m && pagesOnce m && rowClear m
 
 -- ---- The call
 

@@ -5,6 +5,7 @@
 // table's order, 0 for none. proofs/Accepted.antt: what holds once there is none.
 
 ghost use mathlib.Core.Path.{_≡_};
+ghost use mathlib.Core.Bool.{true};
 ghost use Prim.Native.Nat.{_^_, _≤_, _<_};
 ghost use Rattle.model.specs.Sizes.{withinLimits};
 ghost use Rattle.model.specs.Addresses as Addresses;
@@ -65,9 +66,9 @@ pub fn within_limits(root: Root) -> bool
     root.capacity <= MOST_RECORDS
 }
 
-// "Q records, P+1 lock words or 16 × (P+V+Q) page words".
-pub fn lengths_fit(root: Root, parties: usize, locks: usize, pages: usize) -> bool
-    ensures { λ r. ⌜ r ≡ lengthsAre root parties locks pages ⌝ }
+// "Q records, P+1 lock words or 16 × (P+V+Q) page words"; document 02, change 7: a waiting row of Q words.
+pub fn lengths_fit(root: Root, parties: usize, locks: usize, pages: usize, waiting: usize) -> bool
+    ensures { λ r. ⌜ r ≡ lengthsAre root parties locks pages waiting ⌝ }
 {
     let p = root.primaries as usize;
     let v = root.overflow as usize;
@@ -78,7 +79,10 @@ pub fn lengths_fit(root: Root, parties: usize, locks: usize, pages: usize) -> bo
     if locks != p + 1 {
         return false;
     }
-    pages == PAGE_WORDS * (p + v + q)
+    if pages != PAGE_WORDS * (p + v + q) {
+        return false;
+    }
+    waiting == q
 }
 
 // N × 2^level.
@@ -153,31 +157,44 @@ pub fn party_sound(root: Root, party: Party) -> bool
 }
 
 // The rows that every call has: sizes, then lengths.
-fn file_cause(root: Root, parties: usize, locks: usize, pages: usize) -> u32
-    ensures { λ r. ⌜ r ≡ formatCause root parties locks pages ⌝ }
+fn file_cause(root: Root, parties: usize, locks: usize, pages: usize, waiting: usize) -> u32
+    ensures { λ r. ⌜ r ≡ formatCause root parties locks pages waiting ⌝ }
 {
     if !within_limits(root) {
         return SIZE_REFUSED;
     }
-    if !lengths_fit(root, parties, locks, pages) {
+    if !lengths_fit(root, parties, locks, pages, waiting) {
         return LENGTH_REFUSED;
     }
     NO_CAUSE
 }
 
 // Format with these sizes: the root record that stood there is not read.
-pub fn format_cause(sizes: FileSizes, parties: usize, locks: usize, pages: usize) -> u32
-    ensures { λ r. ⌜ r ≡ formatCause (rootSized sizes) parties locks pages ⌝ }
+pub fn format_cause(
+    sizes: FileSizes,
+    parties: usize,
+    locks: usize,
+    pages: usize,
+    waiting: usize,
+) -> u32
+    ensures { λ r. ⌜ r ≡ formatCause (rootSized sizes) parties locks pages waiting ⌝ }
 {
     let root = records::root_of_sizes(sizes);
-    file_cause(root, parties, locks, pages)
+    file_cause(root, parties, locks, pages, waiting)
 }
 
 // The rows that begin, step and withdraw share, for party q: no party's record is looked at.
-pub fn place_cause(root: Root, parties: usize, locks: usize, pages: usize, q: u32) -> u32
-    ensures { λ r. ⌜ r ≡ placeCause root parties locks pages q ⌝ }
+pub fn place_cause(
+    root: Root,
+    parties: usize,
+    locks: usize,
+    pages: usize,
+    waiting: usize,
+    q: u32,
+) -> u32
+    ensures { λ r. ⌜ r ≡ placeCause root parties locks pages waiting q ⌝ }
 {
-    let file = file_cause(root, parties, locks, pages);
+    let file = file_cause(root, parties, locks, pages, waiting);
     if file != NO_CAUSE {
         return file;
     }
@@ -194,11 +211,12 @@ pub fn begin_cause(
     parties: usize,
     locks: usize,
     pages: usize,
+    waiting: usize,
     q: u32,
 ) -> u32
-    ensures { λ r. ⌜ r ≡ beginCause root party parties locks pages q ⌝ }
+    ensures { λ r. ⌜ r ≡ beginCause root party parties locks pages waiting q ⌝ }
 {
-    let place = place_cause(root, parties, locks, pages, q);
+    let place = place_cause(root, parties, locks, pages, waiting, q);
     if place != NO_CAUSE {
         return place;
     }
@@ -208,18 +226,20 @@ pub fn begin_cause(
     NO_CAUSE
 }
 
-// Step for party q, whose record is `party`; the tests of damage that go by the step number are the step's own.
+// Step for party q, whose record is `party`, over a waiting row that is sound: the row's own test is the last, and is
+// the caller's. The tests of damage that go by the step number are the step's own.
 pub fn step_cause(
     root: Root,
     party: Party,
     parties: usize,
     locks: usize,
     pages: usize,
+    waiting: usize,
     q: u32,
 ) -> u32
-    ensures { λ r. ⌜ r ≡ stepCause root party parties locks pages q ⌝ }
+    ensures { λ r. ⌜ r ≡ stepCause root party parties locks pages waiting q true ⌝ }
 {
-    let place = place_cause(root, parties, locks, pages, q);
+    let place = place_cause(root, parties, locks, pages, waiting, q);
     if place != NO_CAUSE {
         return place;
     }
@@ -245,18 +265,20 @@ pub fn is_decided(party: Party) -> bool
     (find & (party.step == 9)) | (change & (12 <= party.step))
 }
 
-// Withdraw for party q, whose record is `party`: 7 is "tested after 5 (the party is idle) and before 6".
+// Withdraw for party q, whose record is `party`, with a waiting row that is `sound` or not: 7 is "tested after 5 (the party is idle) and before 6".
 pub fn withdraw_cause(
     root: Root,
     party: Party,
     parties: usize,
     locks: usize,
     pages: usize,
+    waiting: usize,
     q: u32,
+    sound: bool,
 ) -> u32
-    ensures { λ r. ⌜ r ≡ withdrawCause root party parties locks pages q ⌝ }
+    ensures { λ r. ⌜ r ≡ withdrawCause root party parties locks pages waiting q sound ⌝ }
 {
-    let place = place_cause(root, parties, locks, pages, q);
+    let place = place_cause(root, parties, locks, pages, waiting, q);
     if place != NO_CAUSE {
         return place;
     }
@@ -272,14 +294,24 @@ pub fn withdraw_cause(
     if !party_sound(root, party) {
         return DAMAGE;
     }
+    if !sound {
+        return DAMAGE;
+    }
     NO_CAUSE
 }
 
 // Take-up, by whether the file is saved: 8 is "tested after 2 and 1".
-pub fn take_up_cause(root: Root, saved: bool, parties: usize, locks: usize, pages: usize) -> u32
-    ensures { λ r. ⌜ r ≡ takeUpCause root saved parties locks pages ⌝ }
+pub fn take_up_cause(
+    root: Root,
+    saved: bool,
+    parties: usize,
+    locks: usize,
+    pages: usize,
+    waiting: usize,
+) -> u32
+    ensures { λ r. ⌜ r ≡ takeUpCause root saved parties locks pages waiting ⌝ }
 {
-    let file = file_cause(root, parties, locks, pages);
+    let file = file_cause(root, parties, locks, pages, waiting);
     if file != NO_CAUSE {
         return file;
     }

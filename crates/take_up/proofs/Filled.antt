@@ -15,7 +15,7 @@ use Rattle.model.specs.Sizes.{pageWords, mostRecords, recordWords}
 use Rattle.model.specs.Pages.{pageOf, levelOf, countOf, linkOf, recordsIn, entriesOf, wordsOf, filledPage, linkToFirst, pageSound, primaryPage}
 use Rattle.model.specs.Chains.{entriesOn}
 use Rattle.model.specs.Filling.{primaryOf}
-use Rattle.model.specs.TakeUp.{allZero}
+use Rattle.model.specs.WaitingRow.{allZero}
 use Rattle.model.proofs.Laws.Lists.{and-both, both-and, eqb-true, eqb-same, eqb-diff, leb-true, le-leb, All}
 use Rattle.model.proofs.Laws.Tests.{sound-page-counts}
 use Rattle.model.proofs.Laws.RecordWords.{records-take, words-back}

@@ -14,7 +14,8 @@ use Rattle.model.specs.Pages.{scratchPage}
 use Rattle.model.specs.FreeList.{pagesTaken}
 use Rattle.model.specs.Memory.{Memory}
 use Rattle.model.specs.Refusals.{rootSound}
-use Rattle.model.specs.TakeUp.{allZero, zeroPages, isZeroRecord, allIdle, partiesRest, locksClear, scratchClear, chainsFit, chainsSaved, beyondClear, freeIfSound, freeSaved, pagesOnce, isSaved}
+use Rattle.model.specs.WaitingRow.{allZero}
+use Rattle.model.specs.TakeUp.{zeroPages, isZeroRecord, allIdle, partiesRest, locksClear, scratchClear, chainsFit, chainsSaved, beyondClear, freeIfSound, freeSaved, pagesOnce, rowClear, isSaved}
 use Rattle.model.proofs.Laws.Lists.{Told, holds, fails, tell, and-both, both-and, left-fails, right-fails}
 use Rattle.take_up.specs.Seen.{pagesCounted, atRest, CanSurvey}
 use Rattle.take_up.proofs.Records.{same-test}
@@ -26,6 +27,11 @@ unfolding allIdle isZeroRecord allZero
 all-rest zero = refl
 all-rest (suc q) = all-rest q
 
+row-rests : (q : ℕ) → allZero (replicate q 0) ≡ true
+unfolding allZero
+row-rests zero = refl
+row-rests (suc q) = row-rests q
+
 module _ (r : Root) (ls ps : List ℕ) where
   abbrev m : Memory
   m = atRest r ls ps
@@ -35,23 +41,23 @@ module _ (r : Root) (ls ps : List ℕ) where
 
   pub locks-fail : allZero ls ≡ false → false ≡ isSaved m
   unfolding isSaved locksClear
-  locks-fail e = sym (left-fails _ (left-fails _ (left-fails _ (left-fails _ (left-fails _ (left-fails _ (right-fails (partiesRest m) e)))))))
+  locks-fail e = sym (left-fails _ (left-fails _ (left-fails _ (left-fails _ (left-fails _ (left-fails _ (left-fails _ (right-fails (partiesRest m) e))))))))
 
   pub scratch-fails : zeroPages ps (r .parties) (scratchPage r 0) ≡ false → false ≡ isSaved m
   unfolding isSaved scratchClear
-  scratch-fails e = sym (left-fails _ (left-fails _ (left-fails _ (left-fails _ (left-fails _ (right-fails (partiesRest m && locksClear m) e))))))
+  scratch-fails e = sym (left-fails _ (left-fails _ (left-fails _ (left-fails _ (left-fails _ (left-fails _ (right-fails (partiesRest m && locksClear m) e)))))))
 
   pub root-fails : rootSound r ≡ false → false ≡ isSaved m
   unfolding isSaved
-  root-fails e = sym (left-fails _ (left-fails _ (left-fails _ (left-fails _ (right-fails (partiesRest m && locksClear m && scratchClear m) e)))))
+  root-fails e = sym (left-fails _ (left-fails _ (left-fails _ (left-fails _ (left-fails _ (right-fails (partiesRest m && locksClear m && scratchClear m) e))))))
 
   pub chains-fail : chainsFit r ps n 0 ≡ false → false ≡ isSaved m
   unfolding isSaved chainsSaved
-  chains-fail e = sym (left-fails _ (left-fails _ (left-fails _ (right-fails (partiesRest m && locksClear m && scratchClear m && rootSound r) e))))
+  chains-fail e = sym (left-fails _ (left-fails _ (left-fails _ (left-fails _ (right-fails (partiesRest m && locksClear m && scratchClear m && rootSound r) e)))))
 
   pub beyond-fails : zeroPages ps (r .primaries - n) n ≡ false → false ≡ isSaved m
   unfolding isSaved beyondClear
-  beyond-fails e = sym (left-fails _ (left-fails _ (right-fails (partiesRest m && locksClear m && scratchClear m && rootSound r && chainsSaved m) e)))
+  beyond-fails e = sym (left-fails _ (left-fails _ (left-fails _ (right-fails (partiesRest m && locksClear m && scratchClear m && rootSound r && chainsSaved m) e))))
 
   abbrev before : Bool
   before = partiesRest m && locksClear m && scratchClear m && rootSound r && chainsSaved m && beyondClear m
@@ -62,15 +68,19 @@ module _ (r : Root) (ls ps : List ℕ) where
     count-fails e = go (tell (freeIfSound ps (pagesTaken r ps (r .free))))
       where
         go : Told (freeIfSound ps (pagesTaken r ps (r .free))) → false ≡ isSaved m
-        go (holds t) = sym (right-fails (before && freeSaved m) (sym (counted-once r ls ps (facts r ps can) chains t) ∙ e))
-        go (fails t) = sym (left-fails _ (right-fails before t))
+        go (holds t) = sym (left-fails _ (right-fails (before && freeSaved m) (sym (counted-once r ls ps (facts r ps can) chains t) ∙ e)))
+        go (fails t) = sym (left-fails _ (left-fails _ (right-fails before t)))
 
     pub free-decides : allZero ls ≡ true → zeroPages ps (r .parties) (scratchPage r 0) ≡ true → zeroPages ps (r .primaries - n) n ≡ true
         → eqb (pagesCounted r ps n 0 + r .free) (r .overflow) ≡ true → freeIfSound ps (pagesTaken r ps (r .free)) ≡ isSaved m
-    unfolding isSaved partiesRest locksClear scratchClear chainsSaved beyondClear freeSaved pagesOnce
+    unfolding isSaved partiesRest locksClear scratchClear chainsSaved beyondClear freeSaved pagesOnce rowClear
     free-decides locks scratch beyond counts =
         same-test (freeIfSound ps (pagesTaken r ps (r .free))) (isSaved m)
         (λ t.
-        both-and (both-and (both-and (both-and (both-and (both-and (both-and (all-rest (r .parties)) locks) scratch) (can .root-sound)) chains) beyond) t)
+        both-and
+        (both-and (both-and (both-and (both-and (both-and (both-and (both-and (all-rest (r .parties)) locks) scratch) (can .root-sound)) chains) beyond) t)
         (sym (counted-once r ls ps (facts r ps can) chains t) ∙ counts))
-        (λ t. and-both before (freeSaved m) (and-both (before && freeSaved m) (pagesOnce m) t .0) .1)
+        (row-rests (r .parties)))
+        (λ t.
+        and-both before (freeSaved m)
+        (and-both (before && freeSaved m) (pagesOnce m) (and-both (before && freeSaved m && pagesOnce m) (rowClear m) t .0) .0) .1)

@@ -10,7 +10,8 @@ use lib.Seq.{drop-cons, take-add, drop-drop}
 use lib.Dec.{eqb}
 use Rattle.model.specs.Sizes.{pageWords}
 use Rattle.model.specs.Pages.{pageOf, linkOf, wordsOf, filledPage, freePage, zeroPage}
-use Rattle.model.specs.TakeUp.{allZero, sameWords, zeroPages, allFree}
+use Rattle.model.specs.WaitingRow.{allZero}
+use Rattle.model.specs.TakeUp.{sameWords, zeroPages, allFree}
 use Rattle.model.proofs.Laws.Lists.{eqb-same}
 use Rattle.model.proofs.Laws.Pages.{Has, length-pageOf}
 use Rattle.chains.specs.Links.{linkedPages}

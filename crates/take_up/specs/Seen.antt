@@ -18,7 +18,8 @@ use Rattle.model.specs.Pages.{pageOf, levelOf, countOf, linkOf, entriesOf}
 use Rattle.model.specs.Chains.{chainOf, pagesIn}
 use Rattle.model.specs.Memory.{Memory}
 use Rattle.model.specs.Refusals.{rootSound}
-use Rattle.model.specs.TakeUp.{allZero, fitsIfSound, chainsFit}
+use Rattle.model.specs.WaitingRow.{allZero}
+use Rattle.model.specs.TakeUp.{fitsIfSound, chainsFit}
 use Rattle.chains.specs.Links.{linkedPages}
 use Rattle.chains.specs.declared.Walked.{Walked}
 use Rattle.chains.specs.declared.Walked.the-variants as Walked
@@ -97,9 +98,15 @@ chainsSaved r ps n c = cond (chainsFit r ps n c) (Walked.Pages (pagesCounted r p
 
 -- ---- The file
 
--- The file of this root and these words, with a row of zero records.
+-- The file of this root and these words, with a row of zero records and a waiting row of zeros.
 abbrev pub atRest : Root → List ℕ → List ℕ → Memory
-atRest r ls ps = record { root = r; parties = replicate (r .parties) idle; locks = ls; pages = ps }
+atRest r ls ps = record {
+  root = r;
+  parties = replicate (r .parties) idle;
+  locks = ls;
+  pages = ps;
+  waiting = replicate (r .parties) 0;
+}
 
 pub record CanSurvey (r : Root) (ps : List ℕ) : Type 0 where
   pub sizes-fit : withinLimits r ≡ true

@@ -12,7 +12,8 @@ ghost use Rattle.model.specs.Sizes.{pageWords, mostRecords, withinLimits, lockW
 ghost use Rattle.model.specs.Addresses.{countOfChains};
 ghost use Rattle.model.specs.Pages.{pageOf, countOf, linkOf, entriesOf, freePage};
 ghost use Rattle.model.specs.FreeList.{pagesTaken};
-ghost use Rattle.model.specs.TakeUp.{allZero, sameWords, zeroPages, levelAt, allFree, freeIfSound, isSaved};
+ghost use Rattle.model.specs.WaitingRow.{allZero};
+ghost use Rattle.model.specs.TakeUp.{sameWords, zeroPages, levelAt, allFree, freeIfSound, isSaved};
 ghost use Rattle.addresses.specs.Fits.{RootFits};
 ghost use Rattle.chains.specs.Links.{linkedPages, LeadsOn};
 ghost use Rattle.chain_keys.specs.Gathering.{Followed};

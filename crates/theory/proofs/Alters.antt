@@ -6,13 +6,13 @@
 -- nothing-altered, performed-alters, waits-for-lock, begin-alters (all memory); step-alters (under the invariant,
 -- which the scratch page of a 9 needs); run-alters, never-damaged (after every list of calls from formatted memory).
 use mathlib.Core.Path.{_≡_, refl, sym, ap, _∙_, subst}
-use mathlib.Core.Logic.{_≢_}
+use mathlib.Core.Logic.{_≢_, _⊎_, inl, inr}
 use mathlib.Core.Bool.{true, false, not, false≢true}
 use mathlib.Core.List.{List, [], _∷_}
 use mathlib.Core.Option.{Option, none, some}
 use Prim.Native.Nat.{ℕ, _+_, _≤_, _<_}
 use native.Mathlib.Omega.{arith}
-use lib.ListN.{length, set, length-set}
+use lib.ListN.{length, set, length-set, getD}
 use lib.Seq.{set-getD}
 use lib.Dec.{eqb}
 use Rattle.model.specs.declared.Party.{Party}
@@ -24,21 +24,21 @@ use Rattle.model.specs.declared.BeginAnswer.the-variants as BeginAnswer
 use Rattle.model.specs.Sizes.{pageWords}
 use Rattle.model.specs.Records.{idle, begun}
 use Rattle.model.specs.Answers.{operationNumber, performs, settingGiven}
-use Rattle.model.specs.LockWords.{Claim}
+use Rattle.model.specs.LockWords.{Claim, permits}
 use Rattle.model.specs.Pages.{pageOf, withPage, linkOf, linkToFirst, scratchPage, linkedPage}
 use Rattle.model.specs.Chains.{sound}
 use Rattle.model.specs.Outcome.{View, Outcome, moved}
 use Rattle.model.specs.ScratchPages.{scratchOf}
 use Rattle.model.specs.LockRequests.{isGranted}
 use Rattle.model.specs.Steps.Dispatch.{stepOf, wants, nextTable}
-use Rattle.model.specs.Memory.{Memory, partyAt, viewOf, afterStep}
+use Rattle.model.specs.Memory.{Memory, partyAt, viewOf, afterStep, withWaiting}
 use Rattle.model.specs.Refusals.{firstCause, lengthsFit, beginRows, stepRows}
-use Rattle.model.specs.Calls.{Called, called, withBegun, beginCall, stepped, stepCall}
+use Rattle.model.specs.Calls.{Called, called, withBegun, beginCall, stepped, stepCall, calledBy}
 use Rattle.model.specs.Runs.{Call, replyTo}
 use Rattle.model.specs.Book.{Book}
-use Rattle.model.specs.Effects.{scratchLink, AltersRecord, AltersScratch, AltersOwn, own-record, own-scratch, StepAlters, WaitsForLock, Begins, BeginAlters}
+use Rattle.model.specs.Effects.{scratchLink, AltersRecord, AltersScratch, AltersOwn, own-record, own-scratch, StepAlters, WaitsForLock, Begins, BeginAlters, QuietAlters}
 use Rattle.theory.specs.Demands.{Start, Reached, bookReached}
-use Rattle.model.proofs.Laws.Lists.{Cmp, same, diff, cmp, All, and-both, eqb-true, eqb-same, eqb-false, leb-false, not-true, not-false, among-first}
+use Rattle.model.proofs.Laws.Lists.{Cmp, same, diff, cmp, All, and-both, eqb-true, eqb-same, eqb-false, leb-false, not-true, not-false, among-first, and-fails, cond-true}
 use Rattle.model.proofs.Laws.Booleans.{and-left, and-right}
 use Rattle.model.proofs.Laws.Pages.{page-same, length-pageOf}
 use Rattle.model.proofs.Theorems.RefusalOrder.{begin-refused, begin-accepted, step-refused, step-accepted}
@@ -56,6 +56,8 @@ use Rattle.model.proofs.Theorems.AllSteps.{steps-kept}
 use Rattle.theory.proofs.Reached.{reached-inv}
 use Rattle.model.proofs.Exits.Statement.{isOther, every-next, copiedOn, Kept, Exit, refusing, waiting, taking, moving, looking, ending}
 use Rattle.model.proofs.Exits.{step-exits}
+use Rattle.model.specs.FreeList.{isAmong}
+use Rattle.model.specs.WaitingRow.{appended, rowAfter, rowWith, standsBehind}
 
 -- ---- What an outcome leaves of the view that it met
 
@@ -119,27 +121,30 @@ module _ (m : Memory) (q : ℕ) where
 
   -- A call that leaves the view leaves the memory.
   same-memory : (v : View) → v ≡ view → afterStep m v ≡ m
-  same-memory v e = ap (afterStep m) e ∙ ap (λ (ps : List Party). record { root = m .root; parties = ps; locks = m .locks; pages = m .pages }) (set-getD (m .parties) q idle)
+  same-memory v e = ap (afterStep m) e ∙ ap (λ (ps : List Party). record { root = m .root; parties = ps; locks = m .locks; pages = m .pages; waiting = m .waiting }) (set-getD (m .parties) q idle)
 
-  -- "waiting (no word changes)"; a refused call leaves all lent memory.
-  pub nothing-altered : performs (stepCall m q .answer) ≡ false → stepCall m q .memory ≡ m
-  unfolding stepped performs
+  -- A call that waits leaves all but the waiting row; a refused call leaves all lent memory.
+  pub nothing-altered : performs (stepCall m q .answer) ≡ false → stepCall m q .memory ≡ withWaiting (rowAfter q (m .waiting) (stepCall m q .answer)) m
+  unfolding stepped performs rowAfter
   nothing-altered n = go (tested m q)
     where
-      by-effect : stepCall m q ≡ stepped m q → Effect view number (stepOf number view) → stepCall m q .memory ≡ m
-      by-effect e (stays p s) = ap (λ (c : Called StepAnswer). c .memory) e ∙ same-memory (stepOf number view .after) s
+      by-effect : stepCall m q ≡ stepped m q → Effect view number (stepOf number view) → stepCall m q .memory ≡ withWaiting (rowAfter q (m .waiting) (stepCall m q .answer)) m
+      by-effect e (stays p s) =
+          ap (λ (c : Called StepAnswer). c .memory) e
+          ∙ ap (withWaiting (rowAfter q (m .waiting) (stepOf number view .answer))) (same-memory (stepOf number view .after) s)
+          ∙ ap (λ (c : Called StepAnswer). withWaiting (rowAfter q (m .waiting) (c .answer)) m) (sym e)
       by-effect e (goes p _ _) = absurd (false≢true (sym n ∙ ap (λ (c : Called StepAnswer). performs (c .answer)) e ∙ p))
       by-effect e (looks _ _ o) =
           absurd (false≢true (sym n ∙ ap (λ (c : Called StepAnswer). performs (c .answer)) e ∙ ap (λ (x : Outcome). performs (x .answer)) o))
 
-      go : Tested m q → stepCall m q .memory ≡ m
-      go (turned-away c e) = ap (λ (c : Called StepAnswer). c .memory) e
+      go : Tested m q → stepCall m q .memory ≡ withWaiting (rowAfter q (m .waiting) (stepCall m q .answer)) m
+      go (turned-away c e) = ap (λ (c : Called StepAnswer). c .memory) e ∙ ap (λ (c : Called StepAnswer). withWaiting (rowAfter q (m .waiting) (c .answer)) m) (sym e)
       go (let-through _ e) = by-effect e (step-effect number view)
 
   -- Moved or done: the record's step number is another, or the call is a 9 that copies the next page.
   pub data Performed : Type 0 where
     went : AltersRecord m q → Performed
-    looked : q < m .root .parties → number ≡ 9 → linkOf (scratchOf view) ≢ 0 → stepCall m q ≡ called StepAnswer.Moved (afterStep m (copiedOn view)) → Performed
+    looked : q < m .root .parties → number ≡ 9 → linkOf (scratchOf view) ≢ 0 → stepCall m q ≡ calledBy m q (moved (copiedOn view)) → Performed
 
   pub performed-alters : performs (stepCall m q .answer) ≡ true → Performed
   unfolding stepped performs
@@ -157,7 +162,7 @@ module _ (m : Memory) (q : ℕ) where
             another-step = λ s.
                 n (sym (ap (λ (p : Party). p .step) (record-then z (stepOf number view .after) k)) ∙ ap (λ (c : Called StepAnswer). partyAt (c .memory .parties) q .step) (sym e) ∙ s);
           })
-      by-effect z e (looks k l o) = looked (ready m q z .number-fits) k l (e ∙ ap (λ (x : Outcome). called (x .answer) (afterStep m (x .after))) o)
+      by-effect z e (looks k l o) = looked (ready m q z .number-fits) k l (e ∙ ap (calledBy m q) o)
 
       go : Tested m q → Performed
       go (turned-away c e) = absurd (false≢true (sym (ap (λ (c : Called StepAnswer). performs (c .answer)) e) ∙ y))
@@ -198,7 +203,7 @@ module _ (m : Memory) (b : Book) (i : Inv m b) (q : ℕ) (in-row : q < m .root .
   copied-differs (x ∷ xs) e s =
       first-differs x xs (subst (λ (ys : List ℕ). count x ys ≤ 1) e (walk .once x)) (sym (link-then x xs e) ∙ s ∙ walk .link ∙ ap linkToFirst e)
 
-  scratch-altered : stepCall m q ≡ called StepAnswer.Moved (afterStep m (copiedOn (viewOf m q))) → AltersScratch m q
+  scratch-altered : stepCall m q ≡ calledBy m q (moved (copiedOn (viewOf m q))) → AltersScratch m q
   scratch-altered e = record {
     at-nine = is-nine;
     moves = ap (λ (c : Called StepAnswer). c .answer) e;
@@ -210,9 +215,14 @@ module _ (m : Memory) (b : Book) (i : Inv m b) (q : ℕ) (in-row : q < m .root .
 
 -- A fair answer that waits goes with a lock that is wanted and not granted.
 forbidden-lock : (m : Memory) (q : ℕ) (w : Option Claim) → wants (m .root) (partyAt (m .parties) q) ≡ w → fairly (viewOf m q) w StepAnswer.Waiting ≡ true → WaitsForLock m q
-unfolding fairly unasked asked
+unfolding fairly unasked asked isGranted
 forbidden-lock m q none e f = absurd (false≢true f)
-forbidden-lock m q (some c) e f = record { lock = c; wanted = e; forbidden = not-true (isGranted (viewOf m q) c) f }
+forbidden-lock m q (some c) e f = record { lock = c; wanted = e; forbidden = go (and-fails (permits (getD (m .locks) (c .word) 0) (c .mode)) (not (viewOf m q .behind)) (not-true (isGranted (viewOf m q) c) f)) }
+  where
+    go : (permits (getD (m .locks) (c .word) 0) (c .mode) ≡ false) ⊎ (not (viewOf m q .behind) ≡ false)
+        → (permits (getD (m .locks) (c .word) 0) (c .mode) ≡ false) ⊎ (standsBehind (m .root) (m .parties) (m .waiting) q ≡ true)
+    go (inl h) = inl h
+    go (inr h) = inr (not-false (viewOf m q .behind) h)
 
 pub waits-for-lock : (m : Memory) (q : ℕ) → stepCall m q .answer ≡ StepAnswer.Waiting → WaitsForLock m q
 unfolding stepped
@@ -251,6 +261,7 @@ module _ (m : Memory) (q : ℕ) (o : Operation) (k : ℕ) where
         root = ap (λ (c : Called BeginAnswer). c .memory .root) e;
         locks = ap (λ (c : Called BeginAnswer). c .memory .locks) e;
         pages = ap (λ (c : Called BeginAnswer). c .memory .pages) e;
+        waiting = ap (λ (c : Called BeginAnswer). c .memory .waiting) e;
         memory = ap (λ (c : Called BeginAnswer). c .memory) e;
       }
 
@@ -270,8 +281,20 @@ module _ (m : Memory) (q : ℕ) (o : Operation) (k : ℕ) where
 
 -- ---- Every reachable memory
 
+-- On all memory: a call that waits alters the row alone, and nothing where the party is in it; a refused call nothing.
+pub quiet-alters : (m : Memory) (q : ℕ) → QuietAlters m q
+unfolding performs rowAfter rowWith
+quiet-alters m q = record {
+  waits = waits-row;
+  waits-again = λ e h. waits-row e ∙ ap (λ (row : List ℕ). withWaiting row m) (cond-true (isAmong (q + 1) (m .waiting)) (m .waiting) (appended (q + 1) (m .waiting)) h);
+  refused = λ n e. nothing-altered m q (ap performs e) ∙ ap (λ (a : StepAnswer). withWaiting (rowAfter q (m .waiting) a) m) e;
+}
+  where
+    waits-row : stepCall m q .answer ≡ StepAnswer.Waiting → stepCall m q .memory ≡ withWaiting (rowWith q (m .waiting)) m
+    waits-row e = nothing-altered m q (ap performs e) ∙ ap (λ (a : StepAnswer). withWaiting (rowAfter q (m .waiting) a) m) e
+
 pub step-alters : (m : Memory) (b : Book) → Inv m b → (q : ℕ) → StepAlters m q
-step-alters m b i q = record { performed = λ y. go (performed-alters m q y); otherwise = nothing-altered m q }
+step-alters m b i q = record { performed = λ y. go (performed-alters m q y); otherwise = quiet-alters m q }
   where
     go : Performed m q → AltersOwn m q
     go (went a) = own-record a

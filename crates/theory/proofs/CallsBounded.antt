@@ -13,6 +13,7 @@ use Prim.Native.Nat.{ℕ, zero, suc, _+_, _≤_, _<_}
 use native.Mathlib.Omega.{arith}
 use lib.ListN.{length}
 use lib.Dec.{eqb, leb}
+use Rattle.model.specs.WaitingRow.{rowAfter, rowLeft, rowWithout}
 use Rattle.model.specs.declared.Root.{Root}
 use Rattle.model.specs.declared.Party.{Party}
 use Rattle.model.specs.declared.Operation.{Operation}
@@ -31,8 +32,8 @@ use Rattle.model.specs.Records.{begun}
 use Rattle.model.specs.Answers.{operationNumber, performs, settingGiven}
 use Rattle.model.specs.Outcome.{View, Outcome}
 use Rattle.model.specs.Withdraw.{withdrawn}
-use Rattle.model.specs.Memory.{Memory, partyAt, viewOf, afterStep, formattedRoot, formatted}
-use Rattle.model.specs.Calls.{Called, called, stepped, stepCall, withBegun, beginCall, withdrawnFrom, withdrawCall}
+use Rattle.model.specs.Memory.{Memory, partyAt, viewOf, afterStep, formattedRoot, formatted, withWaiting}
+use Rattle.model.specs.Calls.{Called, called, stepped, stepCall, withBegun, beginCall, withdrawnFrom, withdrawCall, calledBy}
 use Rattle.model.specs.Runs.{Call, beginFor, stepFor, withdrawFor, Reply, toBegin, toStep, toWithdraw, Event, replyTo, afterCall, eventOf, events}
 use Rattle.model.specs.Book.{Book, emptyBook, Entered, changedAt, withEntry, enter, noteFor, afterReply, afterBegin, afterWithdraw, bookAfter}
 use Rattle.model.specs.Progress.{isEntered, underWay, bookAfterCall}
@@ -99,11 +100,12 @@ module _ (most : ℕ) where
   stands-kept m u b c j (some x) k e h = (under-same b c j e ∙ h .0, omega (arith, left-kept m u b c j (k (h .0)), h .1))
 
   -- The view that a step leaves is the party's next.
-  view-after : (m : Memory) (u : View) → u .number < length (m .parties) → viewOf (afterStep m u) (u .number) ≡ u
-  view-after m u h = ap (λ (p : Party). record { root = u .root; party = p; number = u .number; locks = u .locks; pages = u .pages }) (row-same (m .parties) (u .number) (u .party) h)
+  own-after : (m : Memory) (row : List ℕ) (u : View) → u .number < length (m .parties) → left most (viewOf (withWaiting row (afterStep m u)) (u .number)) ≡ left most u
+  unfolding left
+  own-after m row u h = ap (λ (p : Party). leftAt most (p .step) (u .root) p (aheadIn (u .root) (u .pages) (u .number))) (row-same (m .parties) (u .number) (u .party) h)
 
-  left-after : (m : Memory) (q : ℕ) (u : View) → u .number ≡ q → q < length (m .parties) → left most (viewOf (afterStep m u) q) ≡ left most u
-  left-after m q u e h = subst (λ (n : ℕ). left most (viewOf (afterStep m u) n) ≡ left most u) e (ap (left most) (view-after m u (omega (arith, e, h))))
+  left-after : (m : Memory) (row : List ℕ) (q : ℕ) (u : View) → u .number ≡ q → q < length (m .parties) → left most (viewOf (withWaiting row (afterStep m u)) q) ≡ left most u
+  left-after m row q u e h = subst (λ (n : ℕ). left most (viewOf (withWaiting row (afterStep m u)) n) ≡ left most u) e (own-after m row u (omega (arith, e, h)))
 
   left-positive : (v : View) → 1 ≤ left most v
   unfolding left
@@ -237,10 +239,15 @@ module _ (most : ℕ) (z : Root) (room : z .primaries ≤ span (z .originals) mo
       × CountsOk most (c .memory) (afterReply b q (partyAt (m .parties) q .step) (c .answer)) (changedAt w q (countedStep (w q) (c .answer)))
 
   -- What a call that performs nothing leaves.
-  idle-counted : (q : ℕ) (a : StepAnswer) → performs a ≡ false → StepCounted q (called a m)
-  idle-counted q a h =
+  stands-row : (row : List ℕ) (c : Book) (j : ℕ) (x : Option Counted) → Stands most m c j x → Stands most (withWaiting row m) c j x
+  unfolding left
+  stands-row row c j none h = h
+  stands-row row c j (some x) h = h
+
+  idle-counted : (q : ℕ) (a : StepAnswer) → performs a ≡ false → (row : List ℕ) → StepCounted q (called a (withWaiting row m))
+  idle-counted q a h row =
       let x = idle-bounded (w q) a h in
-      (x .0, subst (λ (c : Book). CountsOk most m c (changedAt w q (countedStep (w q) a))) (sym (idle-book b q (partyAt (m .parties) q .step) a h)) (counts-same q (countedStep (w q) a) (x .1)))
+      (x .0, λ j. stands-row row (afterReply b q (partyAt (m .parties) q .step) a) j (changedAt w q (countedStep (w q) a) j) (subst (λ (c : Book). CountsOk most m c (changedAt w q (countedStep (w q) a))) (sym (idle-book b q (partyAt (m .parties) q .step) a h)) (counts-same q (countedStep (w q) a) (x .1)) j))
 
   module _ (q : ℕ) (in-row : q < m .root .parties) (e : Entered) (k : Busy (sceneOf m (i .ghost) b) q (partyAt (m .parties) q) e)
       (x : factsAt (partyAt (m .parties) q .step) (sceneOf m (i .ghost) b) q (partyAt (m .parties) q) e) (call : stepCall m q ≡ stepped m q) where
@@ -251,7 +258,7 @@ module _ (most : ℕ) (z : Root) (room : z .primaries ≤ span (z .originals) mo
     o = stepOf (partyAt (m .parties) q .step) (viewOf m q)
 
     abbrev then : Memory
-    then = afterStep m (stepOf (partyAt (m .parties) q .step) (viewOf m q) .after)
+    then = calledBy m q (stepOf (partyAt (m .parties) q .step) (viewOf m q)) .memory
 
     in-list : q < length (m .parties)
     in-list = omega (arith, in-row, i .parties-many)
@@ -281,7 +288,7 @@ module _ (most : ℕ) (z : Root) (room : z .primaries ≤ span (z .originals) mo
     moves h (some y) s =
         let on = noted-own b q e (k .entry) number in (
           lt-ltb (y .taken + 1) (y .limit) (omega (arith, h, s .1, left-positive most (o .after))),
-          (entered-under (noteFor b q (b .entries q) number) q (on .entered) (on .is), omega (arith, h, s .1, left-after most m q (o .after) number= in-list)),
+          (entered-under (noteFor b q (b .entries q) number) q (on .entered) (on .is), omega (arith, h, s .1, left-after most m (rowAfter q (m .waiting) (o .answer)) q (o .after) number= in-list)),
         )
 
     -- Done: its entry goes.
@@ -298,7 +305,7 @@ module _ (most : ℕ) (z : Root) (room : z .primaries ≤ span (z .originals) mo
     unfolding stepped
     by-nearer (stays h) =
         let still : performs (stepCall m q .answer) ≡ false = ap (λ (c : Called StepAnswer). performs (c .answer)) call ∙ h in
-        subst (λ (u : Memory). StepCounted q (called (stepCall m q .answer) u)) (sym (nothing-altered m q still)) (idle-counted q (stepCall m q .answer) still)
+        subst (λ (u : Memory). StepCounted q (called (stepCall m q .answer) u)) (sym (nothing-altered m q still)) (idle-counted q (stepCall m q .answer) still _)
     by-nearer (goes a h) =
         subst (StepCounted q) (sym call)
         (performed (subst (λ (y : StepAnswer). (stepBounded (w q) y ≡ true) × Stands most then (afterReply b q number y) q (countedStep (w q) y)) (sym a) (moves h (w q) (ok q))))
@@ -315,8 +322,8 @@ module _ (most : ℕ) (z : Root) (room : z .primaries ≤ span (z .originals) mo
   step-counted q = go (meets m b i q)
     where
       go : Met m b i q → StepCounted q (stepCall m q)
-      go (no-party _ _ _ e) = subst (StepCounted q) (sym e) (idle-counted q (StepAnswer.Refused 3) refl)
-      go (nothing-begun _ _ _ _ e) = subst (StepCounted q) (sym e) (idle-counted q (StepAnswer.Refused 5) refl)
+      go (no-party _ _ _ e) = subst (StepCounted q) (sym e) (idle-counted q (StepAnswer.Refused 3) refl (m .waiting))
+      go (nothing-begun _ _ _ _ e) = subst (StepCounted q) (sym e) (idle-counted q (StepAnswer.Refused 5) refl (m .waiting))
       go (under-way h e k x c) = under-way-counted q h e k x c
 
   -- ---- Withdraw
@@ -329,10 +336,10 @@ module _ (most : ℕ) (z : Root) (room : z .primaries ≤ span (z .originals) mo
   withdraw-turned q n = counts-same q (w q) refl
 
   withdraw-counted : (q : ℕ) → WithdrawCounted q (withdrawCall m q)
-  unfolding countedWithdraw afterWithdraw withdrawnFrom
+  unfolding countedWithdraw afterWithdraw withdrawnFrom rowLeft
   withdraw-counted q = go (withdraw-meets m b i q)
     where
-      gone : (u : Memory) → u ≡ withdrawCall m q .memory → u ≡ afterStep m (withdrawn (viewOf m q) .after) → Withdraws m q
+      gone : (u : Memory) → u ≡ withdrawCall m q .memory → u ≡ withWaiting (rowWithout q (m .waiting)) (afterStep m (withdrawn (viewOf m q) .after)) → Withdraws m q
           → AheadStays m q (withdrawn (viewOf m q) .after .root) (withdrawn (viewOf m q) .after .pages) → WithdrawCounted q (called WithdrawAnswer.Withdrawn u)
       gone u is left-is x framed =
           counts-after q u (withEntry b q none) none (λ j d. changed-elsewhere (b .entries) q none j d)
@@ -349,7 +356,10 @@ module _ (most : ℕ) (z : Root) (room : z .primaries ≤ span (z .originals) mo
       accepted t a f (turned-away n e) = absurd (withdrawn-not-refused n (sym a ∙ ap (λ (c : Called WithdrawAnswer). c .answer) e))
       accepted t a f (let-through xs z d x y e) =
           subst (λ (c : WithdrawAnswer). WithdrawCounted q (called c (withdrawCall m q .memory))) (sym a)
-          (gone (withdrawCall m q .memory) refl (ap (λ (c : Called WithdrawAnswer). c .memory) (withdraw-accepted m q z)) (withdraws m q xs z d e) f)
+          (gone (withdrawCall m q .memory) refl
+          (ap (λ (c : Called WithdrawAnswer). c .memory) (withdraw-accepted m q z)
+          ∙ ap (λ (y : WithdrawAnswer). withWaiting (rowLeft q (m .waiting) y) (afterStep m (withdrawn (viewOf m q) .after)))
+          (sym (ap (λ (c : Called WithdrawAnswer). c .answer) (withdraw-accepted m q z)) ∙ a)) (withdraws m q xs z d e) f)
 
       go : WithdrawMet m b i q → WithdrawCounted q (withdrawCall m q)
       go (stranger _ _ e) = subst (WithdrawCounted q) (sym e) (withdraw-turned q 3)

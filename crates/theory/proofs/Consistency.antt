@@ -17,10 +17,10 @@ use Rattle.model.specs.Addresses.{span, hash, chainCount}
 use Rattle.model.specs.Entries.{joinedAll}
 use Rattle.model.specs.Pages.{pageOf, linkToFirst, primaryPage, scratchPage}
 use Rattle.model.specs.Chains.{Chain, listFrom, chainsFrom}
-use Rattle.model.specs.Outcome.{Outcome, withParty}
+use Rattle.model.specs.Outcome.{Outcome, withParty, moved}
 use Rattle.model.specs.ScratchPages.{withScratch}
-use Rattle.model.specs.Memory.{Memory, partyAt, viewOf, afterStep}
-use Rattle.model.specs.Calls.{Called, stepped, stepCall}
+use Rattle.model.specs.Memory.{Memory, partyAt, viewOf}
+use Rattle.model.specs.Calls.{Called, stepped, stepCall, calledBy}
 use Rattle.model.specs.Runs.{Call}
 use Rattle.model.specs.Book.{Book}
 use Rattle.model.specs.Effects.{recordAfter}
@@ -264,11 +264,11 @@ module _ (m : Memory) (b : Book) (i : Inv m b) (q : ℕ) where
         go (let-through _ e) = e
         go (turned-away c e) = absurd (false≢true (ap (within 9 10) (sym is-six ∙ ap (λ (x : Called StepAnswer). partyAt (x .memory .parties) q .step) (sym e)) ∙ ends))
 
-    leaves : stepCall m q .memory ≡ afterStep m (withParty next (withScratch page (viewOf m q)))
+    leaves : stepCall m q .memory ≡ calledBy m q (moved (withParty next (withScratch page (viewOf m q)))) .memory
     unfolding stepped stepOf stepTable
     leaves =
-        ap (λ (x : Called StepAnswer). x .memory) leads-on ∙ ap (λ (k : ℕ). afterStep m (stepOf k (viewOf m q) .after)) is-six
-        ∙ ap (λ (o : Outcome). afterStep m (o .after)) (step06-moves (turn-at m b i q (in-row m b i q 5 is-six) 5 is-six))
+        ap (λ (x : Called StepAnswer). x .memory) leads-on ∙ ap (λ (k : ℕ). calledBy m q (stepOf k (viewOf m q)) .memory) is-six
+        ∙ ap (λ (o : Outcome). calledBy m q o .memory) (step06-moves (turn-at m b i q (in-row m b i q 5 is-six) 5 is-six))
 
     next-ends : within 9 10 (next .step) ≡ true
     next-ends =

@@ -30,8 +30,8 @@ use Rattle.model.specs.Steps.MergeLocks.{mergeLocks, step30}
 use Rattle.model.specs.Steps.MergeBuild.{combined, step26}
 use Rattle.model.specs.Steps.MergeWrite.{partnerCleared, step28, step29}
 use Rattle.model.specs.Steps.Dispatch.{stepOf, stepTable}
-use Rattle.model.specs.Memory.{Memory, partyAt, viewOf, afterStep}
-use Rattle.model.specs.Calls.{Called, called, stepped, stepCall}
+use Rattle.model.specs.Memory.{Memory, partyAt, viewOf}
+use Rattle.model.specs.Calls.{Called, called, stepped, stepCall, calledBy}
 use Rattle.model.specs.Runs.{Call, beginFor, stepFor, withdrawFor, afterCall, eventOf}
 use Rattle.model.specs.Book.{Book, changedAt}
 use Rattle.model.specs.Progress.{bookAfterCall}
@@ -167,10 +167,10 @@ module _ (kept : StepsKept) (m : Memory) (b : Book) (i : Inv m b) (q : ℕ) (in-
   lent = viewOf m q
 
   -- The call, where the step number is known.
-  called-as : (k : ℕ) (f : View → Outcome) → p .step ≡ k → stepOf k lent ≡ f lent → stepCall m q ≡ called (f lent .answer) (afterStep m (f lent .after))
+  called-as : (k : ℕ) (f : View → Outcome) → p .step ≡ k → stepOf k lent ≡ f lent → stepCall m q ≡ calledBy m q (f lent)
   unfolding stepped
   called-as k f e s =
-      call ∙ ap (λ (n : ℕ). called (stepOf n lent .answer) (afterStep m (stepOf n lent .after))) e ∙ ap (λ (o : Outcome). called (o .answer) (afterStep m (o .after))) s
+      call ∙ ap (λ (n : ℕ). calledBy m q (stepOf n lent)) e ∙ ap (calledBy m q) s
 
   joins-26 : p .step ≡ 26 → joinsRightly m q ≡ true
   unfolding joinsRightly stepOf stepTable
@@ -185,13 +185,13 @@ module _ (kept : StepsKept) (m : Memory) (b : Book) (i : Inv m b) (q : ℕ) (in-
   had-26 e h = none-had (turn-at m b i q in-row 25 e) (rw (called-as 26 step26 e refl) at h)
 
   -- The party's turn after a step that moved it on.
-  turn-then : (n : ℕ) (o : Outcome) → stepCall m q ≡ called (o .answer) (afterStep m (o .after)) → o .after .number ≡ q → o .after .party ≡ atStep (suc n) p
-      → Turn (afterStep m (o .after)) (bookAfterCall b m (stepFor q)) q (suc n)
+  turn-then : (n : ℕ) (o : Outcome) → stepCall m q ≡ calledBy m q o → o .after .number ≡ q → o .after .party ≡ atStep (suc n) p
+      → Turn (calledBy m q o .memory) (bookAfterCall b m (stepFor q)) q (suc n)
   unfolding afterCall eventOf
   turn-then n o c number= party= =
       let inv = subst (λ (x : Called StepAnswer). Inv (x .memory) (bookAfterCall b m (stepFor q))) c (call-kept kept m b i (stepFor q) .inv) in
       let long : length (set (m .parties) (o .after .number) (o .after .party)) ≡ length (m .parties) = length-set (m .parties) (o .after .number) (o .after .party) in
-      turn-at (afterStep m (o .after)) (bookAfterCall b m (stepFor q)) inv q (omega (arith, long, inv .parties-many, i .parties-many)) n (ap (λ (x : Party). x .step) (record-then o number= party=))
+      turn-at (calledBy m q o .memory) (bookAfterCall b m (stepFor q)) inv q (omega (arith, long, inv .parties-many, i .parties-many)) n (ap (λ (x : Party). x .step) (record-then o number= party=))
     where
       record-then : (o : Outcome) → o .after .number ≡ q → o .after .party ≡ atStep (suc n) p → partyAt (set (m .parties) (o .after .number) (o .after .party)) q ≡ atStep (suc n) p
       record-then o number= party= = rw (number=, party=) (row-same (m .parties) q (atStep (suc n) p) (omega (arith, i .parties-many)))
@@ -209,13 +209,13 @@ module _ (kept : StepsKept) (m : Memory) (b : Book) (i : Inv m b) (q : ℕ) (in-
       let c = called-as 28 step28 e refl in
       let o = moved (withParty (atStep 29 p) (withPages (withPage (m .pages) (primaryPage (p .chain)) (withLocalLevel (levelOf (scratchOf lent) - 1) (scratchOf lent))) lent)) in
       let is : step28 lent ≡ o = passed lent (pageSound (m .root) (scratchOf lent) && not (eqb (levelOf (scratchOf lent)) 0)) o (rw c at h) in
-      let done = c ∙ ap (λ (x : Outcome). called (x .answer) (afterStep m (x .after))) is in
+      let done = c ∙ ap (calledBy m q) is in
       rw done (reads-then o refl refl (m .root) (o .after .pages) (read-29 (turn-then 28 o done refl refl)))
 
   -- 29 gives back nothing.
-  call-29 : p .step ≡ 29 → stepCall m q ≡ called StepAnswer.Moved (afterStep m (partnerCleared lent [] .after))
+  call-29 : p .step ≡ 29 → stepCall m q ≡ calledBy m q (partnerCleared lent [])
   unfolding stepOf stepTable partnerCleared
-  call-29 e = called-as 29 step29 e refl ∙ ap (λ (x : Outcome). called (x .answer) (afterStep m (x .after))) (step29-is (turn-at m b i q in-row 28 e))
+  call-29 e = called-as 29 step29 e refl ∙ ap (calledBy m q) (step29-is (turn-at m b i q in-row 28 e))
 
   leaves-29 : p .step ≡ 29 → leavesOnePage m q ≡ true
   unfolding leavesOnePage partnerCleared pagesGivenBack givenBack

@@ -5,12 +5,12 @@
 -- Main statements: call-grants (one call, and the ledger after it); run-grants (a list from any memory with the invariant);
 -- grants-right (from formatted memory).
 use mathlib.Core.Path.{_≡_, refl, sym, ap, _∙_, subst}
-use mathlib.Core.Bool.{Bool, true, false, cond, not}
+use mathlib.Core.Bool.{Bool, true, false, cond, not, _&&_}
 use mathlib.Core.List.{List, [], _∷_}
 use mathlib.Core.Option.{Option, none, some}
 use Prim.Native.Nat.{ℕ, _+_, _-_, _≤_, _<_}
 use native.Mathlib.Omega.{arith}
-use lib.ListN.{length, set}
+use lib.ListN.{length, getD, set}
 use lib.Dec.{leb}
 use Rattle.model.specs.declared.Root.{Root}
 use Rattle.model.specs.declared.Party.{Party}
@@ -23,7 +23,7 @@ use Rattle.model.specs.declared.WithdrawAnswer.the-variants as WithdrawAnswer
 use Rattle.model.specs.Sizes.{withinLimits, lockWords}
 use Rattle.model.specs.Records.{begun, idle}
 use Rattle.model.specs.Answers.{operationNumber, refusalNumber, isMoved, settingGiven}
-use Rattle.model.specs.LockWords.{Claim}
+use Rattle.model.specs.LockWords.{Claim, permits}
 use Rattle.model.specs.Outcome.{View, Outcome, damage}
 use Rattle.model.specs.LockRequests.{isGranted}
 use Rattle.model.specs.Memory.{Memory, partyAt, viewOf}
@@ -31,7 +31,7 @@ use Rattle.model.specs.Calls.{Called, called, stepped, stepCall, withBegun, beg
 use Rattle.model.specs.Runs.{Call, beginFor, stepFor, withdrawFor, eventOf, afterCall}
 use Rattle.model.specs.Book.{Book, Entered}
 use Rattle.model.specs.Progress.{underWay, bookAfterCall}
-use Rattle.model.specs.Holds.{Hold, permitted, withoutAll, givesUp, requested, withHeld, wantedBy, holdsAfterStep, givesUpWithdrawn, holdsAfterWithdraw, holdsAfter, neverWaits, grantRight, answerRight, refusedWith, beginRefusedWith, isBegun, idleRight, beginRight, withdrawRefusedWith, isWithdrawn, withdrawRight, stepRight, callRight, grantsRight}
+use Rattle.model.specs.Holds.{Hold, waitsBefore, waitsAfter, permitted, withoutAll, givesUp, requested, withHeld, wantedBy, holdsAfterStep, givesUpWithdrawn, holdsAfterWithdraw, holdsAfter, neverWaits, grantRight, answerRight, refusedWith, beginRefusedWith, isBegun, idleRight, beginRight, withdrawRefusedWith, isWithdrawn, withdrawRight, stepRight, callRight, grantsRight}
 use Rattle.theory.specs.Demands.{Start, sizesOf, start, GrantsRight, bookStart}
 use Rattle.model.specs.Steps.Dispatch.{wants}
 use Rattle.model.proofs.Laws.Lists.{both-and, eqb-true, le-leb, lt-leb}
@@ -47,11 +47,14 @@ use Rattle.model.proofs.Theorems.Calls.{StepsKept, within-limits, operation-som
 use Rattle.theory.proofs.SizesStay.{limits-on, call-limits, start-limits, sized-root}
 use Rattle.theory.proofs.UnderWay.{inv-fits, entered-under, unentered-under, Met, no-party, nothing-begun, under-way, meets}
 use Rattle.theory.proofs.Withdraws.{withdrawn-not-refused, WithdrawTested, turned-away, let-through, withdraw-tested, WithdrawMet, stranger, unbegun, too-late, taken-back, withdraw-meets}
-use Rattle.model.proofs.Theorems.Answering.{unasked, asked, fairly, step-fair}
+use Rattle.model.proofs.Theorems.Answering.{unasked, asked, fairly, step-fair, asked-wanted}
 use Rattle.theory.proofs.LockOrder.{WantedHigher, wanted-higher}
 use Rattle.model.proofs.Exits.Trades.{claimCount, listed}
 use Rattle.theory.proofs.Ledger.{holdCount, countFor, count-none, count-own, count-other, count-without-all, count-with, LedgerOk, ledger-set, permitted-is}
 use Rattle.theory.proofs.LockTrades.{gained, Trades, step-trades}
+use Rattle.model.proofs.Laws.WaitLedger.{WaitsOk, behind-is}
+use Rattle.model.proofs.Laws.WaitingRow.{idle-asks-none, row-at-rest, row-reads}
+use Rattle.theory.proofs.WaitLedger.{call-waits}
 
 -- ---- The ledger after a step
 
@@ -93,22 +96,23 @@ module _ (m : Memory) (hs : List Hold) (ok : LedgerOk (m .root) (m .parties) hs)
 -- ---- One call
 
 -- What is owed of a call: its answer is right by the ledger, and the ledger stays right.
-pub record CallGrants (z : Root) (b : Book) (hs : List Hold) (m : Memory) (c : Call) : Type 0 where
-  pub right : callRight z b hs m c ≡ true
+pub record CallGrants (z : Root) (b : Book) (hs ws : List Hold) (m : Memory) (c : Call) : Type 0 where
+  pub right : callRight z b hs ws m c ≡ true
   pub ledger : LedgerOk (afterCall m c .root) (afterCall m c .parties) (holdsAfter z hs m c)
 
 -- An answer that goes with the request by the lock word, and is no refusal, goes with it by the ledger, where the two permit the same locks of the file.
-module _ (hs : List Hold) (v : View) (held : List Claim) (agree : (c : Claim) → c .word < lockWords (v .root) → permitted hs c ≡ isGranted v c) where
-  answer-right : (w : Option Claim) (a : StepAnswer) → WantedHigher (v .root) held w → refusalNumber a ≡ 0 → fairly v w a ≡ true → answerRight hs w a ≡ true
+module _ (hs ws : List Hold) (q : ℕ) (v : View) (held : List Claim) (want : Option Claim)
+    (agree : (c : Claim) → want ≡ some c → c .word < lockWords (v .root) → (permitted hs c && not (waitsBefore ws q c)) ≡ isGranted v c) where
+  answer-right : (w : Option Claim) (a : StepAnswer) → want ≡ w → WantedHigher (v .root) held w → refusalNumber a ≡ 0 → fairly v w a ≡ true → answerRight hs ws q w a ≡ true
   unfolding answerRight neverWaits grantRight refusalNumber fairly unasked asked
-  answer-right none StepAnswer.Waiting x r f = f
-  answer-right none StepAnswer.Moved x r f = refl
-  answer-right none (StepAnswer.Done a s) x r f = refl
-  answer-right none (StepAnswer.Refused n) x r f = absurd (omega (arith, r, eqb-true n damage f))
-  answer-right (some c) StepAnswer.Waiting x r f = ap not (agree c (x .inside)) ∙ f
-  answer-right (some c) StepAnswer.Moved x r f = agree c (x .inside) ∙ f
-  answer-right (some c) (StepAnswer.Done a s) x r f = f
-  answer-right (some c) (StepAnswer.Refused n) x r f = absurd (omega (arith, r, eqb-true n damage f))
+  answer-right none StepAnswer.Waiting e x r f = f
+  answer-right none StepAnswer.Moved e x r f = refl
+  answer-right none (StepAnswer.Done a s) e x r f = refl
+  answer-right none (StepAnswer.Refused n) e x r f = absurd (omega (arith, r, eqb-true n damage f))
+  answer-right (some c) StepAnswer.Waiting e x r f = ap not (agree c e (x .inside)) ∙ f
+  answer-right (some c) StepAnswer.Moved e x r f = agree c e (x .inside) ∙ f
+  answer-right (some c) (StepAnswer.Done a s) e x r f = f
+  answer-right (some c) (StepAnswer.Refused n) e x r f = absurd (omega (arith, r, eqb-true n damage f))
 
 -- A step refused with the number that stands for its party.
 no-party-right : (n q : ℕ) → n ≤ q → idleRight n q (StepAnswer.Refused 3) ≡ true
@@ -119,13 +123,14 @@ idle-party-right : (n q : ℕ) → q < n → idleRight n q (StepAnswer.Refused 5
 unfolding idleRight refusedWith
 idle-party-right n q h = rw (lt-leb n q h) refl
 
-module _ (kept : StepsKept) (z : Root) (m : Memory) (b : Book) (i : Inv m b) (l : SameLimits z (m .root)) (hs : List Hold) (ok : LedgerOk (m .root) (m .parties) hs) where
+module _ (kept : StepsKept) (z : Root) (m : Memory) (b : Book) (i : Inv m b) (l : SameLimits z (m .root)) (hs : List Hold) (ok : LedgerOk (m .root) (m .parties) hs)
+    (ws : List Hold) (wok : WaitsOk (m .root) (m .parties) (m .waiting) ws) where
   -- By the sizes given a party wants what it wants by the root record.
   want= : (q : ℕ) → wantedBy z m q ≡ wants (m .root) (partyAt (m .parties) q)
   want= q = ap (λ (r : Root). wants r (partyAt (m .parties) q)) (sized-root z (m .root) l)
 
   abbrev StepGrants : ℕ → Called StepAnswer → Type 0
-  StepGrants q c = (cond (underWay b q) (answerRight hs (wantedBy z m q) (c .answer)) (idleRight (z .parties) q (c .answer)) ≡ true)
+  StepGrants q c = (cond (underWay b q) (answerRight hs ws q (wantedBy z m q) (c .answer)) (idleRight (z .parties) q (c .answer)) ≡ true)
       × LedgerOk (c .memory .root) (c .memory .parties) (ledgerAfter hs q (partyAt (m .parties) q .step) (partyAt (m .parties) q) (wantedBy z m q) (c .answer))
 
   performed-grants : (q : ℕ) → q < m .root .parties → (e : Entered) → Busy (sceneOf m (i .ghost) b) q (partyAt (m .parties) q) e
@@ -135,9 +140,15 @@ module _ (kept : StepsKept) (z : Root) (m : Memory) (b : Book) (i : Inv m b) (l 
       let v = viewOf m q in
       let wanted = wanted-higher (sceneOf m (i .ghost) b) q (v .party) e (inv-fits m b i) k x in (
         rw (entered-under b q e (k .entry), want= q)
-            (answer-right hs v _ (permitted-is (m .root) (m .parties) hs ok (i .locks-ok)) (wants (m .root) (v .party)) _ wanted (kept m b i q in-row (k .step-fits) .allowed) (step-fair v .fair)),
+            (answer-right hs ws q v _ (wants (m .root) (v .party)) agrees (wants (m .root) (v .party)) _ refl wanted (kept m b i q in-row (k .step-fits) .allowed) (step-fair v .fair)),
         rw (want= q) (ledger-kept m hs ok q (omega (arith, i .parties-many)) _ (step-trades (v .party .step) v refl (k .step-fits))),
       )
+    where
+      agrees : (c : Claim) → wants (m .root) (partyAt (m .parties) q) ≡ some c → c .word < lockWords (m .root) → (permitted hs c && not (waitsBefore ws q c)) ≡ isGranted (viewOf m q) c
+      agrees c w inside =
+          let behind = behind-is (m .root) (m .parties) (m .waiting) ws wok q c (asked-wanted (viewOf m q) (k .step-fits) ∙ w) in
+          ap (λ (t : Bool). t && not (waitsBefore ws q c)) (permitted-is (m .root) (m .parties) hs ok (i .locks-ok) c inside)
+          ∙ ap (λ (t : Bool). permits (getD (m .locks) (c .word) 0) (c .mode) && not t) (sym behind)
 
   refused-grants : (q n : ℕ) → b .entries q ≡ none → idleRight (z .parties) q (StepAnswer.Refused n) ≡ true → StepGrants q (called (StepAnswer.Refused n) m)
   unfolding isMoved givesUp withoutAll
@@ -210,7 +221,7 @@ module _ (kept : StepsKept) (z : Root) (m : Memory) (b : Book) (i : Inv m b) (l 
       go (too-late h e k d c) = subst (WithdrawGrants q) (sym c) (rw (inside h, entered-under b q e (k .entry), d) refl, ok)
       go (taken-back h e k t d a) = accepted h d (entered-under b q e (k .entry)) a (withdraw-tested m q)
 
-  pub call-grants : (c : Call) → CallGrants z b hs m c
+  pub call-grants : (c : Call) → CallGrants z b hs ws m c
   unfolding callRight stepRight afterCall holdsAfter holdsAfterStep holdsAfterWithdraw
   call-grants (beginFor q o k) = let g = begin-grants q o k in record { right = g .0; ledger = g .1 }
   call-grants (stepFor q) = let g = step-grants q in record { right = g .0; ledger = g .1 }
@@ -218,23 +229,31 @@ module _ (kept : StepsKept) (z : Root) (m : Memory) (b : Book) (i : Inv m b) (l 
 
 -- ---- A list of calls
 
-pub run-grants : StepsKept → (z : Root) (m : Memory) (b : Book) → Inv m b → SameLimits z (m .root) → (hs : List Hold) → LedgerOk (m .root) (m .parties) hs → (cs : List Call)
-    → grantsRight z b hs m cs ≡ true
+pub run-grants : StepsKept → (z : Root) (m : Memory) (b : Book) → Inv m b → SameLimits z (m .root) → (hs : List Hold) → LedgerOk (m .root) (m .parties) hs
+    → (ws : List Hold) → WaitsOk (m .root) (m .parties) (m .waiting) ws → (cs : List Call) → grantsRight z b hs ws m cs ≡ true
 unfolding grantsRight eventOf
-run-grants kept z m b i l hs ok [] = refl
-run-grants kept z m b i l hs ok (c ∷ cs) =
-    let g = call-grants kept z m b i l hs ok c in
+run-grants kept z m b i l hs ok ws wok [] = refl
+run-grants kept z m b i l hs ok ws wok (c ∷ cs) =
+    let g = call-grants kept z m b i l hs ok ws wok c in
     both-and (g .right)
-    (run-grants kept z (afterCall m c) (bookAfterCall b m c) (call-kept kept m b i c .inv) (limits-on z (m .root) (afterCall m c .root) l (call-limits m c)) (holdsAfter z hs m c) (g .ledger) cs)
+    (run-grants kept z (afterCall m c) (bookAfterCall b m c) (call-kept kept m b i c .inv) (limits-on z (m .root) (afterCall m c .root) l (call-limits m c)) (holdsAfter z hs m c) (g .ledger)
+    (waitsAfter z ws m c) (call-waits kept z m b i l ws wok c) cs)
 
 -- Nobody holds a lock at first.
 start-ledger : (s : Start) → LedgerOk (start s .root) (start s .parties) []
 unfolding holdCount claims claimCount
 start-ledger s = record { agrees = λ q d. rw (started-idle s q) refl }
 
+-- Nobody waits at first.
+pub start-waits : (s : Start) → WaitsOk (start s .root) (start s .parties) (start s .waiting) []
+start-waits s =
+    let row = start s .waiting in
+    let clear = row-at-rest (start s .root) (start s .parties) row (started-inv s .row-ok) (λ q. idle-asks-none (start s .root) (partyAt (start s .parties) q) (started-idle s q)) in
+    record { parties= = row-reads row [] clear; entered = tt }
+
 -- DEMAND 2, grants and refusals.
 pub grants-right : StepsKept → (s : Start) (cs : List Call) → GrantsRight s cs
 grants-right kept s cs = record {
   grants = run-grants kept (sizesOf s) (start s) (bookStart s) (started-inv s) (start-limits s) []
-      (start-ledger s) cs;
+      (start-ledger s) [] (start-waits s) cs;
 }

@@ -16,9 +16,9 @@ use Rattle.model.specs.declared.Root.{Root}
 use Rattle.model.specs.declared.Party.{Party}
 use Rattle.model.specs.declared.Mode.{Mode}
 use Rattle.model.specs.declared.Mode.the-variants.{Read, Selective, Exclusive}
-use Rattle.model.specs.LockWords.{Claim, claim, permits}
+use Rattle.model.specs.LockWords.{Claim, claim, permits, tableOne}
 use Rattle.model.specs.Memory.{partyAt}
-use Rattle.model.specs.Holds.{tableOne, Hold, hold, permitted, sameMode, isHold, withoutOne, withoutAll, withHeld}
+use Rattle.model.specs.Holds.{Hold, hold, permitted, sameMode, isHold, withoutOne, withoutAll, withHeld}
 use Rattle.model.proofs.Laws.Lists.{cond-ind, Told, holds, fails, tell, Cmp, same, diff, cmp, and-both, both-and, left-or, right-or, false≢true, eqb-true, eqb-same, eqb-diff}
 use Rattle.model.proofs.Laws.Booleans.{eq-of-iff}
 use Rattle.model.specs.Claims.{claims}

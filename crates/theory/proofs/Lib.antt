@@ -12,9 +12,11 @@ pub mod LockOrder
 pub mod UnderWay
 pub mod Withdraws
 pub mod NoDeadlock
+pub mod WaitLedger
 pub mod LockTrades
 pub mod Grants
 pub mod Alters
+pub mod Overtaking
 pub mod Later
 pub mod NoPage
 pub mod Restored

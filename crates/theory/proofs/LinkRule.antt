@@ -10,6 +10,7 @@ use native.Mathlib.Omega.{arith}
 use lib.ListN.{length, set}
 use lib.Seq.{set-getD}
 use lib.Dec.{eqb}
+use Rattle.model.specs.WaitingRow.{rowAfter}
 use Rattle.model.specs.declared.Party.{Party}
 use Rattle.model.specs.declared.Operation.{Operation}
 use Rattle.model.specs.declared.StepAnswer.{StepAnswer}
@@ -27,9 +28,9 @@ use Rattle.model.specs.Chains.{Checked, sound, listFrom, pagesListed}
 use Rattle.model.specs.FreeList.{isAmong}
 use Rattle.model.specs.Outcome.{View, Outcome}
 use Rattle.model.specs.ScratchPages.{scratchOf}
-use Rattle.model.specs.Memory.{Memory, partyAt, viewOf, afterStep}
+use Rattle.model.specs.Memory.{Memory, partyAt, viewOf, afterStep, withWaiting}
 use Rattle.model.specs.Refusals.{firstCause, stepRows, beginRows}
-use Rattle.model.specs.Calls.{Called, called, stepped, stepCall, withBegun, beginCall, withdrawCall}
+use Rattle.model.specs.Calls.{Called, called, stepped, stepCall, withBegun, beginCall, withdrawCall, calledBy}
 use Rattle.model.specs.Withdraw.{isDecided, builtPages}
 use Rattle.model.specs.Effects.{Withdraws}
 use Rattle.model.specs.Runs.{Call, beginFor, stepFor, withdrawFor, callerOf, replyTo, afterCall}
@@ -323,14 +324,17 @@ acting-trace k m q a u p e h s = rw (e, h, s) refl
 
 module _ (k : Clock) (m : Memory) (ok : ClockOk k m) (q : ℕ) where
   -- A call that performs no step.
-  quiet-fresh : (a : StepAnswer) (u : Memory) → stepCall m q ≡ called a u → performs a ≡ false → u ≡ m → CallFresh k m (stepFor q)
+  quiet-fresh : (a : StepAnswer) (u : Memory) → stepCall m q ≡ called a u → performs a ≡ false → (row : List ℕ) → u ≡ withWaiting row m → CallFresh k m (stepFor q)
   unfolding traceOfCall clockAfter afterCall allFresh
-  quiet-fresh a u e p s = record {
+  quiet-fresh a u e p row s = record {
     fresh = ap (λ (t : Trace). allFresh k (t .follows)) none;
     clock = subst (λ (t : Trace). ClockOk (ticked k q t) (stepCall m q .memory)) (sym none)
-        (subst (λ (x : Memory). ClockOk (ticked k q noTrace) x) (sym (ap (λ (c : Called StepAnswer). c .memory) e ∙ s)) (clock-ticks k m ok q));
+        (subst (λ (x : Memory). ClockOk (ticked k q noTrace) x) (sym (ap (λ (c : Called StepAnswer). c .memory) e ∙ s)) (clock-row row (clock-ticks k m ok q)));
   }
     where
+      clock-row : (row : List ℕ) → ClockOk (ticked k q noTrace) m → ClockOk (ticked k q noTrace) (withWaiting row m)
+      clock-row row c = record { past = c .past; scratch-fresh = c .scratch-fresh; old-fresh = c .old-fresh }
+
       none : traceOfStep k m q ≡ noTrace
       none = quiet-trace k m q a u e p
 
@@ -342,7 +346,7 @@ module _ (k : Clock) (m : Memory) (ok : ClockOk k m) (q : ℕ) where
     o = stepOf (partyAt (m .parties) q .step) (viewOf m q)
 
     abbrev u : Memory
-    u = afterStep m (o .after)
+    u = calledBy m q o .memory
 
     in-row : q < m .root .parties
     in-row = ready m q none .number-fits
@@ -417,7 +421,8 @@ module _ (k : Clock) (m : Memory) (ok : ClockOk k m) (q : ℕ) where
     tested-fresh e = go (step-traced v (ready m q none))
       where
         go : Traced (partyAt (m .parties) q .step) v o → CallFresh k m (stepFor q)
-        go (stays p s) = quiet-fresh (o .answer) u e p (ap (afterStep m) s ∙ ap (λ (ps : List Party). record { root = m .root; parties = ps; locks = m .locks; pages = m .pages }) (set-getD (m .parties) q idle))
+        go (stays p s) = quiet-fresh (o .answer) u e p (rowAfter q (m .waiting) (o .answer))
+            (ap (withWaiting (rowAfter q (m .waiting) (o .answer))) (ap (afterStep m) s ∙ ap (λ (ps : List Party). record { root = m .root; parties = ps; locks = m .locks; pages = m .pages; waiting = m .waiting }) (set-getD (m .parties) q idle)))
         go (goes p l marks) = acting-fresh p l marks e
 
   step-fresh : (b : Book) → Inv m b → CallFresh k m (stepFor q)
@@ -426,7 +431,7 @@ module _ (k : Clock) (m : Memory) (ok : ClockOk k m) (q : ℕ) where
     where
       go : Cmp (firstCause (stepRows m q)) 0 → CallFresh k m (stepFor q)
       go (same e) = tested-fresh b i e (step-accepted m q e)
-      go (diff n) = quiet-fresh (StepAnswer.Refused (firstCause (stepRows m q))) m (step-refused m (firstCause (stepRows m q)) (omega arith) q refl) refl refl
+      go (diff n) = quiet-fresh (StepAnswer.Refused (firstCause (stepRows m q))) m (step-refused m (firstCause (stepRows m q)) (omega arith) q refl) refl (m .waiting) refl
 
   -- ---- Begin
 

@@ -4,7 +4,7 @@
 -- progress-holds, no-deadlock, always-progress.
 use mathlib.Core.Path.{_≡_, refl, sym, ap, _∙_, subst}
 use mathlib.Core.Logic.{_≢_, _⊎_, inl, inr}
-use mathlib.Core.Bool.{Bool, true, false, not, _&&_, _||_, false≢true}
+use mathlib.Core.Bool.{Bool, true, false, cond, not, _&&_, _||_, false≢true}
 use mathlib.Core.List.{List, [], _∷_}
 use mathlib.Core.Option.{Option, none, some}
 use Prim.Native.Nat.{ℕ, zero, suc, _+_, _≤_, _<_}
@@ -29,8 +29,10 @@ use Rattle.model.specs.Book.{Book, Entered}
 use Rattle.model.specs.Holds.{sameMode}
 use Rattle.model.specs.Progress.{isEntered, underWay, canMove, someBelow, progresses, bookAfterCall, alwaysProgresses}
 use Rattle.theory.specs.Demands.{Start, start, Reached, bookReached, bookStart, sizesOf}
-use Rattle.model.specs.Steps.Dispatch.{stepOf, wants}
-use Rattle.model.proofs.Laws.Lists.{Told, holds, fails, tell, Cmp, same, diff, cmp, Ord, lt, ge, ord, and-both, both-and, or-either, left-or, right-or, not-both, not-true, eqb-true, All}
+use Rattle.model.specs.Steps.Dispatch.{hasStep, stepOf, wants}
+use Rattle.model.specs.WaitingRow.{requests, isSome, waitersIn, behindFor, standsBehind}
+use Rattle.model.proofs.Laws.WaitingRow.{Front, front, row-for, idle-asks-none}
+use Rattle.model.proofs.Laws.Lists.{Told, holds, fails, tell, Cmp, same, diff, cmp, Ord, lt, ge, ord, and-both, both-and, or-either, left-or, right-or, not-both, not-true, not-false, and-fails, eqb-true, All}
 use Rattle.model.specs.Claims.{claims}
 use Rattle.model.proofs.Invariant.Claims.{isClaimed}
 use Rattle.model.proofs.Invariant.LockMoves.{permits-true}
@@ -97,20 +99,41 @@ idle-holds-nothing : (r : Root) (p : Party) (w : ℕ) → p ≡ idle → isOn (c
 unfolding claims isOn
 idle-holds-nothing r p w e h = false≢true (rw e at h)
 
+-- ---- What is requested
+
+some-is : (c d : Claim) → _≡_ {A = Option Claim} (some c) (some d) → c ≡ d
+some-is c d e = ap (λ (o : Option Claim). pick o) e
+  where
+    pick : Option Claim → Claim
+    pick none = c
+    pick (some x) = x
+
+none-some : (d : Claim) → _≡_ {A = Option Claim} none (some d) → ⊥
+unfolding isSome
+none-some d e = false≢true (ap isSome e)
+
+none-is : (o : Option Claim) → isSome o ≡ false → o ≡ none
+unfolding isSome
+none-is none e = refl
+none-is (some c) e = absurd (false≢true (sym e))
+
 -- ---- A party under way
 
--- Where a party under way stands: its next step performs, or waits for a lock behind all that it holds.
+-- Where a party under way stands: its next step performs, waits for a lock behind all that it holds, or stands behind
+-- an earlier request.
 pub data Standing (b : Book) (m : Memory) (q : ℕ) : Type 0 where
   moves : canMove b m q ≡ true → Standing b m q
-  awaits : (c : Claim) → permits (getD (m .locks) (c .word) 0) (c .mode) ≡ false → Higher (m .root) c (claims (m .root) (partyAt (m .parties) q)) → Standing b m q
+  awaits : (c : Claim) → wants (m .root) (partyAt (m .parties) q) ≡ some c → permits (getD (m .locks) (c .word) 0) (c .mode) ≡ false
+      → Higher (m .root) c (claims (m .root) (partyAt (m .parties) q)) → Standing b m q
+  behind-one : standsBehind (m .root) (m .parties) (m .waiting) q ≡ true → Standing b m q
 
 -- A fair answer that is no refusal performs the step, unless a lock is wanted and not granted.
 module _ (v : View) (h : List Claim) where
   by-answer : (w : Option Claim) (a : StepAnswer) → refusalNumber a ≡ 0 → fairly v w a ≡ true → WantedHigher (v .root) h w
-      → (performs a ≡ true) ⊎ ((c : Claim) × (isGranted v c ≡ false) × Higher (v .root) c h)
+      → (performs a ≡ true) ⊎ ((c : Claim) × (w ≡ some c) × (isGranted v c ≡ false) × Higher (v .root) c h)
   unfolding refusalNumber fairly unasked asked performs
   by-answer none StepAnswer.Waiting r f x = absurd (false≢true f)
-  by-answer (some c) StepAnswer.Waiting r f x = inr (c, not-true (isGranted v c) f, x)
+  by-answer (some c) StepAnswer.Waiting r f x = inr (c, refl, not-true (isGranted v c) f, x)
   by-answer none StepAnswer.Moved r f x = inl refl
   by-answer (some c) StepAnswer.Moved r f x = inl refl
   by-answer none (StepAnswer.Done a s) r f x = inl refl
@@ -127,16 +150,20 @@ module _ (kept : StepsKept) (m : Memory) (b : Book) (i : Inv m b) where
         let v = viewOf m q in
         let busy = operation-some (e .operation) (partyAt (m .parties) q .operation) (k .same-operation) in
         let sound = record-sound (m .root) (partyAt (m .parties) q) (root-sound m b i) (party-sound m b i q in-row (partyAt (m .parties) q) e k) in
-        let performed = step-order m q .none (within-limits (m .root) (i .limits)) (lengths-fit m b i) in-row busy sound in
+        let performed = step-order m q .none (within-limits (m .root) (i .limits)) (lengths-fit m b i) in-row busy sound (i .row-ok .sound) in
         go performed (entered-under b q e (k .entry))
         (by-answer v (claims (m .root) (v .party)) (wants (m .root) (v .party)) (stepOf (v .party .step) v .answer) (kept m b i q in-row (k .step-fits) .allowed)
         (step-fair v .fair) (wanted-higher (sceneOf m (i .ghost) b) q (v .party) e (inv-fits m b i) k x))
       where
         go : stepCall m q ≡ stepped m q → underWay b q ≡ true
             → (performs (stepOf (partyAt (m .parties) q .step) (viewOf m q) .answer) ≡ true)
-            ⊎ ((c : Claim) × (isGranted (viewOf m q) c ≡ false) × Higher (m .root) c (claims (m .root) (partyAt (m .parties) q))) → Standing b m q
+            ⊎ ((c : Claim) × (wants (m .root) (partyAt (m .parties) q) ≡ some c) × (isGranted (viewOf m q) c ≡ false) × Higher (m .root) c (claims (m .root) (partyAt (m .parties) q))) → Standing b m q
         go performed entered (inl h) = moves (both-and entered (ap (λ (c : Called StepAnswer). performs (c .answer)) performed ∙ h))
-        go performed entered (inr h) = awaits (h .0) (h .1) (h .2)
+        go performed entered (inr h) = barred (and-fails (permits (getD (m .locks) (h .0 .word) 0) (h .0 .mode)) (not (viewOf m q .behind)) (h .2))
+          where
+            barred : (permits (getD (m .locks) (h .0 .word) 0) (h .0 .mode) ≡ false) ⊎ (not (viewOf m q .behind) ≡ false) → Standing b m q
+            barred (inl n) = awaits (h .0) (h .1) n (h .3)
+            barred (inr n) = behind-one (not-false (viewOf m q .behind) n)
 
     -- A party is idle, or stands somewhere.
     pub standing : (partyAt (m .parties) q ≡ idle) ⊎ Standing b m q
@@ -169,37 +196,111 @@ module _ (kept : StepsKept) (m : Memory) (b : Book) (i : Inv m b) where
           (λ q o x. let h = claimed-on (claims (m .root) (partyAt (m .parties) q)) (c .word) o x in
           absurd (not-both _ (found-some (m .root .parties) on q (in-row q h (ord q (m .root .parties))) h) e))) n)
 
-  -- From a lock that is not granted: its holder can move, or waits for one further on.
-  pub climb : (k : ℕ) (c : Claim) → c .word < lockWords (m .root) → lockWords (m .root) ≤ k + c .word → permits (getD (m .locks) (c .word) 0) (c .mode) ≡ false
-      → Found (m .root .parties) (canMove b m)
+  -- ---- From one who stands behind another to the first of those who wait for the lock
+
+  abbrev r : Root
+  r = m .root
+
+  abbrev ps : List Party
+  ps = m .parties
+
+  -- What one requests it wants.
+  requested-wanted : (p : Party) (c : Claim) → requests r p ≡ some c → wants r p ≡ some c
+  unfolding requests
+  requested-wanted p c e = go (hasStep (p .operation) (p .step)) e
+    where
+      go : (t : Bool) → cond t (wants r p) none ≡ some c → wants r p ≡ some c
+      go true h = h
+      go false h = absurd (none-some c h)
+
+  -- From party q: one who can move, or a lock behind all that q holds, which its word does not permit.
+  data LeadsTo (q : ℕ) : Type 0 where
+    to-mover : Found (r .parties) (canMove b m) → LeadsTo q
+    to-lock : (d : Claim) → permits (getD (m .locks) (d .word) 0) (d .mode) ≡ false → Higher r d (claims r (partyAt ps q)) → LeadsTo q
+
+  -- One who stands behind nobody.
+  unhindered : (q : ℕ) → q < r .parties → standsBehind r ps (m .waiting) q ≡ false → (partyAt ps q ≡ idle) ⊎ LeadsTo q
+  unhindered q l n = go (standing q l)
+    where
+      go : (partyAt ps q ≡ idle) ⊎ Standing b m q → (partyAt ps q ≡ idle) ⊎ LeadsTo q
+      go (inl e) = inl e
+      go (inr (moves e)) = inr (to-mover (record { number = q; below = l; passes = e }))
+      go (inr (awaits d _ x y)) = inr (to-lock d x y)
+      go (inr (behind-one h)) = absurd (not-both (standsBehind r ps (m .waiting) q) h n)
+
+  -- Who stands behind somebody: the first of those who wait for the lock stands behind nobody.
+  hindered : (q : ℕ) → q < r .parties → (e : Entered) → Busy (sceneOf m (i .ghost) b) q (partyAt ps q) e → factsAt (partyAt ps q .step) (sceneOf m (i .ghost) b) q (partyAt ps q) e
+      → (o : Option Claim) → requests r (partyAt ps q) ≡ o → behindFor r ps (m .waiting) q o ≡ true → LeadsTo q
+  unfolding behindFor standsBehind isSome
+  hindered q l e k x none a h = absurd (false≢true h)
+  hindered q l e k x (some c) a h = go (standing f-number f-there)
+    where
+      f : Front r ps (c .word) (waitersIn (m .waiting))
+      f = front r ps q c (waitersIn (m .waiting)) h
+
+      f-number : ℕ
+      f-number = f .number
+
+      f-there : f-number < r .parties
+      f-there = row-for r ps (m .waiting) (i .row-ok) .asking f-number (f .waits) .there
+
+      f-first : standsBehind r ps (m .waiting) f-number ≡ false
+      f-first = ap (behindFor r ps (m .waiting) f-number) (f .wanted) ∙ f .unhindered
+
+      mine : WantedHigher r (claims r (partyAt ps q)) (some c)
+      mine = subst (WantedHigher r (claims r (partyAt ps q))) (requested-wanted (partyAt ps q) c a) (wanted-higher (sceneOf m (i .ghost) b) q (partyAt ps q) e (inv-fits m b i) k x)
+
+      go : (partyAt ps f-number ≡ idle) ⊎ Standing b m f-number → LeadsTo q
+      go (inl z) = absurd (none-some (f .lock) (sym (idle-none z) ∙ f .wanted))
+        where
+          idle-none : partyAt ps f-number ≡ idle → requests r (partyAt ps f-number) ≡ none
+          idle-none w = none-is (requests r (partyAt ps f-number)) (idle-asks-none r (partyAt ps f-number) w)
+      go (inr (moves z)) = to-mover (record { number = f-number; below = f-there; passes = z })
+      go (inr (behind-one z)) = absurd (not-both (standsBehind r ps (m .waiting) f-number) z f-first)
+      go (inr (awaits d w z y)) =
+          let its : d .word ≡ c .word = ap (λ (v : Claim). v .word) (some-is d (f .lock) (sym w ∙ requested-wanted (partyAt ps f-number) (f .lock) (f .wanted))) ∙ f .word= in
+          to-lock d z (record { inside = y .inside; above = subst (λ (n : ℕ). All (λ v. v .word < n) (claims r (partyAt ps q))) (sym its) (mine .above) })
+
+  -- A party is idle, or leads on.
+  settle : (q : ℕ) → q < r .parties → (partyAt ps q ≡ idle) ⊎ LeadsTo q
+  unfolding standsBehind
+  settle q l = go (i .parties-ok q l) (tell (standsBehind r ps (m .waiting) q))
+    where
+      go : PartyOk (sceneOf m (i .ghost) b) q (partyAt ps q) → Told (standsBehind r ps (m .waiting) q) → (partyAt ps q ≡ idle) ⊎ LeadsTo q
+      go (resting e _ _ _) t = inl e
+      go (working e k x) (fails n) = unhindered q l n
+      go (working e k x) (holds h) = inr (hindered q l e k x (requests r (partyAt ps q)) refl h)
+
+  -- From a lock that its word does not permit: its holder leads to one who can move, or to a lock further on.
+  climb : (k : ℕ) (c : Claim) → c .word < lockWords r → lockWords r ≤ k + c .word → permits (getD (m .locks) (c .word) 0) (c .mode) ≡ false → Found (r .parties) (canMove b m)
   climb zero c l f n = absurd (omega arith)
   climb (suc k) c l f n = go (holder c l n) (λ d. climb k d)
     where
-      go : Found (m .root .parties) (λ q. isOn (claims (m .root) (partyAt (m .parties) q)) (c .word))
-          → ((d : Claim) → d .word < lockWords (m .root) → lockWords (m .root) ≤ k + d .word → permits (getD (m .locks) (d .word) 0) (d .mode) ≡ false
-          → Found (m .root .parties) (canMove b m))
-          → Found (m .root .parties) (canMove b m)
-      go h ih = from (standing (h .number) (h .below))
+      go : Found (r .parties) (λ q. isOn (claims r (partyAt ps q)) (c .word))
+          → ((d : Claim) → d .word < lockWords r → lockWords r ≤ k + d .word → permits (getD (m .locks) (d .word) 0) (d .mode) ≡ false → Found (r .parties) (canMove b m))
+          → Found (r .parties) (canMove b m)
+      go h ih = from (settle (h .number) (h .below))
         where
-          from : (partyAt (m .parties) (h .number) ≡ idle) ⊎ Standing b m (h .number) → Found (m .root .parties) (canMove b m)
-          from (inl e) = absurd (idle-holds-nothing (m .root) (partyAt (m .parties) (h .number)) (c .word) e (h .passes))
-          from (inr (moves e)) = record { number = h .number; below = h .below; passes = e }
-          from (inr (awaits d x y)) =
-              let up = on-below (claims (m .root) (partyAt (m .parties) (h .number))) (c .word) (d .word) (y .above) (h .passes) in
+          from : (partyAt ps (h .number) ≡ idle) ⊎ LeadsTo (h .number) → Found (r .parties) (canMove b m)
+          from (inl e) = absurd (idle-holds-nothing r (partyAt ps (h .number)) (c .word) e (h .passes))
+          from (inr (to-mover x)) = x
+          from (inr (to-lock d x y)) =
+              let up = on-below (claims r (partyAt ps (h .number))) (c .word) (d .word) (y .above) (h .passes) in
               ih d (y .inside) (omega (arith, up, f)) x
 
   -- One under way, and so one who can move.
-  mover : Found (m .root .parties) (underWay b) → Found (m .root .parties) (canMove b m)
-  unfolding underWay isEntered
-  mover h = go (i .parties-ok (h .number) (h .below))
+  mover : Found (r .parties) (underWay b) → Found (r .parties) (canMove b m)
+  unfolding underWay isEntered hasStep
+  mover h = go (i .parties-ok (h .number) (h .below)) (settle (h .number) (h .below))
     where
-      from : Standing b m (h .number) → Found (m .root .parties) (canMove b m)
-      from (moves e) = record { number = h .number; below = h .below; passes = e }
-      from (awaits c x y) = climb (lockWords (m .root)) c (y .inside) (omega arith) x
+      from : LeadsTo (h .number) → Found (r .parties) (canMove b m)
+      from (to-mover x) = x
+      from (to-lock d x y) = climb (lockWords r) d (y .inside) (omega arith) x
 
-      go : PartyOk (sceneOf m (i .ghost) b) (h .number) (partyAt (m .parties) (h .number)) → Found (m .root .parties) (canMove b m)
-      go (resting _ n _ _) = absurd (false≢true (sym (ap isEntered n) ∙ h .passes))
-      go (working e k x) = from (working-stands (h .number) (h .below) e k x)
+      go : PartyOk (sceneOf m (i .ghost) b) (h .number) (partyAt ps (h .number)) → (partyAt ps (h .number) ≡ idle) ⊎ LeadsTo (h .number) → Found (r .parties) (canMove b m)
+      go (resting _ n _ _) x = absurd (false≢true (sym (ap isEntered n) ∙ h .passes))
+      go (working e k y) (inr x) = from x
+      go (working e k y) (inl z) = absurd (operation-some (e .operation) (partyAt ps (h .number) .operation) (k .same-operation) (ap (λ (p : Party). p .operation) z))
 
 -- PROGRESS: if operations are under way, at least one of them would answer moved or done if its step came next.
 pub progress-holds : StepsKept → (m : Memory) (b : Book) → Inv m b → progresses (m .root .parties) b m ≡ true

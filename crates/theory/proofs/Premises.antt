@@ -1,14 +1,16 @@
 -- What stands left of an arrow in the demands is met.
 -- Main statements: begin-met (at rest, every party's begin is accepted); withdraw-met (and its withdraw then), so
 -- restored-met (all is then what it was before begin); rest-met (nobody is under way before the first call; nor after
--- an operation run alone, by RunSingly); begin-leaves, withdraw-leaves, step-leaves (the map). Formatted memory is a
--- start (formatted-start of TakenUp); that a list of operations is for parties that there are, and that memories differ
--- on shut pages, is in Refutations.
+-- an operation run alone, by RunSingly); begin-leaves, withdraw-leaves, step-leaves (the map); waits-met, stays-met, so
+-- overtaken-met, want-met, passed-met, ledger-met, again-met (a party that waits). Formatted memory is a start
+-- (formatted-start of TakenUp); that a list of operations is for parties that there are, and that memories differ on
+-- shut pages, is in Refutations.
 use mathlib.Core.Path.{_≡_, refl, ap, _∙_}
 use mathlib.Core.Logic.{_≢_}
 use mathlib.Core.Bool.{true, false, cond, and-false}
 use mathlib.Core.List.{List, [], _∷_, _++_}
-use Prim.Native.Nat.{ℕ, _<_}
+use mathlib.Core.Option.{some}
+use Prim.Native.Nat.{ℕ, _+_, _≤_, _<_}
 use native.Mathlib.Omega.{arith}
 use Rattle.model.specs.declared.Operation.{Operation}
 use Rattle.model.specs.declared.Operation.the-variants as Operation
@@ -16,11 +18,15 @@ use Rattle.model.specs.declared.BeginAnswer.{BeginAnswer}
 use Rattle.model.specs.declared.BeginAnswer.the-variants as BeginAnswer
 use Rattle.model.specs.declared.WithdrawAnswer.{WithdrawAnswer}
 use Rattle.model.specs.declared.WithdrawAnswer.the-variants as WithdrawAnswer
+use Rattle.model.specs.declared.StepAnswer.the-variants as StepAnswer
+use Rattle.model.specs.Sizes.{withinLimits}
 use Rattle.model.specs.Records.{begun}
 use Rattle.model.specs.Answers.{operationNumber, settingGiven, performs}
 use Rattle.model.specs.Memory.{Memory, partyAt}
 use Rattle.model.specs.Refusals.{decidedRefusal}
 use Rattle.model.specs.Withdraw.{isDecided}
+use Rattle.model.specs.WaitingRow.{allZero}
+use Rattle.model.specs.Holds.{wantedBy}
 use Rattle.model.specs.Calls.{Called, called, beginCall, withBegun, stepCall, withdrawCall}
 use Rattle.model.specs.Runs.{Call, beginFor, stepFor, withdrawFor, Event, eventOf, replyTo, afterCall, events, finalMemory}
 use Rattle.model.specs.Book.{Book, changedAt, enter, afterBegin, bookAfter, bookAtEnd}
@@ -28,6 +34,7 @@ use Rattle.model.specs.Progress.{isEntered, underWay}
 use Rattle.theory.specs.Singly.{Wanted, stepsOf}
 use Rattle.theory.specs.Demands.{Start, start, sizesOf, bookStart, Reached, bookReached, AtRest}
 use Rattle.theory.specs.Withdrawals.{callsBegun, callsWithdrawn, atWithdraw, recordThere, MapStays, WithdrawalsRight}
+use Rattle.theory.specs.Overtaking.{waitStays, WaitsFor, NobodyOvertaken, SameWant, passesBy, passesAll, PassedOnce, RowIsLedger, WaitsAgain, RestsClear}
 use Rattle.model.proofs.Laws.Lists.{eqb-same, eqb-diff}
 use Rattle.model.proofs.Effects.Kept.{row-same}
 use Rattle.model.proofs.Theorems.Meanings.{decided-find, decided-insert, decided-delete}
@@ -36,7 +43,10 @@ use Rattle.theory.proofs.SizesStay.{reached-limits}
 use Rattle.theory.proofs.Singly.Given.{start-rests}
 use Rattle.theory.proofs.Singly.Run.{begins}
 use Rattle.theory.proofs.Restored.{restored}
+use Rattle.theory.proofs.TakenUp.{formatted-start}
+use Rattle.theory.proofs.Refutations.Opened.{opened}
 use Rattle.theory.proofs.Refutations.Events.{writes-begin, writes-step, writes-withdraw}
+use Rattle.theory.proofs.Refutations.Overtaking.{sizes, early, chain, waited}
 
 -- ---- The book after two lists of calls
 
@@ -112,3 +122,50 @@ module _ (s : Start) (cs : List Call) (w : WithdrawalsRight s cs) (q : ℕ) wher
   step-leaves d =
       w .map-stays (stepFor q)
       (writes-step (Reached s cs) q ∙ rw (eqb-diff (partyAt (Reached s cs .parties) q .step) 11 d) (and-false (performs (stepCall (Reached s cs) q .answer))))
+
+-- ---- Somebody waits: the run of Refutations/Overtaking, from formatted memory
+
+three-fit : withinLimits sizes ≡ true
+unfolding opened
+three-fit = refl
+
+abbrev three : Start
+three = formatted-start (record { originals = 1; capacity = 1; primaries = 1; overflow = 0; parties = 3; fit = three-fit })
+
+-- Party 1 waits for the chain; then party 0 gives it up.
+abbrev upTo : List Call
+upTo = early ++ waited
+
+abbrev release : List Call
+release = withdrawFor 0 ∷ []
+
+waits-met : WaitsFor three upTo 1 chain
+unfolding opened formatted-start
+waits-met = record { waits = refl; wanted = refl }
+
+stays-met : waitStays 1 (events (Reached three upTo) release) ≡ true
+unfolding opened formatted-start
+stays-met = refl
+
+overtaken-met : NobodyOvertaken three upTo release 1 2 chain chain → stepCall (Reached three (upTo ++ release)) 2 .answer ≡ StepAnswer.Waiting
+unfolding opened formatted-start
+overtaken-met n = n .waits-too waits-met refl stays-met refl refl refl
+
+want-met : SameWant three upTo release 1 chain → wantedBy (sizesOf three) (Reached three (upTo ++ release)) 1 ≡ some chain
+want-met w = w .same waits-met stays-met
+
+passed-met : PassedOnce three upTo release 1 chain
+    → (passesBy (sizesOf three) chain 2 (Reached three upTo) release ≤ 1) × (passesAll (sizesOf three) chain (Reached three upTo) release + 1 ≤ sizesOf three .parties)
+passed-met p = (p .once waits-met stays-met 2, p .in-all waits-met stays-met)
+
+ledger-met : RowIsLedger three upTo → Reached three upTo .waiting ≡ 2 ∷ 0 ∷ 0 ∷ []
+unfolding opened formatted-start
+ledger-met r = r .row-is
+
+again-met : WaitsAgain three upTo 1 → stepCall (Reached three upTo) 1 .memory ≡ Reached three upTo
+unfolding opened formatted-start
+again-met w = w .again (waits-met .waits) refl
+
+pub clear-met : (s : Start) → RestsClear s [] → allZero (start s .waiting) ≡ true
+unfolding finalMemory
+clear-met s r = r .clear (rest-met s)

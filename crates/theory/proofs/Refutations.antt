@@ -12,4 +12,5 @@ pub mod TwoCalls
 pub mod Reads
 pub mod Yardstick
 pub mod Orders
+pub mod Overtaking
 pub mod Demands

@@ -11,6 +11,7 @@ use Prim.Native.Nat.{ℕ, zero, suc, _≤_, _<_}
 use native.Mathlib.Omega.{arith}
 use lib.ListN.{List·getD-eq-default}
 use lib.Dec.{eqb}
+use Rattle.model.specs.WaitingRow.{rowWithout}
 use Rattle.model.specs.declared.Party.{Party}
 use Rattle.model.specs.declared.Operation.{Operation}
 use Rattle.model.specs.declared.StepAnswer.{StepAnswer}
@@ -25,7 +26,7 @@ use Rattle.model.specs.Answers.{performs}
 use Rattle.model.specs.Outcome.{View, Outcome, guarded}
 use Rattle.model.specs.LockRequests.{heldAll, chainLock}
 use Rattle.model.specs.ScratchPages.{scratchOf}
-use Rattle.model.specs.Memory.{Memory, partyAt, viewOf, afterStep}
+use Rattle.model.specs.Memory.{Memory, partyAt, viewOf, afterStep, withWaiting}
 use Rattle.model.specs.Withdraw.{isDecided}
 use Rattle.model.specs.Calls.{Called, called, stepped, stepCall, beginCall, withdrawCall}
 use Rattle.model.specs.Runs.{Call, beginFor, stepFor, withdrawFor, afterCall, finalMemory}
@@ -47,7 +48,7 @@ use Rattle.model.proofs.Theorems.Gate.{undecided, withdraw-ready}
 use Rattle.model.proofs.Theorems.Calls.{within-limits, lengths-fit, operation-some, call-kept}
 use Rattle.model.proofs.Theorems.AllSteps.{steps-kept}
 use Rattle.model.proofs.Withdrawing.Undone.{undone-built, decided-late, decided-ninth}
-use Rattle.model.proofs.Withdrawing.Memory.{undoneMemory, begun-undone, StepUndone, decided, same-left, step-undone}
+use Rattle.model.proofs.Withdrawing.Memory.{undoneMemory, begun-undone, StepUndone, decided, same-left, step-undone, row-undone, row-only-undone}
 use Rattle.theory.proofs.Reached.{reached-inv, final-append}
 use Rattle.theory.proofs.LockTrades.{step-trades}
 use Rattle.theory.proofs.Alters.{begun-not-refused, nothing-altered}
@@ -102,6 +103,12 @@ module _ (m₀ m : Memory) (b : Book) (i : Inv m b) (q : ℕ) where
   stays-put : stepCall m q .memory ≡ m → Revocable m₀ m q → Revocable m₀ (stepCall m q .memory) q
   stays-put e x = subst (λ (t : Memory). Revocable m₀ t q) (sym e) x
 
+  -- One that leaves all but the row, and the row but for the party.
+  stays-row : (row : List ℕ) → rowWithout q row ≡ rowWithout q (m .waiting) → Revocable m₀ m q → Revocable m₀ (withWaiting row m) q
+  stays-row row s (over e) = over e
+  stays-row row s (past d) = past d
+  stays-row row s (leads-back u) = leads-back (row-only-undone m q row s ∙ u)
+
   module _ (in-row : q < m .root .parties) (e : Entered) (k : Busy (sceneOf m (i .ghost) b) q (partyAt (m .parties) q) e)
       (f : factsAt (partyAt (m .parties) q .step) (sceneOf m (i .ghost) b) q (partyAt (m .parties) q) e) (call : stepCall m q ≡ stepped m q) where
     abbrev number : ℕ
@@ -136,7 +143,9 @@ module _ (m₀ m : Memory) (b : Book) (i : Inv m b) (q : ℕ) where
     from-eleven l x = go (later-at number l (viewOf m q))
       where
         go : Later (viewOf m q) out → Revocable m₀ (stepCall m q .memory) q
-        go (stays n) = stays-put (nothing-altered m q (ap (λ (c : Called StepAnswer). performs (c .answer)) call ∙ n)) x
+        go (stays n) =
+            subst (λ (t : Memory). Revocable m₀ t q) (sym (nothing-altered m q (ap (λ (c : Called StepAnswer). performs (c .answer)) call ∙ n)))
+            (stays-row _ (row-undone turn (stepCall m q .answer) (sym (ap (λ (c : Called StepAnswer). c .answer) call))) x)
         go (goes _ h _) = then-past (inl h)
         go (ends _ _ s) = over (record-then ∙ s)
 
@@ -238,7 +247,7 @@ module _ (s : Start) (cs : List Call) (x : Wanted) (n : ℕ) where
       absurd (false≢true (subst (λ (p : Party). hasStep (p .operation) (p .step) ≡ true) e (withdraw-ready there q z .step-fits)))
   back-then (past d) (let-through xs z _ _ _ _) w = absurd (not-both (isDecided (partyAt (there .parties) q)) d (undecided there q z))
   back-then (leads-back u) (let-through xs z built _ _ c) w =
-      ap (λ (y : Called WithdrawAnswer). y .memory) c ∙ ap (afterStep there) (sym (undone-built (viewOf there q) xs built)) ∙ u
+      ap (λ (y : Called WithdrawAnswer). y .memory) c ∙ ap (λ (v : View). withWaiting (rowWithout q (there .waiting)) (afterStep there v)) (sym (undone-built (viewOf there q) xs built)) ∙ u
 
   withdrawn-memory : Reached s (cs ++ callsWithdrawn x n) ≡ withdrawCall there q .memory
   unfolding finalMemory afterCall

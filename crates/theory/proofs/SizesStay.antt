@@ -119,4 +119,4 @@ sized-root z r l = sym (λ i. record {
 })
 
 pub sized-same : (z : Root) (m : Memory) → SameLimits z (m .root) → sizedMemory z m ≡ m
-sized-same z m l = λ i. record { root = sized-root z (m .root) l i; parties = m .parties; locks = m .locks; pages = m .pages }
+sized-same z m l = λ i. record { root = sized-root z (m .root) l i; parties = m .parties; locks = m .locks; pages = m .pages; waiting = m .waiting }

@@ -49,7 +49,7 @@ module _ (m : Memory) (b : Book) (i : Inv m b) where
       there h (working e k f) =
           under-way h e k f
           (step-order m q .none (within-limits (m .root) (i .limits)) (lengths-fit m b i) h (operation-some (e .operation) (partyAt (m .parties) q .operation) (k .same-operation))
-          (record-sound (m .root) (partyAt (m .parties) q) (root-sound m b i) (party-sound m b i q h (partyAt (m .parties) q) e k)))
+          (record-sound (m .root) (partyAt (m .parties) q) (root-sound m b i) (party-sound m b i q h (partyAt (m .parties) q) e k)) (i .row-ok .sound))
 
       go : Ord q (m .root .parties) → Met m b i q
       go (ge h _) =

@@ -13,6 +13,7 @@ use native.Mathlib.Omega.{arith}
 use lib.ListN.{length, length-set}
 use lib.Seq.{set-getD}
 use lib.Dec.{eqb}
+use Rattle.model.specs.WaitingRow.{rowLeft, rowWithout}
 use Rattle.model.specs.declared.Party.{Party}
 use Rattle.model.specs.declared.WithdrawAnswer.{WithdrawAnswer}
 use Rattle.model.specs.declared.WithdrawAnswer.the-variants as WithdrawAnswer
@@ -27,7 +28,7 @@ use Rattle.model.specs.LockRequests.{heldAll}
 use Rattle.model.specs.ScratchPages.{scratchOf}
 use Rattle.model.specs.Claims.{claims}
 use Rattle.model.specs.Withdraw.{isDecided, builtPages, takenBackSoundly, Withdrawal, withdrawal, withdrawn}
-use Rattle.model.specs.Memory.{Memory, partyAt, viewOf, afterStep}
+use Rattle.model.specs.Memory.{Memory, partyAt, viewOf, afterStep, withWaiting}
 use Rattle.model.specs.Refusals.{firstCause, lengthsFit, withdrawRows}
 use Rattle.model.specs.Calls.{Called, called, withdrawnFrom, withdrawCall}
 use Rattle.model.specs.Book.{Book, Entered}
@@ -54,14 +55,14 @@ use Rattle.theory.proofs.UnderWay.{Met, no-party, nothing-begun, under-
 pub data WithdrawTested (m : Memory) (q : ℕ) : Type 0 where
   turned-away : (n : ℕ) → withdrawCall m q ≡ called (WithdrawAnswer.Refused n) m → WithdrawTested m q
   let-through : (xs : List ℕ) → firstCause (withdrawRows m q) ≡ 0 → builtPages (viewOf m q) ≡ sound xs → heldAll (viewOf m q) (claims (m .root) (partyAt (m .parties) q)) ≡ true
-      → roomToGiveBack (m .root) (length xs) ≡ true → withdrawCall m q ≡ called WithdrawAnswer.Withdrawn (afterStep m (leftBy (viewOf m q) xs)) → WithdrawTested m q
+      → roomToGiveBack (m .root) (length xs) ≡ true → withdrawCall m q ≡ called WithdrawAnswer.Withdrawn (withWaiting (rowWithout q (m .waiting)) (afterStep m (leftBy (viewOf m q) xs))) → WithdrawTested m q
 
 -- A call that leaves the view leaves the memory.
 same-memory : (m : Memory) (q : ℕ) → afterStep m (viewOf m q) ≡ m
-same-memory m q = ap (λ (ps : List Party). record { root = m .root; parties = ps; locks = m .locks; pages = m .pages }) (set-getD (m .parties) q idle)
+same-memory m q = ap (λ (ps : List Party). record { root = m .root; parties = ps; locks = m .locks; pages = m .pages; waiting = m .waiting }) (set-getD (m .parties) q idle)
 
 pub withdraw-tested : (m : Memory) (q : ℕ) → WithdrawTested m q
-unfolding withdrawnFrom withdrawn takenBackSoundly
+unfolding withdrawnFrom withdrawn takenBackSoundly rowLeft
 withdraw-tested m q = go (cmp (firstCause (withdrawRows m q)) 0)
   where
     v : View
@@ -71,8 +72,8 @@ withdraw-tested m q = go (cmp (firstCause (withdrawRows m q)) 0)
     cs = claims (m .root) (partyAt (m .parties) q)
 
     -- Past the rows: what the call is where its own tests have this outcome.
-    call-is : firstCause (withdrawRows m q) ≡ 0 → (o : Withdrawal) → withdrawn v ≡ o → withdrawCall m q ≡ called (o .answer) (afterStep m (o .after))
-    call-is z o e = withdraw-accepted m q z ∙ ap (λ (x : Withdrawal). called (x .answer) (afterStep m (x .after))) e
+    call-is : firstCause (withdrawRows m q) ≡ 0 → (o : Withdrawal) → withdrawn v ≡ o → withdrawCall m q ≡ called (o .answer) (withWaiting (rowLeft q (m .waiting) (o .answer)) (afterStep m (o .after)))
+    call-is z o e = withdraw-accepted m q z ∙ ap (λ (x : Withdrawal). called (x .answer) (withWaiting (rowLeft q (m .waiting) (x .answer)) (afterStep m (x .after)))) e
 
     harmed : firstCause (withdrawRows m q) ≡ 0 → withdrawn v ≡ withdrawal (WithdrawAnswer.Refused damage) v → WithdrawTested m q
     harmed z e = turned-away damage (call-is z _ e ∙ ap (called (WithdrawAnswer.Refused damage)) (same-memory m q))
@@ -111,7 +112,7 @@ pub withdrawn-not-refused : (n : ℕ) → WithdrawAnswer.Withdrawn ≢ WithdrawA
 withdrawn-not-refused n e = let z : _≡_ {A = ℕ} 0 1 = cc in omega arith
 
 module _ (m : Memory) (q : ℕ) (xs : List ℕ) (none : firstCause (withdrawRows m q) ≡ 0) (built : builtPages (viewOf m q) ≡ sound xs)
-    (call : withdrawCall m q ≡ called WithdrawAnswer.Withdrawn (afterStep m (leftBy (viewOf m q) xs))) where
+    (call : withdrawCall m q ≡ called WithdrawAnswer.Withdrawn (withWaiting (rowWithout q (m .waiting)) (afterStep m (leftBy (viewOf m q) xs)))) where
   fits : q < length (m .parties)
   fits = omega (arith, withdraw-row-fits m q none, withdraw-ready m q none .number-fits)
 
@@ -130,7 +131,7 @@ module _ (m : Memory) (q : ℕ) (xs : List ℕ) (none : firstCause (withdrawRows
   has-scratch : Has given (scratchPage (m .root) q)
   has-scratch = record { fits = omega (arith, back-long, withdraw-ready m q none .pages-fit, withdraw-ready m q none .number-fits) }
 
-  then-is : withdrawCall m q .memory ≡ afterStep m (leftBy (viewOf m q) xs)
+  then-is : withdrawCall m q .memory ≡ withWaiting (rowWithout q (m .waiting)) (afterStep m (leftBy (viewOf m q) xs))
   then-is = ap (λ (c : Called WithdrawAnswer). c .memory) call
 
   pub withdraws : Withdraws m q
@@ -141,6 +142,7 @@ module _ (m : Memory) (q : ℕ) (xs : List ℕ) (none : firstCause (withdrawRows
     as-many = ap (λ (u : Memory). length (u .parties)) then-is ∙ length-set (m .parties) q idle;
     root = rw then-is refl;
     locks = ap (λ (u : Memory). u .locks) then-is;
+    waiting = ap (λ (u : Memory). u .waiting) then-is;
     scratch = ap (λ (u : Memory). pageOf (u .pages) (scratchPage (m .root) q)) then-is ∙ page-same given (scratchPage (m .root) q) zeroPage has-scratch length-zeroPage;
     elsewhere = λ x n h.
         ap (λ (u : Memory). pageOf (u .pages) x) then-is ∙ page-other given (scratchPage (m .root) q) zeroPage has-scratch length-zeroPage x n
@@ -192,7 +194,7 @@ module _ (m : Memory) (b : Book) (i : Inv m b) where
           taken-back h e k t d
           (ap (λ (c : Called WithdrawAnswer). c .answer)
           (withdraw-order m q .none limits lengths h (operation-some (e .operation) (partyAt (m .parties) q .operation) (k .same-operation)) d
-          (record-sound (m .root) (partyAt (m .parties) q) (root-sound m b i) (party-sound m b i q h (partyAt (m .parties) q) e k)))
+          (record-sound (m .root) (partyAt (m .parties) q) (root-sound m b i) (party-sound m b i q h (partyAt (m .parties) q) e k)) (i .row-ok .sound))
           ∙ withdraw-kept t d .accepted)
 
       go : Met m b i q → WithdrawMet m b i q

@@ -86,7 +86,7 @@ pub record ScheduleRight (s : Start) (cs : List Call) : Type 0 where
 
 -- Demand 2, grants and refusals, for one list.
 pub record GrantsRight (s : Start) (cs : List Call) : Type 0 where
-  pub grants : grantsRight (sizesOf s) (bookStart s) [] (start s) cs ≡ true
+  pub grants : grantsRight (sizesOf s) (bookStart s) [] [] (start s) cs ≡ true
 
 -- Nobody is under way: every operation begun is answered.
 abbrev pub AtRest : Book → Type 0

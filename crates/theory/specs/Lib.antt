@@ -7,6 +7,7 @@ pub mod Singly
 pub mod Reads
 pub mod FittingMerges
 pub mod Demands
+pub mod Overtaking
 pub mod CallsBounded
 pub mod Linearization
 pub mod Settings

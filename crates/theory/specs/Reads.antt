@@ -67,6 +67,7 @@ pub record DiffersOutside (xs : List ℕ) (m m′ : Memory) : Type 0 where
   pub root= : m′ .root ≡ m .root
   pub parties= : m′ .parties ≡ m .parties
   pub locks= : m′ .locks ≡ m .locks
+  pub waiting= : m′ .waiting ≡ m .waiting
   pub length= : length (m′ .pages) ≡ length (m .pages)
   pub open= : (x : ℕ) → isOpen (m .root) xs x ≡ true → pageOf (m′ .pages) x ≡ pageOf (m .pages) x
 
@@ -81,6 +82,7 @@ pub record ReadAlike {A : Type 0} (xs : List ℕ) (m m′ : Memory) (c c′ : Ca
   pub root= : c′ .memory .root ≡ c .memory .root
   pub parties= : c′ .memory .parties ≡ c .memory .parties
   pub locks= : c′ .memory .locks ≡ c .memory .locks
+  pub waiting= : c′ .memory .waiting ≡ c .memory .waiting
   pub length= : length (c′ .memory .pages) ≡ length (c .memory .pages)
   pub open= : (x : ℕ) → isOpen (m .root) xs x ≡ true → pageOf (c′ .memory .pages) x ≡ pageOf (c .memory .pages) x
   pub shut-kept : (x : ℕ) → isOpen (m .root) xs x ≡ false → pageOf (c .memory .pages) x ≡ pageOf (m .pages) x

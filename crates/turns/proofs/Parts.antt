@@ -1,6 +1,6 @@
 -- Text in a buffer: parts of it, and the start of an unfinished line, which is moved to the front and may be cut.
--- Main statements: drop-take, part-drop, part-length, part-front, part-none; kept-more (one byte more moved); cut-kept
--- (an unfinished line may be cut).
+-- Main statements: drop-take, part-drop, part-length, part-front, part-none, part-byte; kept-more (one byte more moved);
+-- cut-kept (an unfinished line may be cut).
 use mathlib.Core.Path.{_≡_, refl, sym, _∙_, ap}
 use mathlib.Core.Bool.{Bool, true, false, cond}
 use mathlib.Core.List.{List, [], _∷_, _++_, append-nil}
@@ -35,6 +35,15 @@ part-front b to = let same : to - 0 ≡ to = omega arith in ap (λ (n : ℕ). ta
 
 pub part-none : (b : List ℕ) (to : ℕ) → part b to to ≡ []
 part-none b to = let none : to - to ≡ 0 = omega arith in ap (λ (n : ℕ). take n (drop to b)) none
+
+-- A byte put at a place stands there.
+byte-there : (b : List ℕ) (k x : ℕ) → k < length b → take 1 (drop k (set b k x)) ≡ x ∷ []
+byte-there [] k x h = absurd (not-suc-le-zero h)
+byte-there (y ∷ b) zero x h = refl
+byte-there (y ∷ b) (suc k) x h = byte-there b k x (le-of-suc-le-suc h)
+
+pub part-byte : (b : List ℕ) (k x : ℕ) → k < length b → part (set b k x) k (k + 1) ≡ x ∷ []
+part-byte b k x h = let one : k + 1 - k ≡ 1 = omega arith in ap (λ (n : ℕ). take n (drop k (set b k x))) one ∙ byte-there b k x h
 
 -- Bytes moved to the front, one after the other: n of them stand there, and what lies behind is as it was.
 pub kept-more : (b₀ b : List ℕ) (from n x : ℕ) → from + n < length b₀ → length b ≡ length b₀ → x ≡ getD b (from + n) 0 → take n b ≡ take n (drop from b₀) → drop n b ≡ drop n b₀

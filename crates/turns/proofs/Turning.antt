@@ -1,8 +1,7 @@
 -- A turn, and turns one after the other: what is printed and held is what the definition says of all the text read,
 -- whatever the blocks were.
 -- Main statements: rest-answered, none-answered (lines of a part); more-answered, read-answered (a turn without and
--- with a read); Turned, text-answered, all-answered
--- (turns one after the other).
+-- with a read); replies-told (what is written); Turned, text-answered, all-answered (turns one after the other).
 use mathlib.Core.Path.{_≡_, refl, sym, _∙_, ap}
 use mathlib.Core.List.{List, [], _++_, append-nil, append-assoc}
 use Prim.Native.Nat.{ℕ, _+_, _-_, min, _≤_}
@@ -13,7 +12,7 @@ use Rattle.model.specs.Calls.{called}
 use Rattle.held.proofs.Ends.{first-of}
 use Rattle.lines.specs.Texts.{lineLength, printedBefore, textAnswered}
 use Rattle.lines.proofs.Texts.{no-line}
-use Rattle.turns.specs.Turned.{part, mostKept, AnsweredTo}
+use Rattle.turns.specs.Turned.{part, mostKept, AnsweredTo, RepliesTo}
 use Rattle.turns.proofs.Parts.{drop-take, part-drop, part-length, part-front, part-none, cut-kept}
 
 -- Lines of a part were answered as far as its byte j.
@@ -53,6 +52,15 @@ module _ (b₀ b₁ b : List ℕ) (from to k end : ℕ) (inside : (from ≤ to) 
       ∙ ap (λ (l : List ℕ). textAnswered [] (l ++ t) m) whole
       ∙ said t
 
+-- What is printed where no whole line is left: what the definition says of the text.
+pub replies-told : {u printed v : List ℕ} {n : Memory} (g : RepliesTo u printed v n) → length v ≤ lineLength v → textAnswered [] u (g .before) ≡ called printed n
+replies-told {u} {printed} {v} {n} g h =
+    ap (λ (l : List ℕ). textAnswered [] l (g .before)) (sym (append-nil u))
+    ∙ g .answered []
+    ∙ ap (λ (l : List ℕ). printedBefore printed (textAnswered [] l n)) (append-nil v)
+    ∙ ap (printedBefore printed) (no-line [] v n h)
+    ∙ ap (λ (l : List ℕ). called l n) (append-nil printed)
+
 -- ---- Turns one after the other
 
 -- From memory m₀, turns read `text` in all and printed `printed`; v is not yet answered, and memory is n. Each turn
@@ -72,9 +80,4 @@ text-answered {m₀} (turned {text} {printed} {v} {n} g w p v′ n′ said) t =
 
 -- Once no whole line is left, what was printed and what is held is what the definition says of the text read.
 pub all-answered : {m₀ n : Memory} {text printed v : List ℕ} → Turned m₀ text printed v n → length v ≤ lineLength v → textAnswered [] text m₀ ≡ called printed n
-all-answered {m₀} {n} {text} {printed} {v} g h =
-    ap (λ (l : List ℕ). textAnswered [] l m₀) (sym (append-nil text))
-    ∙ text-answered g []
-    ∙ ap (λ (l : List ℕ). printedBefore printed (textAnswered [] l n)) (append-nil v)
-    ∙ ap (printedBefore printed) (no-line [] v n h)
-    ∙ ap (λ (l : List ℕ). called l n) (append-nil printed)
+all-answered {m₀} {n} {text} {printed} {v} g h = replies-told (record { before = m₀; answered = text-answered g }) h

@@ -1,5 +1,6 @@
 -- Text that stands in a buffer, and what it means that it was answered as far as another.
--- Main definitions: part, AnsweredTo. That turns one after the other answer the whole text: proofs/Turning.antt.
+-- Main definitions: part, AnsweredTo, RepliesTo. That turns one after the other answer the whole text:
+-- proofs/Turning.antt.
 use mathlib.Core.Path.{_≡_}
 use mathlib.Core.List.{List, [], _++_}
 use Prim.Native.Nat.{ℕ, _+_, _-_}
@@ -20,3 +21,8 @@ part b from to = take (to - from) (drop from b)
 -- printed that the definition prints for u and it, and memory is then the same.
 abbrev pub AnsweredTo : List ℕ → Memory → List ℕ → List ℕ → Memory → Type 0
 AnsweredTo u m printed v n = (t : List ℕ) → textAnswered [] (u ++ t) m ≡ printedBefore printed (textAnswered [] (v ++ t) n)
+
+-- The bytes `printed` answer the text u as far as v, from the memory before, which is not held any more; memory is n.
+pub record RepliesTo (u printed v : List ℕ) (n : Memory) : Type 0 where
+  pub before : Memory
+  pub answered : AnsweredTo u before printed v n

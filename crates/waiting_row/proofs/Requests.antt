@@ -35,7 +35,7 @@ barred-strength : (b : Bool) (c : Claim) → strengthIn (cond b none (some c)) �
 barred-strength true c = refl
 barred-strength false c = refl
 
-none-some : {c : Claim} → none ≡ some c → ⊥
+pub none-some : {c : Claim} → none ≡ some c → ⊥
 unfolding isSome
 none-some e = false≢true (ap isSome e)
 

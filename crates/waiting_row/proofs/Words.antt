@@ -1,7 +1,7 @@
 -- The row's words: those or-ed, the first that is sought, one put in place of the first 0, one taken out.
 -- Main statements: zero-next (words or-ed one by one), eight-zero and ends-meet (a look from each end); first-next,
 -- first-end (the search); appended-at, appended-none; without-at, without-none; moved-up (the last turn of the loop
--- that moves words up); after-right, left-right (the row after a call).
+-- that moves words up); after-right (the row after a step).
 use mathlib.Core.Path.{_≡_, refl, sym, ap, _∙_}
 use mathlib.Core.Logic.{_≢_}
 use mathlib.Core.Bool.{Bool, true, false, cond, not, _&&_, _||_, and-assoc, and-true}
@@ -25,7 +25,7 @@ use Rattle.model.specs.declared.WithdrawAnswer.the-variants as WithdrawAnswer
 use Rattle.model.specs.FreeList.{isAmong}
 use Rattle.model.proofs.Laws.Booleans.{eq-of-iff}
 use Rattle.model.proofs.Laws.Lists.{Cmp, same, diff, cmp, eqb-same, eqb-diff, lt-ltb, le-ltb, ltb-true, ltb-false, and-both, both-and, or-neither}
-use Rattle.waiting_row.specs.Entry.{firstOf, rowBy, rowLeftBy}
+use Rattle.waiting_row.specs.Entry.{firstOf, rowBy}
 
 -- ---- Words or-ed
 
@@ -133,6 +133,12 @@ zero-end all row i h = rw (drop-of-length-le row h) (go (eqb all 0))
     go : (t : Bool) → (t && true) ≡ t
     go true = refl
     go false = refl
+
+-- A first word that is not 0.
+pub first-waits : (row : List ℕ) → 0 < length row → getD row 0 0 ≢ 0 → false ≡ allZero row
+unfolding allZero
+first-waits [] h n = absurd (omega arith)
+first-waits (w ∷ ws) h n = rw (eqb-diff w 0 n) refl
 
 -- Two looks or-ed.
 pub both-zero : (a b : ℕ) (x y : Bool) → eqb a 0 ≡ x → eqb b 0 ≡ y → eqb (bitOr a b) 0 ≡ (x && y)
@@ -278,9 +284,9 @@ after-right waits q row StepAnswer.Waiting h known = rw (lt-ltb q 16 h, sym know
     go : (w : Bool) → cond (not w && true) (appended (q + 1) row) row ≡ cond w row (appended (q + 1) row)
     go true = refl
     go false = refl
-after-right waits q row StepAnswer.Moved h known = rw (lt-ltb q 16 h) (go waits known)
+after-right waits q row StepAnswer.Moved h known = go waits known
   where
-    go : (w : Bool) → w ≡ isAmong (q + 1) row → cond (w && true) (rowWithout q row) row ≡ rowWithout q row
+    go : (w : Bool) → w ≡ isAmong (q + 1) row → cond w (rowWithout q row) row ≡ rowWithout q row
     go true e = refl
     go false e = sym (left-absent q row (sym e))
 after-right waits q row (StepAnswer.Done o s) h known = refl
@@ -296,11 +302,11 @@ module _ (q : ℕ) (row : List ℕ) (w : Bool) where
   unfolding rowBy
   by-waits e = rw e refl
 
-  pub by-leaves : (w && ltb q 16) ≡ true → rowWithout q row ≡ rowBy w q row StepAnswer.Moved
+  pub by-leaves : w ≡ true → rowWithout q row ≡ rowBy w q row StepAnswer.Moved
   unfolding rowBy
   by-leaves e = rw e refl
 
-  pub by-moves : (w && ltb q 16) ≡ false → row ≡ rowBy w q row StepAnswer.Moved
+  pub by-moves : w ≡ false → row ≡ rowBy w q row StepAnswer.Moved
   unfolding rowBy
   by-moves e = rw e refl
 
@@ -316,20 +322,10 @@ module _ (q : ℕ) (row : List ℕ) (w : Bool) where
   number-fits t e = ltb-true q 16 (and-both t (ltb q 16) e .1)
 
 module _ (q : ℕ) (row : List ℕ) where
-  pub left-by : q < 16 → rowWithout q row ≡ rowLeftBy q row WithdrawAnswer.Withdrawn
-  unfolding rowLeftBy
-  left-by h = rw (lt-ltb q 16 h) refl
+  pub left-by : rowWithout q row ≡ rowLeft q row WithdrawAnswer.Withdrawn
+  unfolding rowLeft
+  left-by = refl
 
-  pub left-nobody : 16 ≤ q → row ≡ rowLeftBy q row WithdrawAnswer.Withdrawn
-  unfolding rowLeftBy
-  left-nobody h = rw (le-ltb q 16 h) refl
-
-  pub left-refused : (n : ℕ) → row ≡ rowLeftBy q row (WithdrawAnswer.Refused n)
-  unfolding rowLeftBy
+  pub left-refused : (n : ℕ) → row ≡ rowLeft q row (WithdrawAnswer.Refused n)
+  unfolding rowLeft
   left-refused n = refl
-
--- After a withdraw of party q.
-pub left-right : (q : ℕ) (row : List ℕ) (a : WithdrawAnswer) → q < 16 → rowLeftBy q row a ≡ rowLeft q row a
-unfolding rowLeftBy rowLeft
-left-right q row WithdrawAnswer.Withdrawn h = rw (lt-ltb q 16 h) refl
-left-right q row (WithdrawAnswer.Refused n) h = refl

@@ -1,6 +1,6 @@
 -- The row looked at entry by entry, the place of a party in it, and the row's words.
 -- Main definitions: placeOf (where a party stands); lookedAt (one entry more), lookedThrough (all of them), standsOf
--- (what is seen at the end); firstOf (a word sought); rowBy and rowLeftBy (the row after a call).
+-- (what is seen at the end); firstOf (a word sought); rowBy (the row after a step).
 use mathlib.Core.Bool.{Bool, true, false, cond, not, _&&_, _||_}
 use mathlib.Core.List.{List, [], _∷_}
 use mathlib.Core.Option.{Option}
@@ -11,8 +11,6 @@ use Rattle.model.specs.declared.Root.{Root}
 use Rattle.model.specs.declared.Party.{Party}
 use Rattle.model.specs.declared.StepAnswer.{StepAnswer}
 use Rattle.model.specs.declared.StepAnswer.the-variants as StepAnswer
-use Rattle.model.specs.declared.WithdrawAnswer.{WithdrawAnswer}
-use Rattle.model.specs.declared.WithdrawAnswer.the-variants as WithdrawAnswer
 use Rattle.model.specs.Records.{idle}
 use Rattle.model.specs.LockWords.{Claim, fieldOf, withField}
 use Rattle.model.specs.FreeList.{isAmong}
@@ -116,16 +114,11 @@ unfoldable pub firstOf : ℕ → List ℕ → ℕ
 firstOf w [] = 0
 firstOf w (x ∷ xs) = let further = firstOf w xs in cond (eqb x w) 0 (1 + further)
 
--- ---- The row after a call
+-- ---- The row after a step
 
 -- After a step of a party that waits or not. No number above 15 is a party's.
 unfoldable pub rowBy : Bool → ℕ → List ℕ → StepAnswer → List ℕ
 rowBy waits q row StepAnswer.Waiting = cond (not waits && ltb q 16) (appended (q + 1) row) row
-rowBy waits q row StepAnswer.Moved = cond (waits && ltb q 16) (rowWithout q row) row
+rowBy waits q row StepAnswer.Moved = cond waits (rowWithout q row) row
 rowBy waits q row (StepAnswer.Done a s) = row
 rowBy waits q row (StepAnswer.Refused n) = row
-
--- After a withdraw.
-unfoldable pub rowLeftBy : ℕ → List ℕ → WithdrawAnswer → List ℕ
-rowLeftBy q row WithdrawAnswer.Withdrawn = cond (ltb q 16) (rowWithout q row) row
-rowLeftBy q row (WithdrawAnswer.Refused n) = row

@@ -2,8 +2,8 @@
 // row's words.
 // Main statements: strength and word_of are the lock that a party's next step requests; started, looked and placed
 // look at one entry of the row after the other, so that what they leave is placeOf (proofs/Rows.antt, placed-right);
-// gapless and somebody are tests of the row's zeros; after_step and after_withdraw are what the calls do to the row
-// (proofs/Words.antt, after-right and left-right).
+// gapless, clear and somebody are tests of the row's zeros; after_step is what a step does to the row
+// (proofs/Words.antt, after-right), after_withdraw what a withdraw does.
 
 ghost use mathlib.Core.Path.{_≡_};
 ghost use mathlib.Core.Bool.{false, not};
@@ -15,9 +15,9 @@ ghost use lib.ListN.{length, take, drop};
 ghost use Rattle.model.specs.LockWords.{Claim};
 ghost use Rattle.model.specs.Addresses.{countOfChains};
 ghost use Rattle.model.specs.Steps.MergeLocks.{mergeStops, targetOf};
-ghost use Rattle.model.specs.WaitingRow.{waitersIn, allZero, appended, rowWithout};
+ghost use Rattle.model.specs.WaitingRow.{waitersIn, allZero, appended, rowWithout, rowLeft};
 ghost use Rattle.waiting_row.specs.Requested.{strengthIn, asks, strengthsBy, strengthAt, stops};
-ghost use Rattle.waiting_row.specs.Entry.{named, mostOf, firstSeen, lookedAt, placedBy, alone, insideOf, firstOf, rowBy, rowLeftBy};
+ghost use Rattle.waiting_row.specs.Entry.{named, mostOf, firstSeen, lookedAt, placedBy, alone, insideOf, firstOf, rowBy};
 use model::DELETE;
 use model::FIND;
 use model::INSERT;
@@ -288,20 +288,41 @@ pub fn gapless(row: &[u32], from: usize) -> bool
     eight(row, from) | eight(row, n - 8) == 0
 }
 
+// Whether nobody waits: every word is 0. Where somebody does, the first word says so.
+pub fn clear(row: &[u32]) -> bool
+    ensures { λ r. ⌜ r ≡ allZero (now (row .entry)) ⌝ }
+{
+    let n = row.len();
+    if (n < 8) | (16 < n) {
+        return zero_from(row, 0);
+    }
+    if row[0] != 0 {
+        return false;
+    }
+    eight(row, 0) | eight(row, n - 8) == 0
+}
+
 // Whether anybody waits.
 pub fn somebody(row: &[u32]) -> bool
     ensures { λ r. ⌜ r ≡ not (allZero (now (row .entry))) ⌝ }
 {
-    !gapless(row, 0)
+    !clear(row)
+}
+
+// A word of the row as a number that can be compared with any party's plus one.
+fn wide(word: u32) -> u64
+    ensures { λ r. ⌜ r ≡ word ⌝ }
+{
+    word as u64
 }
 
 // The index of the first word that is w; the row's length, where none is.
-fn first(row: &[u32], w: u32) -> usize
+fn first(row: &[u32], w: u64) -> usize
     ensures { λ r. ⌜ r ≡ firstOf w (now (row .entry)) ⌝ }
 {
     let mut i: usize = 0;
     while i < row.len() {
-        if row[i] == w {
+        if wide(row[i]) == w {
             return i;
         }
         i += 1;
@@ -343,10 +364,9 @@ fn join(row: &mut [u32], q: u32)
 
 // Party q leaves: its word out, those behind it move up.
 fn leave(row: &mut [u32], q: u32)
-    requires { ⌜ q < 16 ⌝ }
     ensures { λ _. ⌜ now (row .exit) ≡ rowWithout q (now (row .entry)) ⌝ }
 {
-    let i = first(row, q + 1);
+    let i = first(row, q as u64 + 1);
     if i < row.len() {
         move_up(&mut row[i..]);
     }
@@ -364,7 +384,7 @@ pub fn after_step(row: &mut [u32], waits: bool, q: u32, answer: StepAnswer)
             }
         }
         StepAnswer::Moved => {
-            if waits & (q < MOST_PARTIES) {
+            if waits {
                 leave(row, q);
             }
         }
@@ -373,16 +393,12 @@ pub fn after_step(row: &mut [u32], waits: bool, q: u32, answer: StepAnswer)
     }
 }
 
-// The row after a withdraw of party q that answered so. (left-right: of a party of the file this is rowLeft.)
+// The row after a withdraw of party q that answered so.
 pub fn after_withdraw(row: &mut [u32], q: u32, answer: WithdrawAnswer)
-    ensures { λ _. ⌜ now (row .exit) ≡ rowLeftBy q (now (row .entry)) answer ⌝ }
+    ensures { λ _. ⌜ now (row .exit) ≡ rowLeft q (now (row .entry)) answer ⌝ }
 {
     match answer {
-        WithdrawAnswer::Withdrawn => {
-            if q < MOST_PARTIES {
-                leave(row, q);
-            }
-        }
+        WithdrawAnswer::Withdrawn => leave(row, q),
         WithdrawAnswer::Refused(_) => {}
     }
 }

@@ -1,4 +1,4 @@
-//! What the lent words say of a file at rest, and whether they are as document 01 ("The lent memory") has them: nobody holds a lock, every record and scratch page is
+//! What the lent words say of a file at rest, and whether they are as document 01 ("The lent memory") has them: nobody holds a lock or waits, every record and scratch page is
 //! zero, each chain is packed and ascends by its keys, which are at home, and every overflow page is in one chain or in the free list.
 
 use crate::image::Image;
@@ -20,6 +20,7 @@ pub fn read(image: &Image, sizes: [u32; 5]) -> Outcome<File> {
     let space = tested_space(&root, sizes)?;
     test_zero("a lock word", &image.locks)?;
     test_zero("a record", &image.parties)?;
+    test_zero("who waits", &image.row)?;
     let mut owned = vec![false; root.overflow_pages as usize];
     let chains = (0..space.chains()).map(|chain| chain_records(image, &space, chain, &mut owned));
     let chains = chains.collect::<Outcome<Vec<_>>>()?;

@@ -70,6 +70,7 @@ pub fn failing(image: &Image) -> Vec<Condition> {
         parties: &image.party_records(),
         locks: &image.locks,
         pages: read_pages_of(&image.pages),
+        row: &image.row,
     };
     let conditions = CONDITIONS.iter().map(|(condition, _)| *condition);
     conditions
@@ -86,31 +87,35 @@ impl Port {
         call: Call,
     ) -> Reply {
         let (words, locks) = (image.pages.len(), &mut image.locks[..]);
+        let row = &mut image.row[..];
         let pages = pages_of(&mut image.pages);
         match call {
             Call::Format(sizes) => code_reply(code_of(calls::format::<Cause>(
-                root, parties, locks, pages, words, sizes,
+                root, parties, locks, pages, words, row, sizes,
             ))),
             Call::Begin(_, operation, ..) if !(1..=3).contains(&operation) => code_reply(255),
-            Call::Begin(party, operation, key, setting) => code_reply(code_of(
-                calls::begin::<Cause>(root, parties, locks, words, party, operation, key, setting),
-            )),
+            Call::Begin(party, operation, key, setting) => {
+                code_reply(code_of(calls::begin::<Cause>(
+                    root, parties, locks, words, row, party, operation, key, setting,
+                )))
+            }
             Call::Step(party) => {
-                let result = calls::step::<Cause>(root, parties, locks, pages, words, party);
+                let result = calls::step::<Cause>(root, parties, locks, pages, words, row, party);
                 if let Err(Refusal::Damaged(cause)) = result {
                     self.cause = Some(cause);
                 }
                 step_reply(BeadReply::of(result))
             }
             Call::Withdraw(party) => {
-                let result = calls::withdraw::<Cause>(root, parties, locks, pages, words, party);
+                let result =
+                    calls::withdraw::<Cause>(root, parties, locks, pages, words, row, party);
                 if let Err(Refusal::Damaged(cause)) = result {
                     self.cause = Some(cause);
                 }
                 code_reply(code_of(result))
             }
             Call::TakeUp => code_reply(code_of(calls::take_up::<Cause>(
-                root, parties, locks, pages, words,
+                root, parties, locks, pages, words, row,
             ))),
         }
     }

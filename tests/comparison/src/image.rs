@@ -54,8 +54,8 @@ impl DerefMut for Part {
     }
 }
 
-/// The names of the four parts, in the order of `Image::parts`.
-pub const PART_NAMES: [&str; 4] = ["root", "parties", "locks", "pages"];
+/// The names of the five parts, in the order of `Image::parts`.
+pub const PART_NAMES: [&str; 5] = ["root", "parties", "locks", "pages", "row"];
 
 /// The whole lent memory.
 #[derive(Clone, Debug, PartialEq, Eq)]
@@ -64,36 +64,46 @@ pub struct Image {
     pub parties: Part,
     pub locks: Part,
     pub pages: Part,
+    /// Who waits.
+    pub row: Part,
 }
 
 impl Image {
-    /// Memory of zeros with so many party records, lock words and page words.
-    pub fn zero(parties: usize, locks: usize, page_words: usize) -> Image {
+    /// Memory of zeros with so many party records, lock words, page words and words of who waits.
+    pub fn zero(parties: usize, locks: usize, page_words: usize, row: usize) -> Image {
         let zeros = |length| Part::new(&vec![0; length]);
         Image {
             root: zeros(ROOT_WORDS),
             parties: zeros(PARTY_WORDS * parties),
             locks: zeros(locks),
             pages: zeros(page_words),
+            row: zeros(row),
         }
     }
 
     /// Memory of zeros of the lengths that allowed sizes ask for.
     pub fn for_sizes(sizes: [u32; 5]) -> Image {
         let [_, _, p, v, q] = sizes.map(|size| size as usize);
-        Image::zero(q, p + 1, 16 * (p + v + q))
+        Image::zero(q, p + 1, 16 * (p + v + q), q)
     }
 
-    pub fn parts(&self) -> [&Part; 4] {
-        [&self.root, &self.parties, &self.locks, &self.pages]
+    pub fn parts(&self) -> [&Part; 5] {
+        [
+            &self.root,
+            &self.parties,
+            &self.locks,
+            &self.pages,
+            &self.row,
+        ]
     }
 
-    pub fn parts_mut(&mut self) -> [&mut Part; 4] {
+    pub fn parts_mut(&mut self) -> [&mut Part; 5] {
         [
             &mut self.root,
             &mut self.parties,
             &mut self.locks,
             &mut self.pages,
+            &mut self.row,
         ]
     }
 
@@ -155,5 +165,6 @@ impl Image {
         self.parties.copy_from(&other.parties);
         self.locks.copy_from(&other.locks);
         self.pages.copy_from(&other.pages);
+        self.row.copy_from(&other.row);
     }
 }

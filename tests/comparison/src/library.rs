@@ -14,6 +14,8 @@ type Format = unsafe extern "C" fn(
     usize,
     *mut u32,
     usize,
+    *mut u32,
+    usize,
     u32,
     u32,
     u32,
@@ -23,6 +25,8 @@ type Format = unsafe extern "C" fn(
 type Begin = unsafe extern "C" fn(
     *mut Root,
     *mut Party,
+    usize,
+    *mut u32,
     usize,
     *mut u32,
     usize,
@@ -41,6 +45,8 @@ type Step = unsafe extern "C" fn(
     usize,
     *mut u32,
     usize,
+    *mut u32,
+    usize,
     u32,
 ) -> BeadReply;
 type Withdraw = unsafe extern "C" fn(
@@ -51,11 +57,15 @@ type Withdraw = unsafe extern "C" fn(
     usize,
     *mut u32,
     usize,
+    *mut u32,
+    usize,
     u32,
 ) -> u32;
 type TakeUp = unsafe extern "C" fn(
     *const Root,
     *const Party,
+    usize,
+    *const u32,
     usize,
     *const u32,
     usize,
@@ -78,6 +88,8 @@ macro_rules! face {
                     nl: usize,
                     pages: *mut u32,
                     ng: usize,
+                    row: *mut u32,
+                    nr: usize,
                     n: u32,
                     b: u32,
                     p: u32,
@@ -92,6 +104,8 @@ macro_rules! face {
                     nl: usize,
                     pages: *mut u32,
                     ng: usize,
+                    row: *mut u32,
+                    nr: usize,
                     party: u32,
                     operation: u32,
                     key: u32,
@@ -105,6 +119,8 @@ macro_rules! face {
                     nl: usize,
                     pages: *mut u32,
                     ng: usize,
+                    row: *mut u32,
+                    nr: usize,
                     party: u32,
                 ) -> BeadReply;
                 pub fn $withdraw(
@@ -115,6 +131,8 @@ macro_rules! face {
                     nl: usize,
                     pages: *mut u32,
                     ng: usize,
+                    row: *mut u32,
+                    nr: usize,
                     party: u32,
                 ) -> u32;
                 pub fn $take_up(
@@ -125,6 +143,8 @@ macro_rules! face {
                     nl: usize,
                     pages: *const u32,
                     ng: usize,
+                    row: *const u32,
+                    nr: usize,
                 ) -> u32;
             }
         }
@@ -186,22 +206,26 @@ impl Callee for Library {
         let root = image.root.as_mut_ptr().cast::<Root>();
         let parties = image.parties.as_mut_ptr().cast::<Party>();
         let (locks, pages) = (image.locks.as_mut_ptr(), image.pages.as_mut_ptr());
+        let (row, nr) = (image.row.as_mut_ptr(), image.row.len());
         // SAFETY: each pointer is valid for the length handed over beside it.
         unsafe {
             match call {
                 Call::Format([n, b, p, v, q]) => code_reply((self.format)(
-                    root, parties, np, locks, nl, pages, ng, n, b, p, v, q,
+                    root, parties, np, locks, nl, pages, ng, row, nr, n, b, p, v, q,
                 )),
                 Call::Begin(party, operation, key, setting) => code_reply((self.begin)(
-                    root, parties, np, locks, nl, pages, ng, party, operation, key, setting,
+                    root, parties, np, locks, nl, pages, ng, row, nr, party, operation, key,
+                    setting,
                 )),
-                Call::Step(party) => {
-                    step_reply((self.step)(root, parties, np, locks, nl, pages, ng, party))
-                }
+                Call::Step(party) => step_reply((self.step)(
+                    root, parties, np, locks, nl, pages, ng, row, nr, party,
+                )),
                 Call::Withdraw(party) => code_reply((self.withdraw)(
-                    root, parties, np, locks, nl, pages, ng, party,
+                    root, parties, np, locks, nl, pages, ng, row, nr, party,
                 )),
-                Call::TakeUp => code_reply((self.take_up)(root, parties, np, locks, nl, pages, ng)),
+                Call::TakeUp => code_reply((self.take_up)(
+                    root, parties, np, locks, nl, pages, ng, row, nr,
+                )),
             }
         }
     }

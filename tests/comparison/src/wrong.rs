@@ -9,7 +9,7 @@ use bead_port::reply::FOUND;
 /// What is wrong now and then.
 #[derive(Clone, Copy)]
 pub enum Wrong {
-    /// A bit of one of the four lent parts.
+    /// A bit of one of the five lent parts.
     Memory(usize),
     /// A bit of the reply.
     Reply,
@@ -17,10 +17,12 @@ pub enum Wrong {
     Answer,
     /// The setting of a key found.
     Setting,
-    /// From some call on every operation under way waits.
+    /// From some call on every operation under way waits, and joins the row.
     Wait,
-    /// From some call on every operation under way is answered moved, and nothing is altered.
+    /// From some call on, with nobody in the row, every operation under way is answered moved, and nothing is altered.
     Move,
+    /// The same with somebody in the row.
+    Pass,
 }
 
 impl Wrong {
@@ -31,11 +33,25 @@ impl Wrong {
             "setting" => Some(Wrong::Setting),
             "wait" => Some(Wrong::Wait),
             "move" => Some(Wrong::Move),
+            "pass" => Some(Wrong::Pass),
             _ => PART_NAMES
                 .iter()
                 .position(|known| *known == name)
                 .map(Wrong::Memory),
         }
+    }
+}
+
+const WAITING: Reply = [0; 5];
+const MOVED: Reply = [0, 1, 0, 0, 0];
+
+/// A party joins the row, unless it is there or there is no room.
+fn join(row: &mut [u32], party: u32) {
+    if let (false, Some(free)) = (
+        row.contains(&(party + 1)),
+        row.iter().position(|word| *word == 0),
+    ) {
+        row[free] = party + 1;
     }
 }
 
@@ -66,23 +82,41 @@ impl Wronged {
         }
     }
 
-    /// Whether the call is a step of an operation under way.
-    fn is_step(image: &Image, call: Call) -> bool {
-        matches!(call, Call::Step(party) if (party as usize) < image.party_count() && image.party(party).operation != 0)
+    /// Whose step the call is, if it is one of an operation under way.
+    fn stepping(image: &Image, call: Call) -> Option<u32> {
+        match call {
+            Call::Step(q)
+                if (q as usize) < image.party_count() && image.party(q).operation != 0 =>
+            {
+                Some(q)
+            }
+            _ => None,
+        }
+    }
+
+    /// From here on every step of an operation under way is answered so, where the time has come for it.
+    fn get_stuck(&mut self, image: &Image) {
+        let somebody = image.row.iter().any(|word| *word != 0);
+        match self.wrong {
+            Wrong::Wait => self.stuck = Some(WAITING),
+            Wrong::Move if !somebody => self.stuck = Some(MOVED),
+            Wrong::Pass if somebody => self.stuck = Some(MOVED),
+            _ => {}
+        }
     }
 }
 
 impl Callee for Wronged {
     fn call(&mut self, image: &mut Image, call: Call) -> Reply {
         let now = self.random.one_in(ONE_IN);
-        match self.wrong {
-            Wrong::Wait if now => self.stuck = Some([0; 5]),
-            Wrong::Move if now => self.stuck = Some([0, 1, 0, 0, 0]),
-            _ => {}
+        if now && self.stuck.is_none() {
+            self.get_stuck(image);
         }
-        match self.stuck {
-            Some(reply) if Wronged::is_step(image, call) => return reply,
-            _ => {}
+        if let (Some(reply), Some(party)) = (self.stuck, Wronged::stepping(image, call)) {
+            if reply == WAITING {
+                join(&mut image.row, party);
+            }
+            return reply;
         }
         let mut reply = self.library.call(image, call);
         match self.wrong {
@@ -91,7 +125,7 @@ impl Callee for Wronged {
                     .parts_mut()
                     .into_iter()
                     .nth(part)
-                    .expect("one of four parts");
+                    .expect("one of five parts");
                 self.flip(words);
             }
             Wrong::Reply if now => self.flip(&mut reply),

@@ -64,7 +64,8 @@ pub fn pages_of(words: &mut [u32]) -> &mut [Page] {
 }
 
 /// # Safety
-/// Each pointer is valid for its length: nine words at `root`, ten for each of `np` records, `nl` lock words, `ng` page words; none overlap.
+/// Each pointer is valid for its length: nine words at `root`, ten for each of `np` records, `nl` lock words, `ng` page words, `nr` words of who waits; none
+/// overlap.
 #[cfg_attr(feature = "c-names", no_mangle)]
 pub unsafe extern "C" fn bead_format(
     root: *mut Root,
@@ -74,6 +75,8 @@ pub unsafe extern "C" fn bead_format(
     nl: usize,
     pages: *mut u32,
     ng: usize,
+    row: *mut u32,
+    nr: usize,
     n: u32,
     b: u32,
     p: u32,
@@ -83,12 +86,14 @@ pub unsafe extern "C" fn bead_format(
     let parties = std::slice::from_raw_parts_mut(parties, np);
     let locks = std::slice::from_raw_parts_mut(locks, nl);
     let pages = pages_of(std::slice::from_raw_parts_mut(pages, ng));
+    let row = std::slice::from_raw_parts_mut(row, nr);
     code_of(calls::format::<Unnamed>(
         &mut *root,
         parties,
         locks,
         pages,
         ng,
+        row,
         [n, b, p, v, q],
     ))
 }
@@ -105,6 +110,8 @@ pub unsafe extern "C" fn bead_begin(
     nl: usize,
     _pages: *mut u32,
     ng: usize,
+    row: *mut u32,
+    nr: usize,
     party: u32,
     operation: u32,
     key: u32,
@@ -115,8 +122,9 @@ pub unsafe extern "C" fn bead_begin(
     }
     let parties = std::slice::from_raw_parts_mut(parties, np);
     let locks = std::slice::from_raw_parts(locks, nl);
+    let row = std::slice::from_raw_parts(row, nr);
     code_of(calls::begin::<Unnamed>(
-        &*root, parties, locks, ng, party, operation, key, setting,
+        &*root, parties, locks, ng, row, party, operation, key, setting,
     ))
 }
 
@@ -131,13 +139,16 @@ pub unsafe extern "C" fn bead_step(
     nl: usize,
     pages: *mut u32,
     ng: usize,
+    row: *mut u32,
+    nr: usize,
     party: u32,
 ) -> BeadReply {
     let parties = std::slice::from_raw_parts_mut(parties, np);
     let locks = std::slice::from_raw_parts_mut(locks, nl);
     let pages = pages_of(std::slice::from_raw_parts_mut(pages, ng));
+    let row = std::slice::from_raw_parts_mut(row, nr);
     BeadReply::of(calls::step::<Unnamed>(
-        &mut *root, parties, locks, pages, ng, party,
+        &mut *root, parties, locks, pages, ng, row, party,
     ))
 }
 
@@ -152,13 +163,16 @@ pub unsafe extern "C" fn bead_withdraw(
     nl: usize,
     pages: *mut u32,
     ng: usize,
+    row: *mut u32,
+    nr: usize,
     party: u32,
 ) -> u32 {
     let parties = std::slice::from_raw_parts_mut(parties, np);
     let locks = std::slice::from_raw_parts_mut(locks, nl);
     let pages = pages_of(std::slice::from_raw_parts_mut(pages, ng));
+    let row = std::slice::from_raw_parts_mut(row, nr);
     code_of(calls::withdraw::<Unnamed>(
-        &mut *root, parties, locks, pages, ng, party,
+        &mut *root, parties, locks, pages, ng, row, party,
     ))
 }
 
@@ -173,9 +187,14 @@ pub unsafe extern "C" fn bead_take_up(
     nl: usize,
     pages: *const u32,
     ng: usize,
+    row: *const u32,
+    nr: usize,
 ) -> u32 {
     let parties = std::slice::from_raw_parts(parties, np);
     let locks = std::slice::from_raw_parts(locks, nl);
     let pages = read_pages_of(std::slice::from_raw_parts(pages, ng));
-    code_of(calls::take_up::<Unnamed>(&*root, parties, locks, pages, ng))
+    let row = std::slice::from_raw_parts(row, nr);
+    code_of(calls::take_up::<Unnamed>(
+        &*root, parties, locks, pages, ng, row,
+    ))
 }

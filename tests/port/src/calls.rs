@@ -1,20 +1,22 @@
 //! The five calls: format, begin, step, withdraw and take-up, with the refusal table's tests in its order.
 //! Pages are lent as whole pages beside the count of lent words, so that a length that is no multiple of sixteen is refused too.
 
-use crate::damage::{Cause, Damage};
+use crate::damage::{refuse_if, Cause, Damage};
 use crate::memory::{Page, Party, Root, DELETE, EMPTY_PAGE, FIND, INSERT, LINK};
 use crate::reply::{Outcome, Refusal};
 use crate::steps;
 use crate::take_up::Saved;
+use crate::waiting::{self, Place};
 use std::marker::PhantomData;
 
-/// The memory that one step is lent, with the party it is for.
+/// The memory that one step is lent, with the party it is for, and whether that one stands behind another.
 pub(crate) struct Lent<'a, D> {
     pub root: &'a mut Root,
     pub party: &'a mut Party,
     pub locks: &'a mut [u32],
     pub pages: &'a mut [Page],
     pub number: u32,
+    pub behind: bool,
     pub damage: PhantomData<D>,
 }
 
@@ -25,6 +27,7 @@ pub fn format<D>(
     locks: &mut [u32],
     pages: &mut [Page],
     page_words: usize,
+    row: &mut [u32],
     sizes: [u32; 5],
 ) -> Result<(), Refusal<D>> {
     let [first_chains, page_records, most_chains, overflow_pages, party_count] = sizes;
@@ -39,7 +42,7 @@ pub fn format<D>(
     if !new.sizes_allowed() {
         return Err(Refusal::Size);
     }
-    if !new.lengths_fit(parties.len(), locks.len(), page_words) {
+    if !new.lengths_fit(parties.len(), locks.len(), page_words, row.len()) {
         return Err(Refusal::Length);
     }
     new.first_free = if overflow_pages == 0 {
@@ -51,6 +54,7 @@ pub fn format<D>(
     *root = new;
     parties.fill(Party::default());
     locks.fill(0);
+    row.fill(0);
     list_overflow_pages(pages, most_chains, overflow_pages);
     Ok(())
 }
@@ -73,12 +77,16 @@ pub fn begin<D>(
     parties: &mut [Party],
     locks: &[u32],
     page_words: usize,
+    row: &[u32],
     number: u32,
     operation: u32,
     key: u32,
     setting: u32,
 ) -> Result<(), Refusal<D>> {
-    let party = tested_party(root, parties, locks.len(), page_words, number)?;
+    test_sizes(root, parties.len(), locks.len(), page_words, row.len())?;
+    let party = parties
+        .get_mut(number as usize)
+        .ok_or(Refusal::PartyNumber)?;
     if party.operation != 0 {
         return Err(Refusal::NotIdle);
     }
@@ -92,7 +100,8 @@ pub fn begin<D>(
     Ok(())
 }
 
-/// "One call performs one step and answers waiting (no word changes), moved, or done with the answer."
+/// "One call performs one step and answers waiting, moved, or done with the answer." "Only the first waiting call alters
+/// memory, and only this row; a grant or withdraw removes the party."
 #[inline]
 pub fn step<D: Damage>(
     root: &mut Root,
@@ -100,23 +109,31 @@ pub fn step<D: Damage>(
     locks: &mut [u32],
     pages: &mut [Page],
     page_words: usize,
+    row: &mut [u32],
     number: u32,
 ) -> Result<Outcome, Refusal<D>> {
-    let party = tested_party(root, parties, locks.len(), page_words, number)?;
+    test_sizes(root, parties.len(), locks.len(), page_words, row.len())?;
+    let party = parties.get(number as usize).ok_or(Refusal::PartyNumber)?;
     if party.operation == 0 {
         return Err(Refusal::Idle);
     }
+    let place = tested_place::<D>(root, parties, row, number)?;
     let mut lent: Lent<D> = Lent {
         root,
-        party,
+        party: &mut parties[number as usize],
         locks,
         pages,
         number,
+        behind: place.behind,
         damage: PhantomData,
     };
-    lent.test_root()?;
-    lent.test_party()?;
-    Ok(steps::perform(&mut lent)?)
+    let outcome = steps::perform(&mut lent)?;
+    match outcome {
+        Outcome::Waiting if !place.waits => waiting::join(row, number),
+        Outcome::Moved if place.waits => waiting::leave(row, number),
+        _ => {}
+    }
+    Ok(outcome)
 }
 
 /// "Withdraw takes back a begin": "7 when the decisive step has been taken", "tested after 5 (the party is idle) and before 6".
@@ -126,26 +143,30 @@ pub fn withdraw<D: Damage>(
     locks: &mut [u32],
     pages: &mut [Page],
     page_words: usize,
+    row: &mut [u32],
     number: u32,
 ) -> Result<(), Refusal<D>> {
-    let party = tested_party(root, parties, locks.len(), page_words, number)?;
+    test_sizes(root, parties.len(), locks.len(), page_words, row.len())?;
+    let party = parties.get(number as usize).ok_or(Refusal::PartyNumber)?;
     if party.operation == 0 {
         return Err(Refusal::Idle);
     }
     if is_decided(party) {
         return Err(Refusal::Decided);
     }
+    let place = tested_place::<D>(root, parties, row, number)?;
     let mut lent: Lent<D> = Lent {
         root,
-        party,
+        party: &mut parties[number as usize],
         locks,
         pages,
         number,
+        behind: place.behind,
         damage: PhantomData,
     };
-    lent.test_root()?;
-    lent.test_party()?;
-    Ok(steps::withdraw(&mut lent)?)
+    steps::withdraw(&mut lent)?;
+    waiting::leave(row, number);
+    Ok(())
 }
 
 /// "A find at 9, a change at 12 or later", by the numbers alone.
@@ -164,13 +185,15 @@ pub fn take_up<D>(
     locks: &[u32],
     pages: &[Page],
     page_words: usize,
+    row: &[u32],
 ) -> Result<(), Refusal<D>> {
-    test_sizes(root, parties.len(), locks.len(), page_words)?;
+    test_sizes(root, parties.len(), locks.len(), page_words, row.len())?;
     let saved = Saved {
         root,
         parties,
         locks,
         pages,
+        row,
     };
     if saved.passes() {
         Ok(())
@@ -186,66 +209,62 @@ fn test_sizes<D>(
     parties: usize,
     locks: usize,
     page_words: usize,
+    row: usize,
 ) -> Result<(), Refusal<D>> {
     if !root.sizes_allowed() {
         return Err(Refusal::Size);
     }
-    if !root.lengths_fit(parties, locks, page_words) {
+    if !root.lengths_fit(parties, locks, page_words, row) {
         return Err(Refusal::Length);
     }
     Ok(())
 }
 
-/// The tests that begin, step and withdraw share: refusals 2, 1 and 3.
+/// The tests of damage that every step and withdraw make, and where the party stands.
 #[inline(always)]
-fn tested_party<'a, D>(
+fn tested_place<D: Damage>(
     root: &Root,
-    parties: &'a mut [Party],
-    locks: usize,
-    page_words: usize,
+    parties: &[Party],
+    row: &[u32],
     number: u32,
-) -> Result<&'a mut Party, Refusal<D>> {
-    test_sizes(root, parties.len(), locks, page_words)?;
-    parties.get_mut(number as usize).ok_or(Refusal::PartyNumber)
+) -> Result<Place, D> {
+    test_root(root)?;
+    test_party(root, &parties[number as usize])?;
+    waiting::place_of(root, parties, row, number)
+}
+
+/// "Level above 8, next not below N × 2^level, n above P, or free count above V."
+#[inline(always)]
+fn test_root<D: Damage>(root: &Root) -> Result<(), D> {
+    refuse_if(root.level > 8, Cause::LevelAbove8)?;
+    refuse_if(root.next >= root.level_chains(), Cause::NextNotBelow)?;
+    refuse_if(root.chains() > root.most_chains, Cause::ChainsAboveMost)?;
+    refuse_if(root.free_count > root.overflow_pages, Cause::FreeCountAbove)
+}
+
+/// The tests of the party's record that every step makes.
+#[inline(always)]
+fn test_party<D: Damage>(root: &Root, party: &Party) -> Result<(), D> {
+    let chains = root.most_chains;
+    refuse_if(party.operation > 3, Cause::OperationAbove3)?;
+    let steps = STEPS[party.operation as usize];
+    refuse_if(
+        party.step > 30 || steps >> party.step & 1 == 0,
+        Cause::StepLacking,
+    )?;
+    refuse_if(party.lev > 9, Cause::LevAbove9)?;
+    refuse_if(party.owed > 3, Cause::OwedAbove3)?;
+    refuse_if(party.answer > 5, Cause::AnswerAbove5)?;
+    refuse_if(party.answer == 0 && party.step >= 12, Cause::AnswerMissing)?;
+    refuse_if(party.chain >= chains, Cause::ChainNotBelow)?;
+    refuse_if(party.other >= chains, Cause::OtherNotBelow)
 }
 
 impl<D: Damage> Lent<'_, D> {
     /// Refuses for a cause.
     #[inline(always)]
     pub fn refuse_if(&self, damaged: bool, cause: Cause) -> Result<(), D> {
-        if damaged {
-            Err(D::of(cause))
-        } else {
-            Ok(())
-        }
-    }
-
-    /// "Level above 8, next not below N × 2^level, n above P, or free count above V."
-    #[inline(always)]
-    fn test_root(&self) -> Result<(), D> {
-        let root = &*self.root;
-        self.refuse_if(root.level > 8, Cause::LevelAbove8)?;
-        self.refuse_if(root.next >= root.level_chains(), Cause::NextNotBelow)?;
-        self.refuse_if(root.chains() > root.most_chains, Cause::ChainsAboveMost)?;
-        self.refuse_if(root.free_count > root.overflow_pages, Cause::FreeCountAbove)
-    }
-
-    /// The tests of the party's record that every step makes.
-    #[inline(always)]
-    fn test_party(&self) -> Result<(), D> {
-        let (party, chains) = (&*self.party, self.root.most_chains);
-        self.refuse_if(party.operation > 3, Cause::OperationAbove3)?;
-        let steps = STEPS[party.operation as usize];
-        self.refuse_if(
-            party.step > 30 || steps >> party.step & 1 == 0,
-            Cause::StepLacking,
-        )?;
-        self.refuse_if(party.lev > 9, Cause::LevAbove9)?;
-        self.refuse_if(party.owed > 3, Cause::OwedAbove3)?;
-        self.refuse_if(party.answer > 5, Cause::AnswerAbove5)?;
-        self.refuse_if(party.answer == 0 && party.step >= 12, Cause::AnswerMissing)?;
-        self.refuse_if(party.chain >= chains, Cause::ChainNotBelow)?;
-        self.refuse_if(party.other >= chains, Cause::OtherNotBelow)
+        refuse_if(damaged, cause)
     }
 }
 

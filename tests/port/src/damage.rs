@@ -44,6 +44,10 @@ causes! {
     NothingToMergeAt26 "n = N at 26",
     NothingToMergeAt27 "n = N at 27",
     LocalLevel0At28 "local level 0 at 28",
+    RowWordAbove "a word above Q among those who wait",
+    RowTwice "a party twice among those who wait",
+    RowGap "a gap among those who wait",
+    RowNoRequest "one that requests no lock among those who wait",
 }
 
 /// What a damaged number leaves behind: its cause for the comparison, nothing for the C face.
@@ -55,6 +59,16 @@ impl Damage for Cause {
     #[inline(always)]
     fn of(cause: Cause) -> Cause {
         cause
+    }
+}
+
+/// Refuses for a cause.
+#[inline(always)]
+pub fn refuse_if<D: Damage>(damaged: bool, cause: Cause) -> Result<(), D> {
+    if damaged {
+        Err(D::of(cause))
+    } else {
+        Ok(())
     }
 }
 

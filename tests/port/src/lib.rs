@@ -12,3 +12,4 @@ pub mod mixing;
 pub mod reply;
 mod steps;
 pub mod take_up;
+pub mod waiting;

@@ -45,6 +45,14 @@ impl Mode {
     }
 }
 
+impl Mode {
+    /// Whether Table I lets two parties hold these modes at once.
+    #[inline(always)]
+    pub fn beside(self, other: Mode) -> bool {
+        self.waits_for() & other.field(0) == 0
+    }
+}
+
 /// Requests a lock: sets the hold and says so, or changes nothing.
 #[inline(always)]
 pub fn request(word: &mut u32, mode: Mode, party: u32) -> bool {

@@ -74,13 +74,14 @@ impl Root {
             && from_one_to(self.page_records, 6)
     }
 
-    /// "Q records, P+1 lock words" and "16 × (P+V+Q) page words".
+    /// "Q records, P+1 lock words", "16 × (P+V+Q) page words" and "a lent row of Q words".
     #[inline]
-    pub fn lengths_fit(&self, parties: usize, locks: usize, page_words: usize) -> bool {
+    pub fn lengths_fit(&self, parties: usize, locks: usize, page_words: usize, row: usize) -> bool {
         let pages = (self.most_chains + self.overflow_pages + self.parties) as usize;
         parties == self.parties as usize
             && locks == self.most_chains as usize + 1
             && page_words == PAGE_WORDS * pages
+            && row == self.parties as usize
     }
 
     /// N × 2^level, the chains there were when the level was reached.
@@ -93,6 +94,17 @@ impl Root {
     #[inline]
     pub fn chains(&self) -> u32 {
         self.level_chains() + self.next
+    }
+
+    /// "The target is next − 1, or N × 2^(level−1) − 1 if next is 0", where n is above N.
+    #[inline]
+    pub fn merge_target(&self) -> u32 {
+        let after = if self.next == 0 {
+            self.level_chains() / 2
+        } else {
+            self.next
+        };
+        after - 1
     }
 
     /// "h_i(k) is k mod (2^i × N)", of a mixed key.

@@ -78,7 +78,7 @@ impl Answer {
     }
 }
 
-/// "One call performs one step and answers waiting (no word changes), moved, or done with the answer."
+/// "One call performs one step and answers waiting, moved, or done with the answer."
 #[derive(Clone, Copy, Debug, PartialEq, Eq)]
 pub enum Outcome {
     Waiting,

@@ -1,4 +1,4 @@
-//! Take-up (document 02, change 6): the conditions of a saved file. Each is a test of its own, over memory of allowed
+//! Take-up (document 02, changes 6 and 7): the conditions of a saved file. Each is a test of its own, over memory of allowed
 //! sizes and fitting lengths, so that a comparison can tell which of them fail.
 
 use crate::chains::{overflow_needed, page_of, records_on};
@@ -16,6 +16,7 @@ macro_rules! conditions {
 conditions! {
     PartiesRest "party records are zero",
     LocksClear "lock words are zero",
+    NobodyWaits "the row of who waits is zero",
     ScratchClear "scratch pages are zero",
     RootSound "level, next, n and free count are sound",
     ChainsSaved "each chain is at its level, filled, ascending and at home",
@@ -30,6 +31,7 @@ pub struct Saved<'a> {
     pub parties: &'a [Party],
     pub locks: &'a [u32],
     pub pages: &'a [Page],
+    pub row: &'a [u32],
 }
 
 /// A chain looked through whole: its records and the numbers of its overflow pages.
@@ -51,6 +53,7 @@ impl Saved<'_> {
         match condition {
             Condition::PartiesRest => self.parties.iter().all(|party| *party == Party::default()),
             Condition::LocksClear => self.locks.iter().all(|word| *word == 0),
+            Condition::NobodyWaits => self.row.iter().all(|word| *word == 0),
             Condition::ScratchClear => self.are_zero(root.scratch(0), root.parties),
             Condition::RootSound => {
                 self.chain_count().is_some()

@@ -9,13 +9,14 @@ const PAGE_WORDS: usize = 16;
 /// The records that a page can hold, each a key and its setting.
 const MOST_RECORDS: usize = 6;
 
-/// The four lent parts; all zero, and of no length, before a format.
+/// The five lent parts; all zero, and of no length, before a format.
 #[derive(Default)]
 pub struct Memory {
     pub root: RootRecord,
     pub parties: Vec<PartyRecord>,
     pub locks: Vec<u32>,
     pages: Vec<u32>,
+    waiting: Vec<u32>,
 }
 
 impl Memory {
@@ -27,6 +28,7 @@ impl Memory {
             parties: vec![PartyRecord::default(); sizes.party_records()],
             locks: vec![0; sizes.lock_words()],
             pages: vec![0; sizes.page_words()],
+            waiting: vec![0; sizes.waiting_words()],
         };
         FileRef::format_parts(memory.lent(), sizes)?;
         Ok(memory)
@@ -38,6 +40,7 @@ impl Memory {
             parties: &mut self.parties,
             locks: &mut self.locks,
             pages: &mut self.pages,
+            waiting: &mut self.waiting,
         }
     }
 
@@ -90,6 +93,11 @@ impl Memory {
                 .collect(),
             Err(_) => Vec::new(),
         }
+    }
+
+    /// The parties that wait, first come first.
+    pub fn waiting(&self) -> impl Iterator<Item = u32> + '_ {
+        self.waiting.iter().map_while(|word| word.checked_sub(1))
     }
 
     /// The words of a page, where there is one of this number.

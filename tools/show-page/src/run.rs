@@ -38,10 +38,12 @@ struct Run {
     words: StepWords,
 }
 
-/// A party before a call: its record, the locks that it holds, and the new pages behind its scratch page.
+/// A party before a call: its record, whether it is among those who wait, the locks that it holds, and the new pages
+/// behind its scratch page.
 #[derive(Default)]
 struct Party {
     record: PartyRecord,
+    waits: bool,
     held: Vec<String>,
     built: Vec<String>,
 }
@@ -61,7 +63,14 @@ impl Party {
             _ => format!(", and pages {} go back", pages.join(", ")),
         };
         let step = self.record.step;
-        format!("Party {party} ({operation}) is withdrawn before step {step}. {locks}{pages}.")
+        let waits = if self.waits {
+            ", and waits no more"
+        } else {
+            ""
+        };
+        format!(
+            "Party {party} ({operation}) is withdrawn before step {step}{waits}. {locks}{pages}."
+        )
     }
 }
 
@@ -97,6 +106,7 @@ impl Run {
             Form::Format(_) | Form::TakeUp => None,
             Form::Begin(party, _) | Form::Step(party) | Form::Withdraw(party) => Some(Party {
                 record: *self.memory.parties.get(party as usize)?,
+                waits: self.memory.waiting().any(|other| other == party),
                 held: view::held_by(&self.memory, party),
                 built: view::new_pages(&self.memory, party)
                     .iter()
@@ -124,7 +134,7 @@ impl Run {
                 format!("Party {party} begins: {operation}.")
             }
             (Some(Form::Step(party)), Reply::Step(_, Ok(outcome))) => {
-                self.step_meaning(party, outcome, &before.record)
+                self.step_meaning(party, outcome, before)
             }
             (Some(Form::Step(_)), _) => String::new(),
             (Some(Form::Withdraw(party)), _) => before.withdrawn(party),
@@ -144,7 +154,8 @@ impl Run {
         format!("A file at rest, which is taken up: {keys} in {chains}, {free} free. Nothing is altered.")
     }
 
-    fn step_meaning(&mut self, party: u32, outcome: Outcome, record: &PartyRecord) -> String {
+    fn step_meaning(&mut self, party: u32, outcome: Outcome, before: &Party) -> String {
+        let record = &before.record;
         let (step, words) = (record.step, self.words.of(record.step));
         let who = format!("Party {party} ({})", view::operation(record));
         match outcome {
@@ -152,7 +163,12 @@ impl Run {
                 let requests = self.memory.requests();
                 let wait = requests.get(party as usize).and_then(|it| it.wait.as_ref());
                 let why = wait.map_or(String::new(), |wait| format!(": {wait}"));
-                format!("{who} tried step {step}: {words}. Waiting{why}. Nothing is altered.")
+                let altered = if before.waits {
+                    "Nothing is altered"
+                } else {
+                    "It is among those who wait, and nothing else is altered"
+                };
+                format!("{who} tried step {step}: {words}. Waiting{why}. {altered}.")
             }
             Outcome::Moved => format!("{who} performed step {step}: {words}."),
             done => format!("{who} performed step {step}: {words}. It is {done}."),
@@ -208,6 +224,25 @@ mod tests {
         assert_eq!(
             meaning(&lines),
             "A file at rest, which is taken up: one key in one chain, 3 pages free. Nothing is altered."
+        );
+    }
+
+    #[test]
+    fn one_that_waits_is_among_those_who_do() {
+        let mut lines = vec!["(format 1 1 1 4 2)", "(begin 0 (insert 1 5))"];
+        lines.extend(["(step 0)"; 4]);
+        lines.push("(begin 1 (insert 2 5))");
+        lines.extend(["(step 1)"; 4]);
+        let why = "Waiting: party 1 waits for chain 0 (selective), held by party 0";
+        assert!(meaning(&lines).ends_with(&format!(
+            "{why}. It is among those who wait, and nothing else is altered."
+        )));
+        lines.push("(step 1)");
+        assert!(meaning(&lines).ends_with(&format!("{why}. Nothing is altered.")));
+        lines.push("(withdraw 1)");
+        assert_eq!(
+            meaning(&lines),
+            "Party 1 (insert 2=5) is withdrawn before step 4, and waits no more. It gives up root read."
         );
     }
 

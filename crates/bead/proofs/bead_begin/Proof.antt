@@ -79,7 +79,7 @@ use Rattle.bead.proofs.bead_begin.Statement as stated
 use Rattle.bead.proofs.bead_begin.Code as code
 
 abbrev stayed : Stays (it.ended .signature .params) (it.ended .kept)
-stayed = (stay-none-ref (0 ∷ []) tt (plain (λ _. R.the-row)) yes, (gave-slice (1 ∷ []) tt (plain (λ _. P.the-row)), (stay-none-slice (2 ∷ []) tt (plain (λ _. u32)) yes, (stay-none-slice (3 ∷ []) tt (plain (λ _. u32)) yes, (stay-none (λ _. u32) yes, (stay-none (λ _. u32) yes, (stay-none (λ _. u32) yes, (stay-none (λ _. u32) yes, tt))))))))
+stayed = (stay-none-ref (0 ∷ []) tt (plain (λ _. R.the-row)) yes, (gave-slice (1 ∷ []) tt (plain (λ _. P.the-row)), (stay-none-slice (2 ∷ []) tt (plain (λ _. u32)) yes, (stay-none-slice (3 ∷ []) tt (plain (λ _. u32)) yes, (stay-none-slice (4 ∷ []) tt (plain (λ _. u32)) yes, (stay-none (λ _. u32) yes, (stay-none (λ _. u32) yes, (stay-none (λ _. u32) yes, (stay-none (λ _. u32) yes, tt)))))))))
 
 at-O : (x : Operation) {vs : List Val} → Is O.the-row x vs → Is O.the-row x (O′.lowered x ∷ [])
 at-O x {vs} is = subst (Is O.the-row x) (O′.lowers .val-is x vs is) is
@@ -102,8 +102,8 @@ module _ {M : Type 1} (𝓤 : URA M) (H : Heap 𝓤) (A : Atoms 𝓤) (mem′ : 
   ReplyC = tripleOf 𝓤 H A reply.signature (reply.spec 𝓤 H A mem′ run)
 
 module _ {M : Type 1} (𝓤 : URA M) (H : Heap 𝓤) (A : Atoms 𝓤) (W : Given 𝓤 H A) (mem′ : Memory → SProp 𝓤) (run : Routine → Fun 𝓤)
-    (κ₀ κ₁ κ₂ κ₃ : Lft) (q₀ q₁ q₂ q₃ : Share) (b₀ o₀ b₁ o₁ b₂ o₂ b₃ o₃ : ℕ) (γ₀ γ₁ γ₂ γ₃ : GName) (h : Root) (ps : List Party) (ls : List ℕ) (gs : List ℕ) (i : ℕ) (n : ℕ) (key : ℕ) (setting : ℕ)
-    (room₁ : Room P.the-row (length ps)) (room₂ : Room u32 (length ls)) (room₃ : Room u32 (length gs)) (i-fits : i < 2 ^ 32) (n-fits : n < 2 ^ 32) (key-fits : key < 2 ^ 32) (setting-fits : setting < 2 ^ 32) where
+    (κ₀ κ₁ κ₂ κ₃ κ₄ : Lft) (q₀ q₁ q₂ q₃ q₄ : Share) (b₀ o₀ b₁ o₁ b₂ o₂ b₃ o₃ b₄ o₄ : ℕ) (γ₀ γ₁ γ₂ γ₃ γ₄ : GName) (h : Root) (ps : List Party) (ls : List ℕ) (gs : List ℕ) (ws : List ℕ) (i : ℕ) (n : ℕ) (key : ℕ) (setting : ℕ)
+    (room₁ : Room P.the-row (length ps)) (room₂ : Room u32 (length ls)) (room₃ : Room u32 (length gs)) (room₄ : Room u32 (length ws)) (i-fits : i < 2 ^ 32) (n-fits : n < 2 ^ 32) (key-fits : key < 2 ^ 32) (setting-fits : setting < 2 ^ 32) where
   abbrev x₀ : RefT (Root)
   x₀ = record { ptr = (b₀, o₀); name = γ₀; now = h }
 
@@ -116,6 +116,9 @@ module _ {M : Type 1} (𝓤 : URA M) (H : Heap 𝓤) (A : Atoms 𝓤) (W : Given
   abbrev x₃ : RefT (List ℕ)
   x₃ = record { ptr = (b₃, o₃); name = γ₃; now = gs }
 
+  abbrev x₄ : RefT (List ℕ)
+  x₄ = record { ptr = (b₄, o₄); name = γ₄; now = ws }
+
   abbrev s₁ : Val
   s₁ = sliceVal (b₁, o₁) (length ps)
 
@@ -125,14 +128,17 @@ module _ {M : Type 1} (𝓤 : URA M) (H : Heap 𝓤) (A : Atoms 𝓤) (W : Given
   abbrev s₃ : Val
   s₃ = sliceVal (b₃, o₃) (length gs)
 
-  abbrev a : RefT (Root) × (RefT (List Party) × (RefT (List ℕ) × (RefT (List ℕ) × (ℕ × (ℕ × (ℕ × (ℕ × Unit {0})))))))
-  a = (x₀, (x₁, (x₂, (x₃, (i, (n, (key, (setting, tt))))))))
+  abbrev s₄ : Val
+  s₄ = sliceVal (b₄, o₄) (length ws)
 
-  abbrev vals : List Val × (List Val × (List Val × (List Val × (List Val × (List Val × (List Val × (List Val × Unit {0})))))))
-  vals = (vptr b₀ o₀ ∷ [], (s₁ ∷ [], (s₂ ∷ [], (s₃ ∷ [], (vint w32 i ∷ [], (vint w32 n ∷ [], (vint w32 key ∷ [], (vint w32 setting ∷ [], tt))))))))
+  abbrev a : RefT (Root) × (RefT (List Party) × (RefT (List ℕ) × (RefT (List ℕ) × (RefT (List ℕ) × (ℕ × (ℕ × (ℕ × (ℕ × Unit {0}))))))))
+  a = (x₀, (x₁, (x₂, (x₃, (x₄, (i, (n, (key, (setting, tt)))))))))
+
+  abbrev vals : List Val × (List Val × (List Val × (List Val × (List Val × (List Val × (List Val × (List Val × (List Val × Unit {0}))))))))
+  vals = (vptr b₀ o₀ ∷ [], (s₁ ∷ [], (s₂ ∷ [], (s₃ ∷ [], (s₄ ∷ [], (vint w32 i ∷ [], (vint w32 n ∷ [], (vint w32 key ∷ [], (vint w32 setting ∷ [], tt)))))))))
 
   abbrev Post : Val → SProp 𝓤
-  Post = walkOf 𝓤 H A it.ended stayed (it.clauses 𝓤 H A mem′ run) .post (((κ₀, (κ₁, (κ₂, (κ₃, tt)))), (q₀, (q₁, (q₂, (q₃, tt)))), tt, a, vals), tt)
+  Post = walkOf 𝓤 H A it.ended stayed (it.clauses 𝓤 H A mem′ run) .post (((κ₀, (κ₁, (κ₂, (κ₃, (κ₄, tt))))), (q₀, (q₁, (q₂, (q₃, (q₄, tt))))), tt, a, vals), tt)
 
   -- the call of `bead::is_operation`: what it is passed, and that it may be entered
   abbrev test-args : ℕ × Unit {0}
@@ -157,15 +163,15 @@ module _ {M : Type 1} (𝓤 : URA M) (H : Heap 𝓤) (A : Atoms 𝓤) (W : Given
       qed W [] ∵ nothing ! $ nothing ! $ owned ! u32 (Is u32) (uint-makes 𝓤 H A W w32) setting _ (refl, setting-fits) $ fjoin ! $ owned ! u32 (Is u32) (uint-makes 𝓤 H A W w32) n _ (refl, n-fits) $ fjoin ! $ move ! (1 ∷ 0 ∷ []) $ join ! $ frame ! $ done !
 
   -- the call of `index::begin`: what it is passed, and that it may be entered
-  abbrev begin-args : Operation → RefT (Root) × (RefT (List Party) × (RefT (List ℕ) × (RefT (List ℕ) × (ℕ × (Operation × (ℕ × Unit {0}))))))
-  begin-args o = (x₀, (x₁, (x₂, (x₃, (i, (o, (key, tt)))))))
+  abbrev begin-args : Operation → RefT (Root) × (RefT (List Party) × (RefT (List ℕ) × (RefT (List ℕ) × (RefT (List ℕ) × (ℕ × (Operation × (ℕ × Unit {0})))))))
+  begin-args o = (x₀, (x₁, (x₂, (x₃, (x₄, (i, (o, (key, tt))))))))
 
   abbrev to-begin : Operation → BeginC 𝓤 H A mem′ run .Ghost
-  to-begin o = (((κ₀, (κ₁, (κ₂, (κ₃, tt)))), (q₀, (q₁, (q₂, (q₃, tt)))), tt, (begin-args o), (vptr b₀ o₀ ∷ [], (s₁ ∷ [], (s₂ ∷ [], (s₃ ∷ [], (vint w32 i ∷ [], (O′.lowered o ∷ [], (vint w32 key ∷ [], tt)))))))), tt)
+  to-begin o = (((κ₀, (κ₁, (κ₂, (κ₃, (κ₄, tt))))), (q₀, (q₁, (q₂, (q₃, (q₄, tt))))), tt, (begin-args o), (vptr b₀ o₀ ∷ [], (s₁ ∷ [], (s₂ ∷ [], (s₃ ∷ [], (s₄ ∷ [], (vint w32 i ∷ [], (O′.lowered o ∷ [], (vint w32 key ∷ [], tt))))))))), tt)
 
-  goes-begin : (o : Operation) → Is O.the-row o (O′.lowered o ∷ []) → ent 𝓤 (sep 𝓤 (sep 𝓤 (A .lft κ₀ q₀) (sep 𝓤 (A .lft κ₁ q₁) (sep 𝓤 (A .lft κ₂ q₂) (A .lft κ₃ q₃)))) (sep 𝓤 (sem 𝓤 H A (ShrRef (named 0) κ₀ R.the-row .own x₀ (vptr b₀ o₀ ∷ []))) (sep 𝓤 (sem 𝓤 H A (MutSlice (named 1) κ₁ P.the-row .own x₁ (s₁ ∷ []))) (sep 𝓤 (sem 𝓤 H A (ShrSlice (named 2) κ₂ u32 .own x₂ (s₂ ∷ []))) (sem 𝓤 H A (ShrSlice (named 3) κ₃ u32 .own x₃ (s₃ ∷ []))))))) (BeginC 𝓤 H A mem′ run .pre (to-begin o))
+  goes-begin : (o : Operation) → Is O.the-row o (O′.lowered o ∷ []) → ent 𝓤 (sep 𝓤 (sep 𝓤 (A .lft κ₀ q₀) (sep 𝓤 (A .lft κ₁ q₁) (sep 𝓤 (A .lft κ₂ q₂) (sep 𝓤 (A .lft κ₃ q₃) (A .lft κ₄ q₄))))) (sep 𝓤 (sem 𝓤 H A (ShrRef (named 0) κ₀ R.the-row .own x₀ (vptr b₀ o₀ ∷ []))) (sep 𝓤 (sem 𝓤 H A (MutSlice (named 1) κ₁ P.the-row .own x₁ (s₁ ∷ []))) (sep 𝓤 (sem 𝓤 H A (ShrSlice (named 2) κ₂ u32 .own x₂ (s₂ ∷ []))) (sep 𝓤 (sem 𝓤 H A (ShrSlice (named 3) κ₃ u32 .own x₃ (s₃ ∷ []))) (sem 𝓤 H A (ShrSlice (named 4) κ₄ u32 .own x₄ (s₄ ∷ [])))))))) (BeginC 𝓤 H A mem′ run .pre (to-begin o))
   goes-begin o io =
-      qed W ((‵ (flft κ₀ q₀) ⊛ ‵ (flft κ₁ q₁) ⊛ ‵ (flft κ₂ q₂) ⊛ ‵ (flft κ₃ q₃)) ∷ (‵ (ShrRef (named 0) κ₀ R.the-row .own x₀ (vptr b₀ o₀ ∷ [])) ⊛ ‵ (MutSlice (named 1) κ₁ P.the-row .own x₁ (s₁ ∷ [])) ⊛ ‵ (ShrSlice (named 2) κ₂ u32 .own x₂ (s₂ ∷ [])) ⊛ ‵ (ShrSlice (named 3) κ₃ u32 .own x₃ (s₃ ∷ []))) ∷ []) ∵ split ! $ move ! (1 ∷ []) $ split ! $ move ! (1 ∷ []) $ split ! $ move ! (4 ∷ []) $ split ! $ move ! (1 ∷ []) $ split ! $ move ! (1 ∷ []) $ split ! $ nothing ! $ move ! (6 ∷ 0 ∷ []) $ join ! $ move ! (5 ∷ 0 ∷ []) $ join ! $ move ! (5 ∷ 0 ∷ []) $ join ! $ move ! (5 ∷ 0 ∷ []) $ join ! $ nothing ! $ owned ! u32 (Is u32) (uint-makes 𝓤 H A W w32) key _ (refl, key-fits) $ fjoin ! $ owned ! O.the-row (Is O.the-row) (EL.makes O.the-type O′.the-plain 𝓤 H A) o _ io $ fjoin ! $ owned ! u32 (Is u32) (uint-makes 𝓤 H A W w32) i _ (refl, i-fits) $ fjoin ! $ move ! (3 ∷ 0 ∷ []) $ fjoin ! $ move ! (2 ∷ 0 ∷ []) $ fjoin ! $ move ! (2 ∷ 0 ∷ []) $ fjoin ! $ move ! (2 ∷ 0 ∷ []) $ fjoin ! $ move ! (1 ∷ 0 ∷ []) $ join ! $ frame ! $ done !
+      qed W ((‵ (flft κ₀ q₀) ⊛ ‵ (flft κ₁ q₁) ⊛ ‵ (flft κ₂ q₂) ⊛ ‵ (flft κ₃ q₃) ⊛ ‵ (flft κ₄ q₄)) ∷ (‵ (ShrRef (named 0) κ₀ R.the-row .own x₀ (vptr b₀ o₀ ∷ [])) ⊛ ‵ (MutSlice (named 1) κ₁ P.the-row .own x₁ (s₁ ∷ [])) ⊛ ‵ (ShrSlice (named 2) κ₂ u32 .own x₂ (s₂ ∷ [])) ⊛ ‵ (ShrSlice (named 3) κ₃ u32 .own x₃ (s₃ ∷ [])) ⊛ ‵ (ShrSlice (named 4) κ₄ u32 .own x₄ (s₄ ∷ []))) ∷ []) ∵ split ! $ move ! (1 ∷ []) $ split ! $ move ! (1 ∷ []) $ split ! $ move ! (1 ∷ []) $ split ! $ move ! (5 ∷ []) $ split ! $ move ! (1 ∷ []) $ split ! $ move ! (1 ∷ []) $ split ! $ move ! (1 ∷ []) $ split ! $ nothing ! $ move ! (7 ∷ 0 ∷ []) $ join ! $ move ! (6 ∷ 0 ∷ []) $ join ! $ move ! (6 ∷ 0 ∷ []) $ join ! $ move ! (6 ∷ 0 ∷ []) $ join ! $ move ! (6 ∷ 0 ∷ []) $ join ! $ nothing ! $ owned ! u32 (Is u32) (uint-makes 𝓤 H A W w32) key _ (refl, key-fits) $ fjoin ! $ owned ! O.the-row (Is O.the-row) (EL.makes O.the-type O′.the-plain 𝓤 H A) o _ io $ fjoin ! $ owned ! u32 (Is u32) (uint-makes 𝓤 H A W w32) i _ (refl, i-fits) $ fjoin ! $ move ! (3 ∷ 0 ∷ []) $ fjoin ! $ move ! (2 ∷ 0 ∷ []) $ fjoin ! $ move ! (2 ∷ 0 ∷ []) $ fjoin ! $ move ! (2 ∷ 0 ∷ []) $ fjoin ! $ move ! (2 ∷ 0 ∷ []) $ fjoin ! $ move ! (1 ∷ 0 ∷ []) $ join ! $ frame ! $ done !
 
   -- the call of `bead::begin_number`: what it is passed, and that it may be entered
   abbrev reply-args : BeginAnswer → BeginAnswer × Unit {0}
@@ -179,29 +185,30 @@ module _ {M : Type 1} (𝓤 : URA M) (H : Heap 𝓤) (A : Atoms 𝓤) (W : Given
       qed W [] ∵ nothing ! $ nothing ! $ owned ! B.the-row (Is B.the-row) (EL.makes B.the-type B′.the-plain 𝓤 H A) answer _ ia $ fjoin ! $ move ! (1 ∷ 0 ∷ []) $ join ! $ frame ! $ done !
 
   -- what is had at exit, on every way
-  exits : (ps′ : List Party) (answer : ℕ) → length ps′ ≡ length ps → Is u32 answer (vint w32 answer ∷ []) → called answer (lent h ps′ ls gs) ≡ beginNumbered (lent h ps ls gs) i n key setting
-      → ent 𝓤 (⋆ 𝓤 H A (‵ (flft κ₀ q₀) ∷ ‵ (flft κ₁ q₁) ∷ ‵ (flft κ₂ q₂) ∷ ‵ (flft κ₃ q₃) ∷ ‵ (ShrRef (named 0) κ₀ R.the-row .own x₀ (vptr b₀ o₀ ∷ [])) ∷ ‵ (finally P.the-row γ₁ ps′) ∷ ‵ (ShrSlice (named 2) κ₂ u32 .own x₂ (s₂ ∷ [])) ∷ ‵ (ShrSlice (named 3) κ₃ u32 .own x₃ (s₃ ∷ [])) ∷ [])) (Post (vint w32 answer))
+  exits : (ps′ : List Party) (answer : ℕ) → length ps′ ≡ length ps → Is u32 answer (vint w32 answer ∷ []) → called answer (lent h ps′ ls gs ws) ≡ beginNumbered (lent h ps ls gs ws) i n key setting
+      → ent 𝓤 (⋆ 𝓤 H A (‵ (flft κ₀ q₀) ∷ ‵ (flft κ₁ q₁) ∷ ‵ (flft κ₂ q₂) ∷ ‵ (flft κ₃ q₃) ∷ ‵ (flft κ₄ q₄) ∷ ‵ (ShrRef (named 0) κ₀ R.the-row .own x₀ (vptr b₀ o₀ ∷ [])) ∷ ‵ (finally P.the-row γ₁ ps′) ∷ ‵ (ShrSlice (named 2) κ₂ u32 .own x₂ (s₂ ∷ [])) ∷ ‵ (ShrSlice (named 3) κ₃ u32 .own x₃ (s₃ ∷ [])) ∷ ‵ (ShrSlice (named 4) κ₄ u32 .own x₄ (s₄ ∷ [])) ∷ [])) (Post (vint w32 answer))
   exits ps′ answer e₁ is ends =
-      qed W (‵ (flft κ₀ q₀) ∷ ‵ (flft κ₁ q₁) ∷ ‵ (flft κ₂ q₂) ∷ ‵ (flft κ₃ q₃) ∷ ‵ (ShrRef (named 0) κ₀ R.the-row .own x₀ (vptr b₀ o₀ ∷ [])) ∷ ‵ (finally P.the-row γ₁ ps′) ∷ ‵ (ShrSlice (named 2) κ₂ u32 .own x₂ (s₂ ∷ [])) ∷ ‵ (ShrSlice (named 3) κ₃ u32 .own x₃ (s₃ ∷ [])) ∷ []) ∵
-      suffices ! _ (ends-at 𝓤 H A it.ended stayed (it.clauses 𝓤 H A mem′ run) W (((κ₀, (κ₁, (κ₂, (κ₃, tt)))), (q₀, (q₁, (q₂, (q₃, tt)))), tt, a, vals), tt) (vint w32 answer) answer (tt, (ps′, (tt, (tt, (tt, (tt, (tt, (tt, tt)))))))) (tt, (e₁, (tt, (tt, (tt, (tt, (tt, (tt, tt))))))))) $ says ! ends $
-      nothing ! $ move ! (4 ∷ 0 ∷ []) $ join ! $ move ! (3 ∷ 0 ∷ []) $ join ! $ move ! (2 ∷ 0 ∷ []) $ join ! $ move ! (1 ∷ 0 ∷ []) $ join ! $ frame ! $ nothing ! $ owned ! u32 (Is u32) (uint-makes 𝓤 H A W w32) setting _ (refl, setting-fits) $ fjoin ! $ owned ! u32 (Is u32) (uint-makes 𝓤 H A W w32) key _ (refl, key-fits) $ fjoin ! $ owned ! u32 (Is u32) (uint-makes 𝓤 H A W w32) n _ (refl, n-fits) $ fjoin ! $ owned ! u32 (Is u32) (uint-makes 𝓤 H A W w32) i _ (refl, i-fits) $ fjoin ! $ move ! (4 ∷ 0 ∷ []) $ fjoin ! $ move ! (3 ∷ 0 ∷ []) $ fjoin ! $ move ! (2 ∷ 0 ∷ []) $ fjoin ! $ move ! (1 ∷ 0 ∷ []) $ fjoin ! $ owned ! u32 (Is u32) (uint-makes 𝓤 H A W w32) answer _ is $ move ! (1 ∷ 0 ∷ []) $ done !
+      qed W (‵ (flft κ₀ q₀) ∷ ‵ (flft κ₁ q₁) ∷ ‵ (flft κ₂ q₂) ∷ ‵ (flft κ₃ q₃) ∷ ‵ (flft κ₄ q₄) ∷ ‵ (ShrRef (named 0) κ₀ R.the-row .own x₀ (vptr b₀ o₀ ∷ [])) ∷ ‵ (finally P.the-row γ₁ ps′) ∷ ‵ (ShrSlice (named 2) κ₂ u32 .own x₂ (s₂ ∷ [])) ∷ ‵ (ShrSlice (named 3) κ₃ u32 .own x₃ (s₃ ∷ [])) ∷ ‵ (ShrSlice (named 4) κ₄ u32 .own x₄ (s₄ ∷ [])) ∷ []) ∵
+      suffices ! _ (ends-at 𝓤 H A it.ended stayed (it.clauses 𝓤 H A mem′ run) W (((κ₀, (κ₁, (κ₂, (κ₃, (κ₄, tt))))), (q₀, (q₁, (q₂, (q₃, (q₄, tt))))), tt, a, vals), tt) (vint w32 answer) answer (tt, (ps′, (tt, (tt, (tt, (tt, (tt, (tt, (tt, tt))))))))) (tt, (e₁, (tt, (tt, (tt, (tt, (tt, (tt, (tt, tt)))))))))) $ says ! ends $
+      nothing ! $ move ! (5 ∷ 0 ∷ []) $ join ! $ move ! (4 ∷ 0 ∷ []) $ join ! $ move ! (3 ∷ 0 ∷ []) $ join ! $ move ! (2 ∷ 0 ∷ []) $ join ! $ move ! (1 ∷ 0 ∷ []) $ join ! $ frame ! $ nothing ! $ owned ! u32 (Is u32) (uint-makes 𝓤 H A W w32) setting _ (refl, setting-fits) $ fjoin ! $ owned ! u32 (Is u32) (uint-makes 𝓤 H A W w32) key _ (refl, key-fits) $ fjoin ! $ owned ! u32 (Is u32) (uint-makes 𝓤 H A W w32) n _ (refl, n-fits) $ fjoin ! $ owned ! u32 (Is u32) (uint-makes 𝓤 H A W w32) i _ (refl, i-fits) $ fjoin ! $ move ! (5 ∷ 0 ∷ []) $ fjoin ! $ move ! (4 ∷ 0 ∷ []) $ fjoin ! $ move ! (3 ∷ 0 ∷ []) $ fjoin ! $ move ! (2 ∷ 0 ∷ []) $ fjoin ! $ move ! (1 ∷ 0 ∷ []) $ fjoin ! $ owned ! u32 (Is u32) (uint-makes 𝓤 H A W w32) answer _ is $ move ! (1 ∷ 0 ∷ []) $ done !
 
   module _ (C : Calls 𝓤 H) (Λ : Loops 𝓤 H) (fm : FmC 𝓤 H (W .laws) C) (known-test : Triple 𝓤 (C #bead·is-operation) (TestC 𝓤 H A mem′ run)) (known-named-by : Triple 𝓤 (C #bead·operation-of) (NamedByC 𝓤 H A mem′ run)) (known-begin : Triple 𝓤 (C #index·begin) (BeginC 𝓤 H A mem′ run)) (known-reply : Triple 𝓤 (C #bead·begin-number) (ReplyC 𝓤 H A mem′ run)) where
-    walk : ent 𝓤 (onEntry 𝓤 H A it.signature (κ₀, (κ₁, (κ₂, (κ₃, tt)))) (q₀, (q₁, (q₂, (q₃, tt)))) a vals) (WpFn 𝓤 H C Λ code.function (vptr b₀ o₀ ∷ s₁ ∷ s₂ ∷ s₃ ∷ vint w32 i ∷ vint w32 n ∷ vint w32 key ∷ vint w32 setting ∷ []) Post)
+    walk : ent 𝓤 (onEntry 𝓤 H A it.signature (κ₀, (κ₁, (κ₂, (κ₃, (κ₄, tt))))) (q₀, (q₁, (q₂, (q₃, (q₄, tt))))) a vals) (WpFn 𝓤 H C Λ code.function (vptr b₀ o₀ ∷ s₁ ∷ s₂ ∷ s₃ ∷ s₄ ∷ vint w32 i ∷ vint w32 n ∷ vint w32 key ∷ vint w32 setting ∷ []) Post)
     walk =
-        qed W ((‵ (flft κ₀ q₀) ⊛ ‵ (flft κ₁ q₁) ⊛ ‵ (flft κ₂ q₂) ⊛ ‵ (flft κ₃ q₃) ⊛ ‵ ftrue) ∷ ‵ (owns (ShrRef (named 0) κ₀ R.the-row ∷ MutSlice (named 1) κ₁ P.the-row ∷ ShrSlice (named 2) κ₂ u32 ∷ ShrSlice (named 3) κ₃ u32 ∷ u32 ∷ u32 ∷ u32 ∷ u32 ∷ []) a vals) ∷ []) ∵
-        enter ! C Λ code.function (vptr b₀ o₀ ∷ s₁ ∷ s₂ ∷ s₃ ∷ vint w32 i ∷ vint w32 n ∷ vint w32 key ∷ vint w32 setting ∷ []) _ $
-        alloc1 ! (λ l₀. alloc1 ! (λ l₁. alloc1 ! (λ l₂. alloc1 ! (λ l₃. alloc1 ! (λ l₄. alloc1 ! (λ l₅. alloc1 ! (λ l₆. alloc1 ! (λ l₇. alloc1 ! (λ l₈. alloc1 ! (λ l₉. alloc1 ! (λ l₁₀. alloc1 ! (λ l₁₁. alloc1 ! (λ l₁₂. alloc1 ! (λ l₁₃. alloc0 ! $ params1 ! $
-        pass1 ! (init ! 24 refl (tt, tt)) $
-        pass1 ! (init ! 22 refl (tt, (tt, (record { fits = room₁ .0 }, tt)))) $
-        pass1 ! (init ! 20 refl (tt, (tt, (record { fits = room₂ .0 }, tt)))) $
-        pass1 ! (init ! 18 refl (tt, (tt, (record { fits = room₃ .0 }, tt)))) $
+        qed W ((‵ (flft κ₀ q₀) ⊛ ‵ (flft κ₁ q₁) ⊛ ‵ (flft κ₂ q₂) ⊛ ‵ (flft κ₃ q₃) ⊛ ‵ (flft κ₄ q₄) ⊛ ‵ ftrue) ∷ ‵ (owns (ShrRef (named 0) κ₀ R.the-row ∷ MutSlice (named 1) κ₁ P.the-row ∷ ShrSlice (named 2) κ₂ u32 ∷ ShrSlice (named 3) κ₃ u32 ∷ ShrSlice (named 4) κ₄ u32 ∷ u32 ∷ u32 ∷ u32 ∷ u32 ∷ []) a vals) ∷ []) ∵
+        enter ! C Λ code.function (vptr b₀ o₀ ∷ s₁ ∷ s₂ ∷ s₃ ∷ s₄ ∷ vint w32 i ∷ vint w32 n ∷ vint w32 key ∷ vint w32 setting ∷ []) _ $
+        alloc1 ! (λ l₀. alloc1 ! (λ l₁. alloc1 ! (λ l₂. alloc1 ! (λ l₃. alloc1 ! (λ l₄. alloc1 ! (λ l₅. alloc1 ! (λ l₆. alloc1 ! (λ l₇. alloc1 ! (λ l₈. alloc1 ! (λ l₉. alloc1 ! (λ l₁₀. alloc1 ! (λ l₁₁. alloc1 ! (λ l₁₂. alloc1 ! (λ l₁₃. alloc1 ! (λ l₁₄. alloc0 ! $ params1 ! $
+        pass1 ! (init ! 26 refl (tt, tt)) $
+        pass1 ! (init ! 24 refl (tt, (tt, (record { fits = room₁ .0 }, tt)))) $
+        pass1 ! (init ! 22 refl (tt, (tt, (record { fits = room₂ .0 }, tt)))) $
+        pass1 ! (init ! 20 refl (tt, (tt, (record { fits = room₃ .0 }, tt)))) $
+        pass1 ! (init ! 18 refl (tt, (tt, (record { fits = room₄ .0 }, tt)))) $
         pass1 ! (init ! 16 refl (tt, record { fits = i-fits })) $
         pass1 ! (init ! 14 refl (tt, record { fits = n-fits })) $
         pass1 ! (init ! 12 refl (tt, record { fits = key-fits })) $
         pass1 ! (init ! 10 refl (tt, record { fits = setting-fits })) $
         pass0 ! $
-        move ! (28 ∷ []) $
+        move ! (30 ∷ []) $
         split ! $
         move ! (1 ∷ []) $
         split ! $
@@ -209,7 +216,11 @@ module _ {M : Type 1} (𝓤 : URA M) (H : Heap 𝓤) (A : Atoms 𝓤) (W : Given
         split ! $
         move ! (1 ∷ []) $
         split ! $
-        move ! (33 ∷ []) $
+        move ! (1 ∷ []) $
+        split ! $
+        move ! (36 ∷ []) $
+        fsplit ! $
+        move ! (1 ∷ []) $
         fsplit ! $
         move ! (1 ∷ []) $
         fsplit ! $
@@ -219,7 +230,7 @@ module _ {M : Type 1} (𝓤 : URA M) (H : Heap 𝓤) (A : Atoms 𝓤) (W : Given
         fsplit ! $
         -- `bead::is_operation`
         use0 W (raw (TestC 𝓤 H A mem′ run .pre to-test)) goes-test $
-        calls-at ! fm (TestC 𝓤 H A mem′ run) known-test to-test (and-then ! (load ! (from ! (stop !)) (look ! 25 refl)) (no-more !)) (λ ret.
+        calls-at ! fm (TestC 𝓤 H A mem′ run) known-test to-test (and-then ! (load ! (from ! (stop !)) (look ! 27 refl)) (no-more !)) (λ ret.
         use1 W (later (some (λ (t : Bool). (‵ ftrue ⊛ ‵ (bool .own t (ret ∷ []))) ⊛ raw (ensured 𝓤 H A test.ended (test.clauses 𝓤 H A mem′ run) tt test-args tt t)))) (id⊢ 𝓤 _) $ await ! tt $ pick ! (λ t.
         split ! $
         move ! (1 ∷ []) $
@@ -231,16 +242,16 @@ module _ {M : Type 1} (𝓤 : URA M) (H : Heap 𝓤) (A : Atoms 𝓤) (W : Given
         split ! $
         move ! (1 ∷ []) $
         peeks ! bool (Is bool) (shows 𝓤 H A bool) t (ret ∷ []) (λ it′.
-        land ! (from ! (stop !)) (init ! 19 refl (bool-lawful 𝓤 H A W .typed t _ it′ .0)) $
-        rewrite ! 19 (λ (u : Val). ‵ (fat fullShare tyBool l₁₀ 0 u)) (ap only (bool-tells t _ it′)) refl $
+        land ! (from ! (stop !)) (init ! 21 refl (bool-lawful 𝓤 H A W .typed t _ it′ .0)) $
+        rewrite ! 21 (λ (u : Val). ‵ (fat fullShare tyBool l₁₁ 0 u)) (ap only (bool-tells t _ it′)) refl $
         drop ! $
-        first ! $ branches ! (load ! (from ! (stop !)) (look ! 18 refl))
+        first ! $ branches ! (load ! (from ! (stop !)) (look ! 20 refl))
         (λ may.
-        assigns ! (addr ! (from ! (fld ! refl (hop ! (look-in ! 34 (sub ! 0 refl (whole !))) (stop !))))) (from ! (stop !)) (init ! 16 refl (tt, tt)) $
-        assigns ! (agg ! (and-then ! (load ! (from ! (stop !)) (look ! 16 refl)) (and-then ! (load ! (from ! (fld ! refl (stop !))) (look-in ! 34 (sub ! 1 refl (whole !)))) (no-more !)))) (from ! (stop !)) (init ! 14 refl (tt, (tt, (record { fits = room₁ .0 }, tt)))) $
+        assigns ! (addr ! (from ! (fld ! refl (hop ! (look-in ! 38 (sub ! 0 refl (whole !))) (stop !))))) (from ! (stop !)) (init ! 18 refl (tt, tt)) $
+        assigns ! (agg ! (and-then ! (load ! (from ! (stop !)) (look ! 18 refl)) (and-then ! (load ! (from ! (fld ! refl (stop !))) (look-in ! 38 (sub ! 1 refl (whole !)))) (no-more !)))) (from ! (stop !)) (init ! 16 refl (tt, (tt, (record { fits = room₁ .0 }, tt)))) $
         -- `bead::operation_of`
         use0 W (raw (NamedByC 𝓤 H A mem′ run .pre to-named-by)) goes-named-by $
-        calls-at ! fm (NamedByC 𝓤 H A mem′ run) known-named-by to-named-by (and-then ! (load ! (from ! (stop !)) (look ! 27 refl)) (and-then ! (load ! (from ! (stop !)) (look ! 23 refl)) (no-more !))) (λ ret′.
+        calls-at ! fm (NamedByC 𝓤 H A mem′ run) known-named-by to-named-by (and-then ! (load ! (from ! (stop !)) (look ! 29 refl)) (and-then ! (load ! (from ! (stop !)) (look ! 25 refl)) (no-more !))) (λ ret′.
         use1 W (later (some (λ (o : Operation). (‵ ftrue ⊛ ‵ (O.the-row .own o (ret′ ∷ []))) ⊛ raw (ensured 𝓤 H A named-by.ended (named-by.clauses 𝓤 H A mem′ run) tt named-by-args tt o)))) (id⊢ 𝓤 _) $ await ! tt $ pick ! (λ o.
         split ! $
         move ! (1 ∷ []) $
@@ -252,41 +263,48 @@ module _ {M : Type 1} (𝓤 : URA M) (H : Heap 𝓤) (A : Atoms 𝓤) (W : Given
         split ! $
         move ! (1 ∷ []) $
         peeks ! O.the-row (Is O.the-row) (shows 𝓤 H A O.the-row) o (ret′ ∷ []) (λ io.
-        land ! (from ! (stop !)) (init ! 15 refl (EL.lawful O.the-type O′.the-laws 𝓤 H A W tt .typed o _ io .0)) $
-        rewrite ! 15 (λ (u : Val). ‵ (fat fullShare O′.mir l₁₃ 0 u)) (ap only ((O′.lowers .val-is) o _ io)) refl $
+        land ! (from ! (stop !)) (init ! 17 refl (EL.lawful O.the-type O′.the-laws 𝓤 H A W tt .typed o _ io .0)) $
+        rewrite ! 17 (λ (u : Val). ‵ (fat fullShare O′.mir l₁₄ 0 u)) (ap only ((O′.lowers .val-is) o _ io)) refl $
         drop ! $
         -- `index::begin`
-        move ! (8 ∷ []) $
+        move ! (9 ∷ []) $
         use1 W (‵ (ShrRef (named 0) κ₀ R.the-row .own x₀ (vptr b₀ o₀ ∷ [])) ⊛ ‵ (ShrRef (named 0) κ₀ R.the-row .own x₀ (vptr b₀ o₀ ∷ []))) (shr-copy 𝓤 H A W (named 0) κ₀ R.the-row .twice x₀ (vptr b₀ o₀ ∷ [])) $
         split ! $
-        move ! (8 ∷ []) $
+        move ! (9 ∷ []) $
         use1 W (‵ (ShrSlice (named 2) κ₂ u32 .own x₂ (s₂ ∷ [])) ⊛ ‵ (ShrSlice (named 2) κ₂ u32 .own x₂ (s₂ ∷ []))) (shr-slice-copy 𝓤 H A W (named 2) κ₂ u32 .twice x₂ (s₂ ∷ [])) $
         split ! $
-        move ! (8 ∷ []) $
+        move ! (10 ∷ []) $
         use1 W (‵ (ShrSlice (named 3) κ₃ u32 .own x₃ (s₃ ∷ [])) ⊛ ‵ (ShrSlice (named 3) κ₃ u32 .own x₃ (s₃ ∷ []))) (shr-slice-copy 𝓤 H A W (named 3) κ₃ u32 .twice x₃ (s₃ ∷ [])) $
         split ! $
-        move ! (14 ∷ 12 ∷ []) $
+        move ! (10 ∷ []) $
+        use1 W (‵ (ShrSlice (named 4) κ₄ u32 .own x₄ (s₄ ∷ [])) ⊛ ‵ (ShrSlice (named 4) κ₄ u32 .own x₄ (s₄ ∷ []))) (shr-slice-copy 𝓤 H A W (named 4) κ₄ u32 .twice x₄ (s₄ ∷ [])) $
+        split ! $
+        move ! (16 ∷ 14 ∷ []) $
         join ! $
-        move ! (14 ∷ 0 ∷ []) $
+        move ! (16 ∷ 0 ∷ []) $
         join ! $
-        move ! (14 ∷ 0 ∷ []) $
+        move ! (16 ∷ 0 ∷ []) $
+        join ! $
+        move ! (16 ∷ 0 ∷ []) $
         join ! $
         move ! (3 ∷ 1 ∷ []) $
         join ! $
-        move ! (11 ∷ 0 ∷ []) $
-        join ! $
         move ! (4 ∷ 0 ∷ []) $
+        join ! $
+        move ! (12 ∷ 0 ∷ []) $
+        join ! $
+        move ! (5 ∷ 0 ∷ []) $
         join ! $
         move ! (1 ∷ 0 ∷ []) $
         use2 W (raw (BeginC 𝓤 H A mem′ run .pre (to-begin o))) (goes-begin o (subst (Is O.the-row o) (O′.lowers .val-is o _ io) io)) $
-        calls-at ! fm (BeginC 𝓤 H A mem′ run) known-begin (to-begin o) (and-then ! (load ! (from ! (stop !)) (look ! 34 refl)) (and-then ! (load ! (from ! (stop !)) (look ! 12 refl)) (and-then ! (load ! (from ! (stop !)) (look ! 30 refl)) (and-then ! (load ! (from ! (stop !)) (look ! 28 refl)) (and-then ! (load ! (from ! (stop !)) (look ! 26 refl)) (and-then ! (load ! (from ! (stop !)) (look ! 10 refl)) (and-then ! (load ! (from ! (stop !)) (look ! 22 refl)) (no-more !)))))))) (λ ret″.
-        use1 W (later (some (λ (x : BeginAnswer). ((‵ (flft κ₀ q₀) ⊛ ‵ (flft κ₁ q₁) ⊛ ‵ (flft κ₂ q₂) ⊛ ‵ (flft κ₃ q₃) ⊛ ‵ ftrue) ⊛ ‵ (B.the-row .own x (ret″ ∷ []))) ⊛ raw (ensured 𝓤 H A begin.ended (begin.clauses 𝓤 H A mem′ run) (κ₀, (κ₁, (κ₂, (κ₃, tt)))) (begin-args o) tt x)))) (id⊢ 𝓤 _) $ await ! tt $ pick ! (λ x.
+        calls-at ! fm (BeginC 𝓤 H A mem′ run) known-begin (to-begin o) (and-then ! (load ! (from ! (stop !)) (look ! 37 refl)) (and-then ! (load ! (from ! (stop !)) (look ! 13 refl)) (and-then ! (load ! (from ! (stop !)) (look ! 33 refl)) (and-then ! (load ! (from ! (stop !)) (look ! 31 refl)) (and-then ! (load ! (from ! (stop !)) (look ! 29 refl)) (and-then ! (load ! (from ! (stop !)) (look ! 27 refl)) (and-then ! (load ! (from ! (stop !)) (look ! 11 refl)) (and-then ! (load ! (from ! (stop !)) (look ! 23 refl)) (no-more !))))))))) (λ ret″.
+        use1 W (later (some (λ (x : BeginAnswer). ((‵ (flft κ₀ q₀) ⊛ ‵ (flft κ₁ q₁) ⊛ ‵ (flft κ₂ q₂) ⊛ ‵ (flft κ₃ q₃) ⊛ ‵ (flft κ₄ q₄) ⊛ ‵ ftrue) ⊛ ‵ (B.the-row .own x (ret″ ∷ []))) ⊛ raw (ensured 𝓤 H A begin.ended (begin.clauses 𝓤 H A mem′ run) (κ₀, (κ₁, (κ₂, (κ₃, (κ₄, tt))))) (begin-args o) tt x)))) (id⊢ 𝓤 _) $ await ! tt $ pick ! (λ x.
         split ! $
         move ! (1 ∷ []) $
-        use1 W (some (λ (zs : Unit {0} × (List Party × (Unit {0} × (Unit {0} × (Unit {0} × (Unit {0} × (Unit {0} × Unit {0}))))))). ‵ (lasts begin.ended (κ₀, (κ₁, (κ₂, (κ₃, tt)))) (begin-args o) zs) ⊛ raw (fact 𝓤 (called x (lent h (zs .1 .0) ls gs) ≡ beginCall (lent h ps ls gs) i o key)))) (id⊢ 𝓤 _) $ pick ! (λ zs.
+        use1 W (some (λ (zs : Unit {0} × (List Party × (Unit {0} × (Unit {0} × (Unit {0} × (Unit {0} × (Unit {0} × (Unit {0} × Unit {0})))))))). ‵ (lasts begin.ended (κ₀, (κ₁, (κ₂, (κ₃, (κ₄, tt))))) (begin-args o) zs) ⊛ raw (fact 𝓤 (called x (lent h (zs .1 .0) ls gs ws) ≡ beginCall (lent h ps ls gs ws) i o key)))) (id⊢ 𝓤 _) $ pick ! (λ zs.
         split ! $
         move ! (1 ∷ []) $
-        heard ! (called x (lent h (zs .1 .0) ls gs) ≡ beginCall (lent h ps ls gs) i o key) (λ said.
+        heard ! (called x (lent h (zs .1 .0) ls gs ws) ≡ beginCall (lent h ps ls gs ws) i o key) (λ said.
         fsplit ! $
         move ! (1 ∷ []) $
         fsplit ! $
@@ -302,14 +320,16 @@ module _ {M : Type 1} (𝓤 : URA M) (H : Heap 𝓤) (A : Atoms 𝓤) (W : Given
         split ! $
         move ! (1 ∷ []) $
         split ! $
-        move ! (5 ∷ []) $
+        move ! (1 ∷ []) $
+        split ! $
+        move ! (6 ∷ []) $
         peeks ! B.the-row (Is B.the-row) (shows 𝓤 H A B.the-row) x (ret″ ∷ []) (λ ix.
-        land ! (from ! (stop !)) (init ! 26 refl (EL.lawful B.the-type B′.the-laws 𝓤 H A W tt .typed x _ ix .0)) $
-        rewrite ! 26 (λ (u : Val). ‵ (fat fullShare B′.mir l₉ 0 u)) (ap only ((B′.lowers .val-is) x _ ix)) refl $
+        land ! (from ! (stop !)) (init ! 28 refl (EL.lawful B.the-type B′.the-laws 𝓤 H A W tt .typed x _ ix .0)) $
+        rewrite ! 28 (λ (u : Val). ‵ (fat fullShare B′.mir l₁₀ 0 u)) (ap only ((B′.lowers .val-is) x _ ix)) refl $
         drop ! $
         -- `bead::begin_number`
         use0 W (raw (ReplyC 𝓤 H A mem′ run .pre (to-reply x))) (goes-reply x (subst (Is B.the-row x) (B′.lowers .val-is x _ ix) ix)) $
-        calls-at ! fm (ReplyC 𝓤 H A mem′ run) known-reply (to-reply x) (and-then ! (load ! (from ! (stop !)) (look ! 26 refl)) (no-more !)) (λ ret‴.
+        calls-at ! fm (ReplyC 𝓤 H A mem′ run) known-reply (to-reply x) (and-then ! (load ! (from ! (stop !)) (look ! 28 refl)) (no-more !)) (λ ret‴.
         use1 W (later (some (λ (y : ℕ). (‵ ftrue ⊛ ‵ (u32 .own y (ret‴ ∷ []))) ⊛ raw (ensured 𝓤 H A reply.ended (reply.clauses 𝓤 H A mem′ run) tt (reply-args x) tt y)))) (id⊢ 𝓤 _) $ await ! tt $ pick ! (λ y.
         split ! $
         move ! (1 ∷ []) $
@@ -321,36 +341,36 @@ module _ {M : Type 1} (𝓤 : URA M) (H : Heap 𝓤) (A : Atoms 𝓤) (W : Given
         split ! $
         move ! (1 ∷ []) $
         peeks ! u32 (Is u32) (shows 𝓤 H A u32) y (ret‴ ∷ []) (λ iy.
-        land ! (from ! (stop !)) (init ! 46 refl (uint-lawful 𝓤 H A W w32 .typed y _ iy .0)) $
-        rewrite ! 46 (λ (u : Val). ‵ (fat fullShare (tyInt w32) l₀ 0 u)) (ap only ((uint-tells w32) y _ iy)) refl $
+        land ! (from ! (stop !)) (init ! 50 refl (uint-lawful 𝓤 H A W w32 .typed y _ iy .0)) $
+        rewrite ! 50 (λ (u : Val). ‵ (fat fullShare (tyInt w32) l₀ 0 u)) (ap only ((uint-tells w32) y _ iy)) refl $
         drop ! $
-        returns-within ! Post refl (look ! 45 refl) $
-        freed ! 19 (occupied _ ∷ occupied _ ∷ occupied _ ∷ occupied _ ∷ occupied _ ∷ occupied _ ∷ occupied _ ∷ occupied _ ∷ occupied _ ∷ occupied _ ∷ occupied _ ∷ occupied _ ∷ occupied _ ∷ occupied _ ∷ []) tt refl $
-        keep ! (6 ∷ 5 ∷ 4 ∷ 2 ∷ 12 ∷ 7 ∷ 11 ∷ 10 ∷ []) $
-        by ! (exits (zs .1 .0) y e₁ (subst (Is u32 y) (uint-tells w32 y _ iy) iy) (begun-by-number (lent h ps ls gs) i n key setting t told may o is-named x y _ is-number said)))))))))))))))))))
+        returns-within ! Post refl (look ! 49 refl) $
+        freed ! 21 (occupied _ ∷ occupied _ ∷ occupied _ ∷ occupied _ ∷ occupied _ ∷ occupied _ ∷ occupied _ ∷ occupied _ ∷ occupied _ ∷ occupied _ ∷ occupied _ ∷ occupied _ ∷ occupied _ ∷ occupied _ ∷ occupied _ ∷ []) tt refl $
+        keep ! (7 ∷ 6 ∷ 5 ∷ 4 ∷ 2 ∷ 14 ∷ 8 ∷ 13 ∷ 12 ∷ 11 ∷ []) $
+        by ! (exits (zs .1 .0) y e₁ (subst (Is u32 y) (uint-tells w32 y _ iy) iy) (begun-by-number (lent h ps ls gs ws) i n key setting t told may o is-named x y _ is-number said)))))))))))))))))))
         (λ refused.
-        assigns ! (of-opd ! (lit ! tt)) (from ! (stop !)) (init ! 38 refl (tt, record { fits = lit< tt })) $
+        assigns ! (of-opd ! (lit ! tt)) (from ! (stop !)) (init ! 42 refl (tt, record { fits = lit< tt })) $
         -- the row is given up as it is
-        move ! (5 ∷ []) $
+        move ! (6 ∷ []) $
         fsplit ! $
         drop ! $
         fsplit ! $
         use1 W (‵ (fres γ₁ (codedHoleys P.the-row .code (heres P.the-row ps)))) (W .names .obs-res γ₁ (codedHoleys P.the-row .code (heres P.the-row ps))) $ use1 W (‵ (finally P.the-row γ₁ ps)) (res-finally 𝓤 H A W (named 1) κ₁ P.the-row γ₁ ps) $
-        returns-within ! Post refl (look ! 39 refl) $
-        freed ! 13 (occupied _ ∷ occupied _ ∷ occupied _ ∷ occupied _ ∷ occupied _ ∷ occupied _ ∷ occupied _ ∷ occupied _ ∷ occupied _ ∷ vacant ∷ occupied _ ∷ vacant ∷ vacant ∷ vacant ∷ []) tt refl $
-        keep ! (12 ∷ 11 ∷ 10 ∷ 8 ∷ 7 ∷ 0 ∷ 6 ∷ 4 ∷ []) $
-        by ! (exits ps 255 refl (refl, lit< tt) (no-operation (lent h ps ls gs) i n key setting t told refused))))))))))))))))))))))
+        returns-within ! Post refl (look ! 43 refl) $
+        freed ! 15 (occupied _ ∷ occupied _ ∷ occupied _ ∷ occupied _ ∷ occupied _ ∷ occupied _ ∷ occupied _ ∷ occupied _ ∷ occupied _ ∷ occupied _ ∷ vacant ∷ occupied _ ∷ vacant ∷ vacant ∷ vacant ∷ []) tt refl $
+        keep ! (14 ∷ 13 ∷ 12 ∷ 11 ∷ 9 ∷ 8 ∷ 0 ∷ 7 ∷ 6 ∷ 4 ∷ []) $
+        by ! (exits ps 255 refl (refl, lit< tt) (no-operation (lent h ps ls gs ws) i n key setting t told refused)))))))))))))))))))))))
 
 module _ {M : Type 1} (𝓤 : URA M) (H : Heap 𝓤) (A : Atoms 𝓤) (W : Given 𝓤 H A) (mem′ : Memory → SProp 𝓤) (run : Routine → Fun 𝓤) where
   walks : (C : Calls 𝓤 H) (Λ : Loops 𝓤 H) → FmC 𝓤 H (W .laws) C → Triple 𝓤 (C #bead·is-operation) (TestC 𝓤 H A mem′ run) → Triple 𝓤 (C #bead·operation-of) (NamedByC 𝓤 H A mem′ run) → Triple 𝓤 (C #index·begin) (BeginC 𝓤 H A mem′ run) → Triple 𝓤 (C #bead·begin-number) (ReplyC 𝓤 H A mem′ run)
       → Walks 𝓤 H A it.ended stayed (WpFn 𝓤 H C Λ code.function) (it.clauses 𝓤 H A mem′ run)
   walks C Λ fm known-test known-named-by known-begin known-reply = walked 𝓤 H A it.ended stayed (it.clauses 𝓤 H A mem′ run) (WpFn 𝓤 H C Λ code.function)
-      (λ κs. (ptr-vals, (slice-vals, (slice-vals, (slice-vals, ((uint-vals w32), ((uint-vals w32), ((uint-vals w32), ((uint-vals w32), tt)))))))))
-      (λ κs. (shr-tells (named 0) (κs .0) R.the-row, (mut-slice-tells (named 1) (κs .1 .0) P.the-row, (shr-slice-tells (named 2) (κs .1 .1 .0) u32, (shr-slice-tells (named 3) (κs .1 .1 .1 .0) u32, ((uint-tells w32), ((uint-tells w32), ((uint-tells w32), ((uint-tells w32), tt)))))))))
-      (λ κs qs bounds a _ are. via 𝓤 _ (fst∗ 𝓤 _ (emp 𝓤)) (walk 𝓤 H A W mem′ run (κs .0) (κs .1 .0) (κs .1 .1 .0) (κs .1 .1 .1 .0) (qs .0) (qs .1 .0) (qs .1 .1 .0) (qs .1 .1 .1 .0) (a .0 .ptr .0) (a .0 .ptr .1) (a .1 .0 .ptr .0) (a .1 .0 .ptr .1) (a .1 .1 .0 .ptr .0) (a .1 .1 .0 .ptr .1) (a .1 .1 .1 .0 .ptr .0) (a .1 .1 .1 .0 .ptr .1) (a .0 .name) (a .1 .0 .name) (a .1 .1 .0 .name) (a .1 .1 .1 .0 .name) (a .0 .now) (a .1 .0 .now) (a .1 .1 .0 .now) (a .1 .1 .1 .0 .now) (a .1 .1 .1 .1 .0) (a .1 .1 .1 .1 .1 .0) (a .1 .1 .1 .1 .1 .1 .0) (a .1 .1 .1 .1 .1 .1 .1 .0) (are .1 .0 .0 .1) (are .1 .1 .0 .0 .1) (are .1 .1 .1 .0 .0 .1) (are .1 .1 .1 .1 .0 .1) (are .1 .1 .1 .1 .1 .0 .1) (are .1 .1 .1 .1 .1 .1 .0 .1) (are .1 .1 .1 .1 .1 .1 .1 .0 .1) C Λ fm known-test known-named-by known-begin known-reply))
+      (λ κs. (ptr-vals, (slice-vals, (slice-vals, (slice-vals, (slice-vals, ((uint-vals w32), ((uint-vals w32), ((uint-vals w32), ((uint-vals w32), tt))))))))))
+      (λ κs. (shr-tells (named 0) (κs .0) R.the-row, (mut-slice-tells (named 1) (κs .1 .0) P.the-row, (shr-slice-tells (named 2) (κs .1 .1 .0) u32, (shr-slice-tells (named 3) (κs .1 .1 .1 .0) u32, (shr-slice-tells (named 4) (κs .1 .1 .1 .1 .0) u32, ((uint-tells w32), ((uint-tells w32), ((uint-tells w32), ((uint-tells w32), tt))))))))))
+      (λ κs qs bounds a _ are. via 𝓤 _ (fst∗ 𝓤 _ (emp 𝓤)) (walk 𝓤 H A W mem′ run (κs .0) (κs .1 .0) (κs .1 .1 .0) (κs .1 .1 .1 .0) (κs .1 .1 .1 .1 .0) (qs .0) (qs .1 .0) (qs .1 .1 .0) (qs .1 .1 .1 .0) (qs .1 .1 .1 .1 .0) (a .0 .ptr .0) (a .0 .ptr .1) (a .1 .0 .ptr .0) (a .1 .0 .ptr .1) (a .1 .1 .0 .ptr .0) (a .1 .1 .0 .ptr .1) (a .1 .1 .1 .0 .ptr .0) (a .1 .1 .1 .0 .ptr .1) (a .1 .1 .1 .1 .0 .ptr .0) (a .1 .1 .1 .1 .0 .ptr .1) (a .0 .name) (a .1 .0 .name) (a .1 .1 .0 .name) (a .1 .1 .1 .0 .name) (a .1 .1 .1 .1 .0 .name) (a .0 .now) (a .1 .0 .now) (a .1 .1 .0 .now) (a .1 .1 .1 .0 .now) (a .1 .1 .1 .1 .0 .now) (a .1 .1 .1 .1 .1 .0) (a .1 .1 .1 .1 .1 .1 .0) (a .1 .1 .1 .1 .1 .1 .1 .0) (a .1 .1 .1 .1 .1 .1 .1 .1 .0) (are .1 .0 .0 .1) (are .1 .1 .0 .0 .1) (are .1 .1 .1 .0 .0 .1) (are .1 .1 .1 .1 .0 .0 .1) (are .1 .1 .1 .1 .1 .0 .1) (are .1 .1 .1 .1 .1 .1 .0 .1) (are .1 .1 .1 .1 .1 .1 .1 .0 .1) (are .1 .1 .1 .1 .1 .1 .1 .1 .0 .1) C Λ fm known-test known-named-by known-begin known-reply))
 
-  goes : AllGo 𝓤 H A W 4 (it.signature .params) (it.ended .kept) stayed
-  goes = (goes-none-ref 𝓤 H A W 4 (0 ∷ []) tt (plain (λ _. R.the-row)) yes, (goes-gave-slice 𝓤 H A W 4 1 tt (plain (λ _. P.the-row)), (goes-none-slice 𝓤 H A W 4 (2 ∷ []) tt (plain (λ _. u32)) yes, (goes-none-slice 𝓤 H A W 4 (3 ∷ []) tt (plain (λ _. u32)) yes, (goes-none 𝓤 H A W 4 (λ _. u32) yes (λ κs x f. refl), (goes-none 𝓤 H A W 4 (λ _. u32) yes (λ κs x f. refl), (goes-none 𝓤 H A W 4 (λ _. u32) yes (λ κs x f. refl), (goes-none 𝓤 H A W 4 (λ _. u32) yes (λ κs x f. refl), tt))))))))
+  goes : AllGo 𝓤 H A W 5 (it.signature .params) (it.ended .kept) stayed
+  goes = (goes-none-ref 𝓤 H A W 5 (0 ∷ []) tt (plain (λ _. R.the-row)) yes, (goes-gave-slice 𝓤 H A W 5 1 tt (plain (λ _. P.the-row)), (goes-none-slice 𝓤 H A W 5 (2 ∷ []) tt (plain (λ _. u32)) yes, (goes-none-slice 𝓤 H A W 5 (3 ∷ []) tt (plain (λ _. u32)) yes, (goes-none-slice 𝓤 H A W 5 (4 ∷ []) tt (plain (λ _. u32)) yes, (goes-none 𝓤 H A W 5 (λ _. u32) yes (λ κs x f. refl), (goes-none 𝓤 H A W 5 (λ _. u32) yes (λ κs x f. refl), (goes-none 𝓤 H A W 5 (λ _. u32) yes (λ κs x f. refl), (goes-none 𝓤 H A W 5 (λ _. u32) yes (λ κs x f. refl), tt)))))))))
 
 meets : {M : Type 1} (𝓤 : URA M) (H : Heap 𝓤) (A : Atoms 𝓤) → Given 𝓤 H A → (mem′ : Memory → SProp 𝓤) (run : Routine → Fun 𝓤) (𝓣 : Tables 𝓤 H)
     → Triple 𝓤 (𝓣 .C #bead·is-operation) (TestC 𝓤 H A mem′ run) → Triple 𝓤 (𝓣 .C #bead·operation-of) (NamedByC 𝓤 H A mem′ run) → Triple 𝓤 (𝓣 .C #index·begin) (BeginC 𝓤 H A mem′ run) → Triple 𝓤 (𝓣 .C #bead·begin-number) (ReplyC 𝓤 H A mem′ run) → Meets 𝓤 H A it.signature (WpFn 𝓤 H (𝓣 .C) (𝓣 .Λ) code.function) (it.spec 𝓤 H A mem′ run)

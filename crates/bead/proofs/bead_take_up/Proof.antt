@@ -65,7 +65,7 @@ use Rattle.bead.proofs.bead_take_up.Statement as stated
 use Rattle.bead.proofs.bead_take_up.Code as code
 
 abbrev stayed : Stays (it.ended .signature .params) (it.ended .kept)
-stayed = (stay-none-ref (0 ∷ []) tt (plain (λ _. R.the-row)) yes, (stay-none-slice (1 ∷ []) tt (plain (λ _. P.the-row)) yes, (stay-none-slice (2 ∷ []) tt (plain (λ _. u32)) yes, (stay-none-slice (3 ∷ []) tt (plain (λ _. u32)) yes, tt))))
+stayed = (stay-none-ref (0 ∷ []) tt (plain (λ _. R.the-row)) yes, (stay-none-slice (1 ∷ []) tt (plain (λ _. P.the-row)) yes, (stay-none-slice (2 ∷ []) tt (plain (λ _. u32)) yes, (stay-none-slice (3 ∷ []) tt (plain (λ _. u32)) yes, (stay-none-slice (4 ∷ []) tt (plain (λ _. u32)) yes, tt)))))
 
 at-U : (x : TakeUpAnswer) {vs : List Val} → Is U.the-row x vs → Is U.the-row x (U′.lowered x ∷ [])
 at-U x {vs} is = subst (Is U.the-row x) (U′.lowers .val-is x vs is) is
@@ -79,8 +79,8 @@ module _ {M : Type 1} (𝓤 : URA M) (H : Heap 𝓤) (A : Atoms 𝓤) (mem′ : 
   ReplyC = tripleOf 𝓤 H A reply.signature (reply.spec 𝓤 H A mem′ run)
 
 module _ {M : Type 1} (𝓤 : URA M) (H : Heap 𝓤) (A : Atoms 𝓤) (W : Given 𝓤 H A) (mem′ : Memory → SProp 𝓤) (run : Routine → Fun 𝓤)
-    (κ₀ κ₁ κ₂ κ₃ : Lft) (q₀ q₁ q₂ q₃ : Share) (b₀ o₀ b₁ o₁ b₂ o₂ b₃ o₃ : ℕ) (γ₀ γ₁ γ₂ γ₃ : GName) (h : Root) (ps : List Party) (ls : List ℕ) (gs : List ℕ)
-    (room₁ : Room P.the-row (length ps)) (room₂ : Room u32 (length ls)) (room₃ : Room u32 (length gs)) where
+    (κ₀ κ₁ κ₂ κ₃ κ₄ : Lft) (q₀ q₁ q₂ q₃ q₄ : Share) (b₀ o₀ b₁ o₁ b₂ o₂ b₃ o₃ b₄ o₄ : ℕ) (γ₀ γ₁ γ₂ γ₃ γ₄ : GName) (h : Root) (ps : List Party) (ls : List ℕ) (gs : List ℕ) (ws : List ℕ)
+    (room₁ : Room P.the-row (length ps)) (room₂ : Room u32 (length ls)) (room₃ : Room u32 (length gs)) (room₄ : Room u32 (length ws)) where
   abbrev x₀ : RefT (Root)
   x₀ = record { ptr = (b₀, o₀); name = γ₀; now = h }
 
@@ -93,6 +93,9 @@ module _ {M : Type 1} (𝓤 : URA M) (H : Heap 𝓤) (A : Atoms 𝓤) (W : Given
   abbrev x₃ : RefT (List ℕ)
   x₃ = record { ptr = (b₃, o₃); name = γ₃; now = gs }
 
+  abbrev x₄ : RefT (List ℕ)
+  x₄ = record { ptr = (b₄, o₄); name = γ₄; now = ws }
+
   abbrev s₁ : Val
   s₁ = sliceVal (b₁, o₁) (length ps)
 
@@ -102,25 +105,28 @@ module _ {M : Type 1} (𝓤 : URA M) (H : Heap 𝓤) (A : Atoms 𝓤) (W : Given
   abbrev s₃ : Val
   s₃ = sliceVal (b₃, o₃) (length gs)
 
-  abbrev a : RefT (Root) × (RefT (List Party) × (RefT (List ℕ) × (RefT (List ℕ) × Unit {0})))
-  a = (x₀, (x₁, (x₂, (x₃, tt))))
+  abbrev s₄ : Val
+  s₄ = sliceVal (b₄, o₄) (length ws)
 
-  abbrev vals : List Val × (List Val × (List Val × (List Val × Unit {0})))
-  vals = (vptr b₀ o₀ ∷ [], (s₁ ∷ [], (s₂ ∷ [], (s₃ ∷ [], tt))))
+  abbrev a : RefT (Root) × (RefT (List Party) × (RefT (List ℕ) × (RefT (List ℕ) × (RefT (List ℕ) × Unit {0}))))
+  a = (x₀, (x₁, (x₂, (x₃, (x₄, tt)))))
+
+  abbrev vals : List Val × (List Val × (List Val × (List Val × (List Val × Unit {0}))))
+  vals = (vptr b₀ o₀ ∷ [], (s₁ ∷ [], (s₂ ∷ [], (s₃ ∷ [], (s₄ ∷ [], tt)))))
 
   abbrev Post : Val → SProp 𝓤
-  Post = walkOf 𝓤 H A it.ended stayed (it.clauses 𝓤 H A mem′ run) .post (((κ₀, (κ₁, (κ₂, (κ₃, tt)))), (q₀, (q₁, (q₂, (q₃, tt)))), tt, a, vals), tt)
+  Post = walkOf 𝓤 H A it.ended stayed (it.clauses 𝓤 H A mem′ run) .post (((κ₀, (κ₁, (κ₂, (κ₃, (κ₄, tt))))), (q₀, (q₁, (q₂, (q₃, (q₄, tt))))), tt, a, vals), tt)
 
   -- the call of `index::take_up`: what it is passed, and that it may be entered
-  abbrev take-up-args : RefT (Root) × (RefT (List Party) × (RefT (List ℕ) × (RefT (List ℕ) × Unit {0})))
-  take-up-args = (x₀, (x₁, (x₂, (x₃, tt))))
+  abbrev take-up-args : RefT (Root) × (RefT (List Party) × (RefT (List ℕ) × (RefT (List ℕ) × (RefT (List ℕ) × Unit {0}))))
+  take-up-args = (x₀, (x₁, (x₂, (x₃, (x₄, tt)))))
 
   abbrev to-take-up : TakeUpC 𝓤 H A mem′ run .Ghost
-  to-take-up = (((κ₀, (κ₁, (κ₂, (κ₃, tt)))), (q₀, (q₁, (q₂, (q₃, tt)))), tt, take-up-args, (vptr b₀ o₀ ∷ [], (s₁ ∷ [], (s₂ ∷ [], (s₃ ∷ [], tt))))), tt)
+  to-take-up = (((κ₀, (κ₁, (κ₂, (κ₃, (κ₄, tt))))), (q₀, (q₁, (q₂, (q₃, (q₄, tt))))), tt, take-up-args, (vptr b₀ o₀ ∷ [], (s₁ ∷ [], (s₂ ∷ [], (s₃ ∷ [], (s₄ ∷ [], tt)))))), tt)
 
-  goes-take-up : ent 𝓤 (sep 𝓤 (sep 𝓤 (A .lft κ₀ q₀) (sep 𝓤 (A .lft κ₁ q₁) (sep 𝓤 (A .lft κ₂ q₂) (A .lft κ₃ q₃)))) (sep 𝓤 (sem 𝓤 H A (ShrRef (named 0) κ₀ R.the-row .own x₀ (vptr b₀ o₀ ∷ []))) (sep 𝓤 (sem 𝓤 H A (ShrSlice (named 1) κ₁ P.the-row .own x₁ (s₁ ∷ []))) (sep 𝓤 (sem 𝓤 H A (ShrSlice (named 2) κ₂ u32 .own x₂ (s₂ ∷ []))) (sem 𝓤 H A (ShrSlice (named 3) κ₃ u32 .own x₃ (s₃ ∷ []))))))) (TakeUpC 𝓤 H A mem′ run .pre to-take-up)
+  goes-take-up : ent 𝓤 (sep 𝓤 (sep 𝓤 (A .lft κ₀ q₀) (sep 𝓤 (A .lft κ₁ q₁) (sep 𝓤 (A .lft κ₂ q₂) (sep 𝓤 (A .lft κ₃ q₃) (A .lft κ₄ q₄))))) (sep 𝓤 (sem 𝓤 H A (ShrRef (named 0) κ₀ R.the-row .own x₀ (vptr b₀ o₀ ∷ []))) (sep 𝓤 (sem 𝓤 H A (ShrSlice (named 1) κ₁ P.the-row .own x₁ (s₁ ∷ []))) (sep 𝓤 (sem 𝓤 H A (ShrSlice (named 2) κ₂ u32 .own x₂ (s₂ ∷ []))) (sep 𝓤 (sem 𝓤 H A (ShrSlice (named 3) κ₃ u32 .own x₃ (s₃ ∷ []))) (sem 𝓤 H A (ShrSlice (named 4) κ₄ u32 .own x₄ (s₄ ∷ [])))))))) (TakeUpC 𝓤 H A mem′ run .pre to-take-up)
   goes-take-up =
-      qed W ((‵ (flft κ₀ q₀) ⊛ ‵ (flft κ₁ q₁) ⊛ ‵ (flft κ₂ q₂) ⊛ ‵ (flft κ₃ q₃)) ∷ (‵ (ShrRef (named 0) κ₀ R.the-row .own x₀ (vptr b₀ o₀ ∷ [])) ⊛ ‵ (ShrSlice (named 1) κ₁ P.the-row .own x₁ (s₁ ∷ [])) ⊛ ‵ (ShrSlice (named 2) κ₂ u32 .own x₂ (s₂ ∷ [])) ⊛ ‵ (ShrSlice (named 3) κ₃ u32 .own x₃ (s₃ ∷ []))) ∷ []) ∵ split ! $ move ! (1 ∷ []) $ split ! $ move ! (1 ∷ []) $ split ! $ move ! (4 ∷ []) $ split ! $ move ! (1 ∷ []) $ split ! $ move ! (1 ∷ []) $ split ! $ nothing ! $ move ! (6 ∷ 0 ∷ []) $ join ! $ move ! (5 ∷ 0 ∷ []) $ join ! $ move ! (5 ∷ 0 ∷ []) $ join ! $ move ! (5 ∷ 0 ∷ []) $ join ! $ nothing ! $ move ! (3 ∷ 0 ∷ []) $ fjoin ! $ move ! (2 ∷ 0 ∷ []) $ fjoin ! $ move ! (2 ∷ 0 ∷ []) $ fjoin ! $ move ! (2 ∷ 0 ∷ []) $ fjoin ! $ move ! (1 ∷ 0 ∷ []) $ join ! $ frame ! $ done !
+      qed W ((‵ (flft κ₀ q₀) ⊛ ‵ (flft κ₁ q₁) ⊛ ‵ (flft κ₂ q₂) ⊛ ‵ (flft κ₃ q₃) ⊛ ‵ (flft κ₄ q₄)) ∷ (‵ (ShrRef (named 0) κ₀ R.the-row .own x₀ (vptr b₀ o₀ ∷ [])) ⊛ ‵ (ShrSlice (named 1) κ₁ P.the-row .own x₁ (s₁ ∷ [])) ⊛ ‵ (ShrSlice (named 2) κ₂ u32 .own x₂ (s₂ ∷ [])) ⊛ ‵ (ShrSlice (named 3) κ₃ u32 .own x₃ (s₃ ∷ [])) ⊛ ‵ (ShrSlice (named 4) κ₄ u32 .own x₄ (s₄ ∷ []))) ∷ []) ∵ split ! $ move ! (1 ∷ []) $ split ! $ move ! (1 ∷ []) $ split ! $ move ! (1 ∷ []) $ split ! $ move ! (5 ∷ []) $ split ! $ move ! (1 ∷ []) $ split ! $ move ! (1 ∷ []) $ split ! $ move ! (1 ∷ []) $ split ! $ nothing ! $ move ! (7 ∷ 0 ∷ []) $ join ! $ move ! (6 ∷ 0 ∷ []) $ join ! $ move ! (6 ∷ 0 ∷ []) $ join ! $ move ! (6 ∷ 0 ∷ []) $ join ! $ move ! (6 ∷ 0 ∷ []) $ join ! $ nothing ! $ move ! (3 ∷ 0 ∷ []) $ fjoin ! $ move ! (2 ∷ 0 ∷ []) $ fjoin ! $ move ! (2 ∷ 0 ∷ []) $ fjoin ! $ move ! (2 ∷ 0 ∷ []) $ fjoin ! $ move ! (2 ∷ 0 ∷ []) $ fjoin ! $ move ! (1 ∷ 0 ∷ []) $ join ! $ frame ! $ done !
 
   -- the call of `bead::take_up_number`: what it is passed, and that it may be entered
   abbrev reply-args : TakeUpAnswer → TakeUpAnswer × Unit {0}
@@ -134,25 +140,26 @@ module _ {M : Type 1} (𝓤 : URA M) (H : Heap 𝓤) (A : Atoms 𝓤) (W : Given
       qed W [] ∵ nothing ! $ nothing ! $ owned ! U.the-row (Is U.the-row) (EL.makes U.the-type U′.the-plain 𝓤 H A) answer _ ia $ fjoin ! $ move ! (1 ∷ 0 ∷ []) $ join ! $ frame ! $ done !
 
   -- what is had at exit, on every way
-  exits : (answer : ℕ) → Is u32 answer (vint w32 answer ∷ []) → called answer (lent h ps ls gs) ≡ numbered takeUpRefusal (takeUpCall (lent h ps ls gs))
-      → ent 𝓤 (⋆ 𝓤 H A (‵ (flft κ₀ q₀) ∷ ‵ (flft κ₁ q₁) ∷ ‵ (flft κ₂ q₂) ∷ ‵ (flft κ₃ q₃) ∷ ‵ (ShrRef (named 0) κ₀ R.the-row .own x₀ (vptr b₀ o₀ ∷ [])) ∷ ‵ (ShrSlice (named 1) κ₁ P.the-row .own x₁ (s₁ ∷ [])) ∷ ‵ (ShrSlice (named 2) κ₂ u32 .own x₂ (s₂ ∷ [])) ∷ ‵ (ShrSlice (named 3) κ₃ u32 .own x₃ (s₃ ∷ [])) ∷ [])) (Post (vint w32 answer))
+  exits : (answer : ℕ) → Is u32 answer (vint w32 answer ∷ []) → called answer (lent h ps ls gs ws) ≡ numbered takeUpRefusal (takeUpCall (lent h ps ls gs ws))
+      → ent 𝓤 (⋆ 𝓤 H A (‵ (flft κ₀ q₀) ∷ ‵ (flft κ₁ q₁) ∷ ‵ (flft κ₂ q₂) ∷ ‵ (flft κ₃ q₃) ∷ ‵ (flft κ₄ q₄) ∷ ‵ (ShrRef (named 0) κ₀ R.the-row .own x₀ (vptr b₀ o₀ ∷ [])) ∷ ‵ (ShrSlice (named 1) κ₁ P.the-row .own x₁ (s₁ ∷ [])) ∷ ‵ (ShrSlice (named 2) κ₂ u32 .own x₂ (s₂ ∷ [])) ∷ ‵ (ShrSlice (named 3) κ₃ u32 .own x₃ (s₃ ∷ [])) ∷ ‵ (ShrSlice (named 4) κ₄ u32 .own x₄ (s₄ ∷ [])) ∷ [])) (Post (vint w32 answer))
   exits answer is ends =
-      qed W (‵ (flft κ₀ q₀) ∷ ‵ (flft κ₁ q₁) ∷ ‵ (flft κ₂ q₂) ∷ ‵ (flft κ₃ q₃) ∷ ‵ (ShrRef (named 0) κ₀ R.the-row .own x₀ (vptr b₀ o₀ ∷ [])) ∷ ‵ (ShrSlice (named 1) κ₁ P.the-row .own x₁ (s₁ ∷ [])) ∷ ‵ (ShrSlice (named 2) κ₂ u32 .own x₂ (s₂ ∷ [])) ∷ ‵ (ShrSlice (named 3) κ₃ u32 .own x₃ (s₃ ∷ [])) ∷ []) ∵
-      suffices ! _ (ends-at 𝓤 H A it.ended stayed (it.clauses 𝓤 H A mem′ run) W (((κ₀, (κ₁, (κ₂, (κ₃, tt)))), (q₀, (q₁, (q₂, (q₃, tt)))), tt, a, vals), tt) (vint w32 answer) answer (tt, (tt, (tt, (tt, tt)))) (tt, (tt, (tt, (tt, tt))))) $ says ! ends $
-      nothing ! $ move ! (4 ∷ 0 ∷ []) $ join ! $ move ! (3 ∷ 0 ∷ []) $ join ! $ move ! (2 ∷ 0 ∷ []) $ join ! $ move ! (1 ∷ 0 ∷ []) $ join ! $ frame ! $ nothing ! $ move ! (4 ∷ 0 ∷ []) $ fjoin ! $ move ! (3 ∷ 0 ∷ []) $ fjoin ! $ move ! (2 ∷ 0 ∷ []) $ fjoin ! $ move ! (1 ∷ 0 ∷ []) $ fjoin ! $ owned ! u32 (Is u32) (uint-makes 𝓤 H A W w32) answer _ is $ move ! (1 ∷ 0 ∷ []) $ done !
+      qed W (‵ (flft κ₀ q₀) ∷ ‵ (flft κ₁ q₁) ∷ ‵ (flft κ₂ q₂) ∷ ‵ (flft κ₃ q₃) ∷ ‵ (flft κ₄ q₄) ∷ ‵ (ShrRef (named 0) κ₀ R.the-row .own x₀ (vptr b₀ o₀ ∷ [])) ∷ ‵ (ShrSlice (named 1) κ₁ P.the-row .own x₁ (s₁ ∷ [])) ∷ ‵ (ShrSlice (named 2) κ₂ u32 .own x₂ (s₂ ∷ [])) ∷ ‵ (ShrSlice (named 3) κ₃ u32 .own x₃ (s₃ ∷ [])) ∷ ‵ (ShrSlice (named 4) κ₄ u32 .own x₄ (s₄ ∷ [])) ∷ []) ∵
+      suffices ! _ (ends-at 𝓤 H A it.ended stayed (it.clauses 𝓤 H A mem′ run) W (((κ₀, (κ₁, (κ₂, (κ₃, (κ₄, tt))))), (q₀, (q₁, (q₂, (q₃, (q₄, tt))))), tt, a, vals), tt) (vint w32 answer) answer (tt, (tt, (tt, (tt, (tt, tt))))) (tt, (tt, (tt, (tt, (tt, tt)))))) $ says ! ends $
+      nothing ! $ move ! (5 ∷ 0 ∷ []) $ join ! $ move ! (4 ∷ 0 ∷ []) $ join ! $ move ! (3 ∷ 0 ∷ []) $ join ! $ move ! (2 ∷ 0 ∷ []) $ join ! $ move ! (1 ∷ 0 ∷ []) $ join ! $ frame ! $ nothing ! $ move ! (5 ∷ 0 ∷ []) $ fjoin ! $ move ! (4 ∷ 0 ∷ []) $ fjoin ! $ move ! (3 ∷ 0 ∷ []) $ fjoin ! $ move ! (2 ∷ 0 ∷ []) $ fjoin ! $ move ! (1 ∷ 0 ∷ []) $ fjoin ! $ owned ! u32 (Is u32) (uint-makes 𝓤 H A W w32) answer _ is $ move ! (1 ∷ 0 ∷ []) $ done !
 
   module _ (C : Calls 𝓤 H) (Λ : Loops 𝓤 H) (fm : FmC 𝓤 H (W .laws) C) (known-take-up : Triple 𝓤 (C #index·take-up) (TakeUpC 𝓤 H A mem′ run)) (known-reply : Triple 𝓤 (C #bead·take-up-number) (ReplyC 𝓤 H A mem′ run)) where
-    walk : ent 𝓤 (onEntry 𝓤 H A it.signature (κ₀, (κ₁, (κ₂, (κ₃, tt)))) (q₀, (q₁, (q₂, (q₃, tt)))) a vals) (WpFn 𝓤 H C Λ code.function (vptr b₀ o₀ ∷ s₁ ∷ s₂ ∷ s₃ ∷ []) Post)
+    walk : ent 𝓤 (onEntry 𝓤 H A it.signature (κ₀, (κ₁, (κ₂, (κ₃, (κ₄, tt))))) (q₀, (q₁, (q₂, (q₃, (q₄, tt))))) a vals) (WpFn 𝓤 H C Λ code.function (vptr b₀ o₀ ∷ s₁ ∷ s₂ ∷ s₃ ∷ s₄ ∷ []) Post)
     walk =
-        qed W ((‵ (flft κ₀ q₀) ⊛ ‵ (flft κ₁ q₁) ⊛ ‵ (flft κ₂ q₂) ⊛ ‵ (flft κ₃ q₃) ⊛ ‵ ftrue) ∷ ‵ (owns (ShrRef (named 0) κ₀ R.the-row ∷ ShrSlice (named 1) κ₁ P.the-row ∷ ShrSlice (named 2) κ₂ u32 ∷ ShrSlice (named 3) κ₃ u32 ∷ []) a vals) ∷ []) ∵
-        enter ! C Λ code.function (vptr b₀ o₀ ∷ s₁ ∷ s₂ ∷ s₃ ∷ []) _ $
-        alloc1 ! (λ l₀. alloc1 ! (λ l₁. alloc1 ! (λ l₂. alloc1 ! (λ l₃. alloc1 ! (λ l₄. alloc1 ! (λ l₅. alloc0 ! $ params1 ! $
-        pass1 ! (init ! 8 refl (tt, tt)) $
-        pass1 ! (init ! 6 refl (tt, (tt, (record { fits = room₁ .0 }, tt)))) $
-        pass1 ! (init ! 4 refl (tt, (tt, (record { fits = room₂ .0 }, tt)))) $
-        pass1 ! (init ! 2 refl (tt, (tt, (record { fits = room₃ .0 }, tt)))) $
+        qed W ((‵ (flft κ₀ q₀) ⊛ ‵ (flft κ₁ q₁) ⊛ ‵ (flft κ₂ q₂) ⊛ ‵ (flft κ₃ q₃) ⊛ ‵ (flft κ₄ q₄) ⊛ ‵ ftrue) ∷ ‵ (owns (ShrRef (named 0) κ₀ R.the-row ∷ ShrSlice (named 1) κ₁ P.the-row ∷ ShrSlice (named 2) κ₂ u32 ∷ ShrSlice (named 3) κ₃ u32 ∷ ShrSlice (named 4) κ₄ u32 ∷ []) a vals) ∷ []) ∵
+        enter ! C Λ code.function (vptr b₀ o₀ ∷ s₁ ∷ s₂ ∷ s₃ ∷ s₄ ∷ []) _ $
+        alloc1 ! (λ l₀. alloc1 ! (λ l₁. alloc1 ! (λ l₂. alloc1 ! (λ l₃. alloc1 ! (λ l₄. alloc1 ! (λ l₅. alloc1 ! (λ l₆. alloc0 ! $ params1 ! $
+        pass1 ! (init ! 10 refl (tt, tt)) $
+        pass1 ! (init ! 8 refl (tt, (tt, (record { fits = room₁ .0 }, tt)))) $
+        pass1 ! (init ! 6 refl (tt, (tt, (record { fits = room₂ .0 }, tt)))) $
+        pass1 ! (init ! 4 refl (tt, (tt, (record { fits = room₃ .0 }, tt)))) $
+        pass1 ! (init ! 2 refl (tt, (tt, (record { fits = room₄ .0 }, tt)))) $
         pass0 ! $
-        move ! (12 ∷ []) $
+        move ! (14 ∷ []) $
         split ! $
         move ! (1 ∷ []) $
         split ! $
@@ -160,7 +167,11 @@ module _ {M : Type 1} (𝓤 : URA M) (H : Heap 𝓤) (A : Atoms 𝓤) (W : Given
         split ! $
         move ! (1 ∷ []) $
         split ! $
-        move ! (17 ∷ []) $
+        move ! (1 ∷ []) $
+        split ! $
+        move ! (20 ∷ []) $
+        fsplit ! $
+        move ! (1 ∷ []) $
         fsplit ! $
         move ! (1 ∷ []) $
         fsplit ! $
@@ -169,23 +180,28 @@ module _ {M : Type 1} (𝓤 : URA M) (H : Heap 𝓤) (A : Atoms 𝓤) (W : Given
         move ! (1 ∷ []) $
         fsplit ! $
         -- `index::take_up`
-        move ! (4 ∷ []) $
+        move ! (5 ∷ []) $
         use1 W (‵ (ShrRef (named 0) κ₀ R.the-row .own x₀ (vptr b₀ o₀ ∷ [])) ⊛ ‵ (ShrRef (named 0) κ₀ R.the-row .own x₀ (vptr b₀ o₀ ∷ []))) (shr-copy 𝓤 H A W (named 0) κ₀ R.the-row .twice x₀ (vptr b₀ o₀ ∷ [])) $
         split ! $
-        move ! (5 ∷ []) $
+        move ! (6 ∷ []) $
         use1 W (‵ (ShrSlice (named 1) κ₁ P.the-row .own x₁ (s₁ ∷ [])) ⊛ ‵ (ShrSlice (named 1) κ₁ P.the-row .own x₁ (s₁ ∷ []))) (shr-slice-copy 𝓤 H A W (named 1) κ₁ P.the-row .twice x₁ (s₁ ∷ [])) $
         split ! $
-        move ! (6 ∷ []) $
+        move ! (7 ∷ []) $
         use1 W (‵ (ShrSlice (named 2) κ₂ u32 .own x₂ (s₂ ∷ [])) ⊛ ‵ (ShrSlice (named 2) κ₂ u32 .own x₂ (s₂ ∷ []))) (shr-slice-copy 𝓤 H A W (named 2) κ₂ u32 .twice x₂ (s₂ ∷ [])) $
         split ! $
-        move ! (6 ∷ []) $
+        move ! (8 ∷ []) $
         use1 W (‵ (ShrSlice (named 3) κ₃ u32 .own x₃ (s₃ ∷ [])) ⊛ ‵ (ShrSlice (named 3) κ₃ u32 .own x₃ (s₃ ∷ []))) (shr-slice-copy 𝓤 H A W (named 3) κ₃ u32 .twice x₃ (s₃ ∷ [])) $
         split ! $
-        move ! (11 ∷ 9 ∷ []) $
+        move ! (8 ∷ []) $
+        use1 W (‵ (ShrSlice (named 4) κ₄ u32 .own x₄ (s₄ ∷ [])) ⊛ ‵ (ShrSlice (named 4) κ₄ u32 .own x₄ (s₄ ∷ []))) (shr-slice-copy 𝓤 H A W (named 4) κ₄ u32 .twice x₄ (s₄ ∷ [])) $
+        split ! $
+        move ! (13 ∷ 11 ∷ []) $
         join ! $
-        move ! (11 ∷ 0 ∷ []) $
+        move ! (13 ∷ 0 ∷ []) $
         join ! $
-        move ! (11 ∷ 0 ∷ []) $
+        move ! (13 ∷ 0 ∷ []) $
+        join ! $
+        move ! (13 ∷ 0 ∷ []) $
         join ! $
         move ! (3 ∷ 1 ∷ []) $
         join ! $
@@ -193,33 +209,37 @@ module _ {M : Type 1} (𝓤 : URA M) (H : Heap 𝓤) (A : Atoms 𝓤) (W : Given
         join ! $
         move ! (5 ∷ 0 ∷ []) $
         join ! $
+        move ! (6 ∷ 0 ∷ []) $
+        join ! $
         move ! (1 ∷ 0 ∷ []) $
         use2 W (raw (TakeUpC 𝓤 H A mem′ run .pre to-take-up)) goes-take-up $
-        calls-at ! fm (TakeUpC 𝓤 H A mem′ run) known-take-up to-take-up (and-then ! (load ! (from ! (stop !)) (look ! 15 refl)) (and-then ! (load ! (from ! (stop !)) (look ! 13 refl)) (and-then ! (load ! (from ! (stop !)) (look ! 11 refl)) (and-then ! (load ! (from ! (stop !)) (look ! 9 refl)) (no-more !))))) (λ ret.
-        use1 W (later (some (λ (x : TakeUpAnswer). ((‵ (flft κ₀ q₀) ⊛ ‵ (flft κ₁ q₁) ⊛ ‵ (flft κ₂ q₂) ⊛ ‵ (flft κ₃ q₃) ⊛ ‵ ftrue) ⊛ ‵ (U.the-row .own x (ret ∷ []))) ⊛ raw (ensured 𝓤 H A take-up.ended (take-up.clauses 𝓤 H A mem′ run) (κ₀, (κ₁, (κ₂, (κ₃, tt)))) take-up-args tt x)))) (id⊢ 𝓤 _) $ await ! tt $ pick ! (λ x.
+        calls-at ! fm (TakeUpC 𝓤 H A mem′ run) known-take-up to-take-up (and-then ! (load ! (from ! (stop !)) (look ! 18 refl)) (and-then ! (load ! (from ! (stop !)) (look ! 16 refl)) (and-then ! (load ! (from ! (stop !)) (look ! 14 refl)) (and-then ! (load ! (from ! (stop !)) (look ! 12 refl)) (and-then ! (load ! (from ! (stop !)) (look ! 10 refl)) (no-more !)))))) (λ ret.
+        use1 W (later (some (λ (x : TakeUpAnswer). ((‵ (flft κ₀ q₀) ⊛ ‵ (flft κ₁ q₁) ⊛ ‵ (flft κ₂ q₂) ⊛ ‵ (flft κ₃ q₃) ⊛ ‵ (flft κ₄ q₄) ⊛ ‵ ftrue) ⊛ ‵ (U.the-row .own x (ret ∷ []))) ⊛ raw (ensured 𝓤 H A take-up.ended (take-up.clauses 𝓤 H A mem′ run) (κ₀, (κ₁, (κ₂, (κ₃, (κ₄, tt))))) take-up-args tt x)))) (id⊢ 𝓤 _) $ await ! tt $ pick ! (λ x.
         split ! $
         move ! (1 ∷ []) $
-        use1 W (some (λ (zs : Unit {0} × (Unit {0} × (Unit {0} × (Unit {0} × Unit {0})))). ‵ (lasts take-up.ended (κ₀, (κ₁, (κ₂, (κ₃, tt)))) take-up-args zs) ⊛ raw (fact 𝓤 (called x (lent h ps ls gs) ≡ takeUpCall (lent h ps ls gs))))) (id⊢ 𝓤 _) $ pick ! (λ zs.
+        use1 W (some (λ (zs : Unit {0} × (Unit {0} × (Unit {0} × (Unit {0} × (Unit {0} × Unit {0}))))). ‵ (lasts take-up.ended (κ₀, (κ₁, (κ₂, (κ₃, (κ₄, tt))))) take-up-args zs) ⊛ raw (fact 𝓤 (called x (lent h ps ls gs ws) ≡ takeUpCall (lent h ps ls gs ws))))) (id⊢ 𝓤 _) $ pick ! (λ zs.
         split ! $
         move ! (1 ∷ []) $
-        heard ! (called x (lent h ps ls gs) ≡ takeUpCall (lent h ps ls gs)) (λ said.
+        heard ! (called x (lent h ps ls gs ws) ≡ takeUpCall (lent h ps ls gs ws)) (λ said.
         move ! (1 ∷ []) $
         split ! $
-        split ! $
-        move ! (1 ∷ []) $
         split ! $
         move ! (1 ∷ []) $
         split ! $
         move ! (1 ∷ []) $
         split ! $
-        move ! (5 ∷ []) $
+        move ! (1 ∷ []) $
+        split ! $
+        move ! (1 ∷ []) $
+        split ! $
+        move ! (6 ∷ []) $
         peeks ! U.the-row (Is U.the-row) (shows 𝓤 H A U.the-row) x (ret ∷ []) (λ ix.
-        land ! (from ! (stop !)) (init ! 13 refl (EL.lawful U.the-type U′.the-laws 𝓤 H A W tt .typed x _ ix .0)) $
-        rewrite ! 13 (λ (u : Val). ‵ (fat fullShare U′.mir l₅ 0 u)) (ap only ((U′.lowers .val-is) x _ ix)) refl $
+        land ! (from ! (stop !)) (init ! 15 refl (EL.lawful U.the-type U′.the-laws 𝓤 H A W tt .typed x _ ix .0)) $
+        rewrite ! 15 (λ (u : Val). ‵ (fat fullShare U′.mir l₆ 0 u)) (ap only ((U′.lowers .val-is) x _ ix)) refl $
         drop ! $
         -- `bead::take_up_number`
         use0 W (raw (ReplyC 𝓤 H A mem′ run .pre (to-reply x))) (goes-reply x (subst (Is U.the-row x) (U′.lowers .val-is x _ ix) ix)) $
-        calls-at ! fm (ReplyC 𝓤 H A mem′ run) known-reply (to-reply x) (and-then ! (load ! (from ! (stop !)) (look ! 13 refl)) (no-more !)) (λ ret′.
+        calls-at ! fm (ReplyC 𝓤 H A mem′ run) known-reply (to-reply x) (and-then ! (load ! (from ! (stop !)) (look ! 15 refl)) (no-more !)) (λ ret′.
         use1 W (later (some (λ (y : ℕ). (‵ ftrue ⊛ ‵ (u32 .own y (ret′ ∷ []))) ⊛ raw (ensured 𝓤 H A reply.ended (reply.clauses 𝓤 H A mem′ run) tt (reply-args x) tt y)))) (id⊢ 𝓤 _) $ await ! tt $ pick ! (λ y.
         split ! $
         move ! (1 ∷ []) $
@@ -231,24 +251,24 @@ module _ {M : Type 1} (𝓤 : URA M) (H : Heap 𝓤) (A : Atoms 𝓤) (W : Given
         split ! $
         move ! (1 ∷ []) $
         peeks ! u32 (Is u32) (shows 𝓤 H A u32) y (ret′ ∷ []) (λ iy.
-        land ! (from ! (stop !)) (init ! 25 refl (uint-lawful 𝓤 H A W w32 .typed y _ iy .0)) $
-        rewrite ! 25 (λ (u : Val). ‵ (fat fullShare (tyInt w32) l₀ 0 u)) (ap only ((uint-tells w32) y _ iy)) refl $
+        land ! (from ! (stop !)) (init ! 29 refl (uint-lawful 𝓤 H A W w32 .typed y _ iy .0)) $
+        rewrite ! 29 (λ (u : Val). ‵ (fat fullShare (tyInt w32) l₀ 0 u)) (ap only ((uint-tells w32) y _ iy)) refl $
         drop ! $
-        returns ! (look ! 24 refl) $
-        freed ! 14 (occupied _ ∷ occupied _ ∷ occupied _ ∷ occupied _ ∷ occupied _ ∷ occupied _ ∷ []) tt refl $
-        keep ! (6 ∷ 5 ∷ 4 ∷ 2 ∷ 11 ∷ 10 ∷ 9 ∷ 8 ∷ []) $
-        by ! (exits y (subst (Is u32 y) (uint-tells w32 y _ iy) iy) (answered takeUpRefusal x y _ _ is-number said))))))))))))))))))
+        returns ! (look ! 28 refl) $
+        freed ! 16 (occupied _ ∷ occupied _ ∷ occupied _ ∷ occupied _ ∷ occupied _ ∷ occupied _ ∷ occupied _ ∷ []) tt refl $
+        keep ! (7 ∷ 6 ∷ 5 ∷ 4 ∷ 2 ∷ 13 ∷ 12 ∷ 11 ∷ 10 ∷ 9 ∷ []) $
+        by ! (exits y (subst (Is u32 y) (uint-tells w32 y _ iy) iy) (answered takeUpRefusal x y _ _ is-number said)))))))))))))))))))
 
 module _ {M : Type 1} (𝓤 : URA M) (H : Heap 𝓤) (A : Atoms 𝓤) (W : Given 𝓤 H A) (mem′ : Memory → SProp 𝓤) (run : Routine → Fun 𝓤) where
   walks : (C : Calls 𝓤 H) (Λ : Loops 𝓤 H) → FmC 𝓤 H (W .laws) C → Triple 𝓤 (C #index·take-up) (TakeUpC 𝓤 H A mem′ run) → Triple 𝓤 (C #bead·take-up-number) (ReplyC 𝓤 H A mem′ run)
       → Walks 𝓤 H A it.ended stayed (WpFn 𝓤 H C Λ code.function) (it.clauses 𝓤 H A mem′ run)
   walks C Λ fm known-take-up known-reply = walked 𝓤 H A it.ended stayed (it.clauses 𝓤 H A mem′ run) (WpFn 𝓤 H C Λ code.function)
-      (λ κs. (ptr-vals, (slice-vals, (slice-vals, (slice-vals, tt)))))
-      (λ κs. (shr-tells (named 0) (κs .0) R.the-row, (shr-slice-tells (named 1) (κs .1 .0) P.the-row, (shr-slice-tells (named 2) (κs .1 .1 .0) u32, (shr-slice-tells (named 3) (κs .1 .1 .1 .0) u32, tt)))))
-      (λ κs qs bounds a _ are. via 𝓤 _ (fst∗ 𝓤 _ (emp 𝓤)) (walk 𝓤 H A W mem′ run (κs .0) (κs .1 .0) (κs .1 .1 .0) (κs .1 .1 .1 .0) (qs .0) (qs .1 .0) (qs .1 .1 .0) (qs .1 .1 .1 .0) (a .0 .ptr .0) (a .0 .ptr .1) (a .1 .0 .ptr .0) (a .1 .0 .ptr .1) (a .1 .1 .0 .ptr .0) (a .1 .1 .0 .ptr .1) (a .1 .1 .1 .0 .ptr .0) (a .1 .1 .1 .0 .ptr .1) (a .0 .name) (a .1 .0 .name) (a .1 .1 .0 .name) (a .1 .1 .1 .0 .name) (a .0 .now) (a .1 .0 .now) (a .1 .1 .0 .now) (a .1 .1 .1 .0 .now) (are .1 .0 .0 .1) (are .1 .1 .0 .0 .1) (are .1 .1 .1 .0 .0 .1) C Λ fm known-take-up known-reply))
+      (λ κs. (ptr-vals, (slice-vals, (slice-vals, (slice-vals, (slice-vals, tt))))))
+      (λ κs. (shr-tells (named 0) (κs .0) R.the-row, (shr-slice-tells (named 1) (κs .1 .0) P.the-row, (shr-slice-tells (named 2) (κs .1 .1 .0) u32, (shr-slice-tells (named 3) (κs .1 .1 .1 .0) u32, (shr-slice-tells (named 4) (κs .1 .1 .1 .1 .0) u32, tt))))))
+      (λ κs qs bounds a _ are. via 𝓤 _ (fst∗ 𝓤 _ (emp 𝓤)) (walk 𝓤 H A W mem′ run (κs .0) (κs .1 .0) (κs .1 .1 .0) (κs .1 .1 .1 .0) (κs .1 .1 .1 .1 .0) (qs .0) (qs .1 .0) (qs .1 .1 .0) (qs .1 .1 .1 .0) (qs .1 .1 .1 .1 .0) (a .0 .ptr .0) (a .0 .ptr .1) (a .1 .0 .ptr .0) (a .1 .0 .ptr .1) (a .1 .1 .0 .ptr .0) (a .1 .1 .0 .ptr .1) (a .1 .1 .1 .0 .ptr .0) (a .1 .1 .1 .0 .ptr .1) (a .1 .1 .1 .1 .0 .ptr .0) (a .1 .1 .1 .1 .0 .ptr .1) (a .0 .name) (a .1 .0 .name) (a .1 .1 .0 .name) (a .1 .1 .1 .0 .name) (a .1 .1 .1 .1 .0 .name) (a .0 .now) (a .1 .0 .now) (a .1 .1 .0 .now) (a .1 .1 .1 .0 .now) (a .1 .1 .1 .1 .0 .now) (are .1 .0 .0 .1) (are .1 .1 .0 .0 .1) (are .1 .1 .1 .0 .0 .1) (are .1 .1 .1 .1 .0 .0 .1) C Λ fm known-take-up known-reply))
 
-  goes : AllGo 𝓤 H A W 4 (it.signature .params) (it.ended .kept) stayed
-  goes = (goes-none-ref 𝓤 H A W 4 (0 ∷ []) tt (plain (λ _. R.the-row)) yes, (goes-none-slice 𝓤 H A W 4 (1 ∷ []) tt (plain (λ _. P.the-row)) yes, (goes-none-slice 𝓤 H A W 4 (2 ∷ []) tt (plain (λ _. u32)) yes, (goes-none-slice 𝓤 H A W 4 (3 ∷ []) tt (plain (λ _. u32)) yes, tt))))
+  goes : AllGo 𝓤 H A W 5 (it.signature .params) (it.ended .kept) stayed
+  goes = (goes-none-ref 𝓤 H A W 5 (0 ∷ []) tt (plain (λ _. R.the-row)) yes, (goes-none-slice 𝓤 H A W 5 (1 ∷ []) tt (plain (λ _. P.the-row)) yes, (goes-none-slice 𝓤 H A W 5 (2 ∷ []) tt (plain (λ _. u32)) yes, (goes-none-slice 𝓤 H A W 5 (3 ∷ []) tt (plain (λ _. u32)) yes, (goes-none-slice 𝓤 H A W 5 (4 ∷ []) tt (plain (λ _. u32)) yes, tt)))))
 
 meets : {M : Type 1} (𝓤 : URA M) (H : Heap 𝓤) (A : Atoms 𝓤) → Given 𝓤 H A → (mem′ : Memory → SProp 𝓤) (run : Routine → Fun 𝓤) (𝓣 : Tables 𝓤 H)
     → Triple 𝓤 (𝓣 .C #index·take-up) (TakeUpC 𝓤 H A mem′ run) → Triple 𝓤 (𝓣 .C #bead·take-up-number) (ReplyC 𝓤 H A mem′ run) → Meets 𝓤 H A it.signature (WpFn 𝓤 H (𝓣 .C) (𝓣 .Λ) code.function) (it.spec 𝓤 H A mem′ run)

@@ -65,7 +65,7 @@ use Rattle.bead.proofs.bead_withdraw.Statement as stated
 use Rattle.bead.proofs.bead_withdraw.Code as code
 
 abbrev stayed : Stays (it.ended .signature .params) (it.ended .kept)
-stayed = (gave-ref (0 ∷ []) tt (plain (λ _. R.the-row)), (gave-slice (1 ∷ []) tt (plain (λ _. P.the-row)), (gave-slice (2 ∷ []) tt (plain (λ _. u32)), (gave-slice (3 ∷ []) tt (plain (λ _. u32)), (stay-none (λ _. u32) yes, tt)))))
+stayed = (gave-ref (0 ∷ []) tt (plain (λ _. R.the-row)), (gave-slice (1 ∷ []) tt (plain (λ _. P.the-row)), (gave-slice (2 ∷ []) tt (plain (λ _. u32)), (gave-slice (3 ∷ []) tt (plain (λ _. u32)), (gave-slice (4 ∷ []) tt (plain (λ _. u32)), (stay-none (λ _. u32) yes, tt))))))
 
 at-G : (x : WithdrawAnswer) {vs : List Val} → Is G.the-row x vs → Is G.the-row x (G′.lowered x ∷ [])
 at-G x {vs} is = subst (Is G.the-row x) (G′.lowers .val-is x vs is) is
@@ -79,8 +79,8 @@ module _ {M : Type 1} (𝓤 : URA M) (H : Heap 𝓤) (A : Atoms 𝓤) (mem′ : 
   ReplyC = tripleOf 𝓤 H A reply.signature (reply.spec 𝓤 H A mem′ run)
 
 module _ {M : Type 1} (𝓤 : URA M) (H : Heap 𝓤) (A : Atoms 𝓤) (W : Given 𝓤 H A) (mem′ : Memory → SProp 𝓤) (run : Routine → Fun 𝓤)
-    (κ₀ κ₁ κ₂ κ₃ : Lft) (q₀ q₁ q₂ q₃ : Share) (b₀ o₀ b₁ o₁ b₂ o₂ b₃ o₃ : ℕ) (γ₀ γ₁ γ₂ γ₃ : GName) (h : Root) (ps : List Party) (ls : List ℕ) (gs : List ℕ) (i : ℕ)
-    (room₁ : Room P.the-row (length ps)) (room₂ : Room u32 (length ls)) (room₃ : Room u32 (length gs)) (i-fits : i < 2 ^ 32) where
+    (κ₀ κ₁ κ₂ κ₃ κ₄ : Lft) (q₀ q₁ q₂ q₃ q₄ : Share) (b₀ o₀ b₁ o₁ b₂ o₂ b₃ o₃ b₄ o₄ : ℕ) (γ₀ γ₁ γ₂ γ₃ γ₄ : GName) (h : Root) (ps : List Party) (ls : List ℕ) (gs : List ℕ) (ws : List ℕ) (i : ℕ)
+    (room₁ : Room P.the-row (length ps)) (room₂ : Room u32 (length ls)) (room₃ : Room u32 (length gs)) (room₄ : Room u32 (length ws)) (i-fits : i < 2 ^ 32) where
   abbrev x₀ : RefT (Root)
   x₀ = record { ptr = (b₀, o₀); name = γ₀; now = h }
 
@@ -93,6 +93,9 @@ module _ {M : Type 1} (𝓤 : URA M) (H : Heap 𝓤) (A : Atoms 𝓤) (W : Given
   abbrev x₃ : RefT (List ℕ)
   x₃ = record { ptr = (b₃, o₃); name = γ₃; now = gs }
 
+  abbrev x₄ : RefT (List ℕ)
+  x₄ = record { ptr = (b₄, o₄); name = γ₄; now = ws }
+
   abbrev s₁ : Val
   s₁ = sliceVal (b₁, o₁) (length ps)
 
@@ -102,25 +105,28 @@ module _ {M : Type 1} (𝓤 : URA M) (H : Heap 𝓤) (A : Atoms 𝓤) (W : Given
   abbrev s₃ : Val
   s₃ = sliceVal (b₃, o₃) (length gs)
 
-  abbrev a : RefT (Root) × (RefT (List Party) × (RefT (List ℕ) × (RefT (List ℕ) × (ℕ × Unit {0}))))
-  a = (x₀, (x₁, (x₂, (x₃, (i, tt)))))
+  abbrev s₄ : Val
+  s₄ = sliceVal (b₄, o₄) (length ws)
 
-  abbrev vals : List Val × (List Val × (List Val × (List Val × (List Val × Unit {0}))))
-  vals = (vptr b₀ o₀ ∷ [], (s₁ ∷ [], (s₂ ∷ [], (s₃ ∷ [], (vint w32 i ∷ [], tt)))))
+  abbrev a : RefT (Root) × (RefT (List Party) × (RefT (List ℕ) × (RefT (List ℕ) × (RefT (List ℕ) × (ℕ × Unit {0})))))
+  a = (x₀, (x₁, (x₂, (x₃, (x₄, (i, tt))))))
+
+  abbrev vals : List Val × (List Val × (List Val × (List Val × (List Val × (List Val × Unit {0})))))
+  vals = (vptr b₀ o₀ ∷ [], (s₁ ∷ [], (s₂ ∷ [], (s₃ ∷ [], (s₄ ∷ [], (vint w32 i ∷ [], tt))))))
 
   abbrev Post : Val → SProp 𝓤
-  Post = walkOf 𝓤 H A it.ended stayed (it.clauses 𝓤 H A mem′ run) .post (((κ₀, (κ₁, (κ₂, (κ₃, tt)))), (q₀, (q₁, (q₂, (q₃, tt)))), tt, a, vals), tt)
+  Post = walkOf 𝓤 H A it.ended stayed (it.clauses 𝓤 H A mem′ run) .post (((κ₀, (κ₁, (κ₂, (κ₃, (κ₄, tt))))), (q₀, (q₁, (q₂, (q₃, (q₄, tt))))), tt, a, vals), tt)
 
   -- the call of `index::withdraw`: what it is passed, and that it may be entered
-  abbrev withdraw-args : RefT (Root) × (RefT (List Party) × (RefT (List ℕ) × (RefT (List ℕ) × (ℕ × Unit {0}))))
-  withdraw-args = (x₀, (x₁, (x₂, (x₃, (i, tt)))))
+  abbrev withdraw-args : RefT (Root) × (RefT (List Party) × (RefT (List ℕ) × (RefT (List ℕ) × (RefT (List ℕ) × (ℕ × Unit {0})))))
+  withdraw-args = (x₀, (x₁, (x₂, (x₃, (x₄, (i, tt))))))
 
   abbrev to-withdraw : WithdrawC 𝓤 H A mem′ run .Ghost
-  to-withdraw = (((κ₀, (κ₁, (κ₂, (κ₃, tt)))), (q₀, (q₁, (q₂, (q₃, tt)))), tt, withdraw-args, (vptr b₀ o₀ ∷ [], (s₁ ∷ [], (s₂ ∷ [], (s₃ ∷ [], (vint w32 i ∷ [], tt)))))), tt)
+  to-withdraw = (((κ₀, (κ₁, (κ₂, (κ₃, (κ₄, tt))))), (q₀, (q₁, (q₂, (q₃, (q₄, tt))))), tt, withdraw-args, (vptr b₀ o₀ ∷ [], (s₁ ∷ [], (s₂ ∷ [], (s₃ ∷ [], (s₄ ∷ [], (vint w32 i ∷ [], tt))))))), tt)
 
-  goes-withdraw : ent 𝓤 (sep 𝓤 (sep 𝓤 (A .lft κ₀ q₀) (sep 𝓤 (A .lft κ₁ q₁) (sep 𝓤 (A .lft κ₂ q₂) (A .lft κ₃ q₃)))) (sep 𝓤 (sem 𝓤 H A (MutRef (named 0) κ₀ R.the-row .own x₀ (vptr b₀ o₀ ∷ []))) (sep 𝓤 (sem 𝓤 H A (MutSlice (named 1) κ₁ P.the-row .own x₁ (s₁ ∷ []))) (sep 𝓤 (sem 𝓤 H A (MutSlice (named 2) κ₂ u32 .own x₂ (s₂ ∷ []))) (sem 𝓤 H A (MutSlice (named 3) κ₃ u32 .own x₃ (s₃ ∷ []))))))) (WithdrawC 𝓤 H A mem′ run .pre to-withdraw)
+  goes-withdraw : ent 𝓤 (sep 𝓤 (sep 𝓤 (A .lft κ₀ q₀) (sep 𝓤 (A .lft κ₁ q₁) (sep 𝓤 (A .lft κ₂ q₂) (sep 𝓤 (A .lft κ₃ q₃) (A .lft κ₄ q₄))))) (sep 𝓤 (sem 𝓤 H A (MutRef (named 0) κ₀ R.the-row .own x₀ (vptr b₀ o₀ ∷ []))) (sep 𝓤 (sem 𝓤 H A (MutSlice (named 1) κ₁ P.the-row .own x₁ (s₁ ∷ []))) (sep 𝓤 (sem 𝓤 H A (MutSlice (named 2) κ₂ u32 .own x₂ (s₂ ∷ []))) (sep 𝓤 (sem 𝓤 H A (MutSlice (named 3) κ₃ u32 .own x₃ (s₃ ∷ []))) (sem 𝓤 H A (MutSlice (named 4) κ₄ u32 .own x₄ (s₄ ∷ [])))))))) (WithdrawC 𝓤 H A mem′ run .pre to-withdraw)
   goes-withdraw =
-      qed W ((‵ (flft κ₀ q₀) ⊛ ‵ (flft κ₁ q₁) ⊛ ‵ (flft κ₂ q₂) ⊛ ‵ (flft κ₃ q₃)) ∷ (‵ (MutRef (named 0) κ₀ R.the-row .own x₀ (vptr b₀ o₀ ∷ [])) ⊛ ‵ (MutSlice (named 1) κ₁ P.the-row .own x₁ (s₁ ∷ [])) ⊛ ‵ (MutSlice (named 2) κ₂ u32 .own x₂ (s₂ ∷ [])) ⊛ ‵ (MutSlice (named 3) κ₃ u32 .own x₃ (s₃ ∷ []))) ∷ []) ∵ split ! $ move ! (1 ∷ []) $ split ! $ move ! (1 ∷ []) $ split ! $ move ! (4 ∷ []) $ split ! $ move ! (1 ∷ []) $ split ! $ move ! (1 ∷ []) $ split ! $ nothing ! $ move ! (6 ∷ 0 ∷ []) $ join ! $ move ! (5 ∷ 0 ∷ []) $ join ! $ move ! (5 ∷ 0 ∷ []) $ join ! $ move ! (5 ∷ 0 ∷ []) $ join ! $ nothing ! $ owned ! u32 (Is u32) (uint-makes 𝓤 H A W w32) i _ (refl, i-fits) $ fjoin ! $ move ! (3 ∷ 0 ∷ []) $ fjoin ! $ move ! (2 ∷ 0 ∷ []) $ fjoin ! $ move ! (2 ∷ 0 ∷ []) $ fjoin ! $ move ! (2 ∷ 0 ∷ []) $ fjoin ! $ move ! (1 ∷ 0 ∷ []) $ join ! $ frame ! $ done !
+      qed W ((‵ (flft κ₀ q₀) ⊛ ‵ (flft κ₁ q₁) ⊛ ‵ (flft κ₂ q₂) ⊛ ‵ (flft κ₃ q₃) ⊛ ‵ (flft κ₄ q₄)) ∷ (‵ (MutRef (named 0) κ₀ R.the-row .own x₀ (vptr b₀ o₀ ∷ [])) ⊛ ‵ (MutSlice (named 1) κ₁ P.the-row .own x₁ (s₁ ∷ [])) ⊛ ‵ (MutSlice (named 2) κ₂ u32 .own x₂ (s₂ ∷ [])) ⊛ ‵ (MutSlice (named 3) κ₃ u32 .own x₃ (s₃ ∷ [])) ⊛ ‵ (MutSlice (named 4) κ₄ u32 .own x₄ (s₄ ∷ []))) ∷ []) ∵ split ! $ move ! (1 ∷ []) $ split ! $ move ! (1 ∷ []) $ split ! $ move ! (1 ∷ []) $ split ! $ move ! (5 ∷ []) $ split ! $ move ! (1 ∷ []) $ split ! $ move ! (1 ∷ []) $ split ! $ move ! (1 ∷ []) $ split ! $ nothing ! $ move ! (7 ∷ 0 ∷ []) $ join ! $ move ! (6 ∷ 0 ∷ []) $ join ! $ move ! (6 ∷ 0 ∷ []) $ join ! $ move ! (6 ∷ 0 ∷ []) $ join ! $ move ! (6 ∷ 0 ∷ []) $ join ! $ nothing ! $ owned ! u32 (Is u32) (uint-makes 𝓤 H A W w32) i _ (refl, i-fits) $ fjoin ! $ move ! (3 ∷ 0 ∷ []) $ fjoin ! $ move ! (2 ∷ 0 ∷ []) $ fjoin ! $ move ! (2 ∷ 0 ∷ []) $ fjoin ! $ move ! (2 ∷ 0 ∷ []) $ fjoin ! $ move ! (2 ∷ 0 ∷ []) $ fjoin ! $ move ! (1 ∷ 0 ∷ []) $ join ! $ frame ! $ done !
 
   -- the call of `bead::withdraw_number`: what it is passed, and that it may be entered
   abbrev reply-args : WithdrawAnswer → WithdrawAnswer × Unit {0}
@@ -134,26 +140,27 @@ module _ {M : Type 1} (𝓤 : URA M) (H : Heap 𝓤) (A : Atoms 𝓤) (W : Given
       qed W [] ∵ nothing ! $ nothing ! $ owned ! G.the-row (Is G.the-row) (EL.makes G.the-type G′.the-plain 𝓤 H A) answer _ ia $ fjoin ! $ move ! (1 ∷ 0 ∷ []) $ join ! $ frame ! $ done !
 
   -- what is had at exit, on every way
-  exits : (h′ : Root) (ps′ : List Party) (ls′ : List ℕ) (gs′ : List ℕ) (answer : ℕ) → length ps′ ≡ length ps → length ls′ ≡ length ls → length gs′ ≡ length gs → Is u32 answer (vint w32 answer ∷ []) → called answer (lent h′ ps′ ls′ gs′) ≡ numbered withdrawRefusal (withdrawCall (lent h ps ls gs) i)
-      → ent 𝓤 (⋆ 𝓤 H A (‵ (flft κ₀ q₀) ∷ ‵ (flft κ₁ q₁) ∷ ‵ (flft κ₂ q₂) ∷ ‵ (flft κ₃ q₃) ∷ ‵ (fres γ₀ (R.the-row .coded .code h′)) ∷ ‵ (finally P.the-row γ₁ ps′) ∷ ‵ (finally u32 γ₂ ls′) ∷ ‵ (finally u32 γ₃ gs′) ∷ [])) (Post (vint w32 answer))
-  exits h′ ps′ ls′ gs′ answer e₁ e₂ e₃ is ends =
-      qed W (‵ (flft κ₀ q₀) ∷ ‵ (flft κ₁ q₁) ∷ ‵ (flft κ₂ q₂) ∷ ‵ (flft κ₃ q₃) ∷ ‵ (fres γ₀ (R.the-row .coded .code h′)) ∷ ‵ (finally P.the-row γ₁ ps′) ∷ ‵ (finally u32 γ₂ ls′) ∷ ‵ (finally u32 γ₃ gs′) ∷ []) ∵
-      suffices ! _ (ends-at 𝓤 H A it.ended stayed (it.clauses 𝓤 H A mem′ run) W (((κ₀, (κ₁, (κ₂, (κ₃, tt)))), (q₀, (q₁, (q₂, (q₃, tt)))), tt, a, vals), tt) (vint w32 answer) answer (h′, (ps′, (ls′, (gs′, (tt, tt))))) (tt, (e₁, (e₂, (e₃, (tt, tt)))))) $ says ! ends $
-      nothing ! $ move ! (4 ∷ 0 ∷ []) $ join ! $ move ! (3 ∷ 0 ∷ []) $ join ! $ move ! (2 ∷ 0 ∷ []) $ join ! $ move ! (1 ∷ 0 ∷ []) $ join ! $ frame ! $ nothing ! $ owned ! u32 (Is u32) (uint-makes 𝓤 H A W w32) i _ (refl, i-fits) $ fjoin ! $ move ! (4 ∷ 0 ∷ []) $ fjoin ! $ move ! (3 ∷ 0 ∷ []) $ fjoin ! $ move ! (2 ∷ 0 ∷ []) $ fjoin ! $ move ! (1 ∷ 0 ∷ []) $ fjoin ! $ owned ! u32 (Is u32) (uint-makes 𝓤 H A W w32) answer _ is $ move ! (1 ∷ 0 ∷ []) $ done !
+  exits : (h′ : Root) (ps′ : List Party) (ls′ : List ℕ) (gs′ : List ℕ) (ws′ : List ℕ) (answer : ℕ) → length ps′ ≡ length ps → length ls′ ≡ length ls → length gs′ ≡ length gs → length ws′ ≡ length ws → Is u32 answer (vint w32 answer ∷ []) → called answer (lent h′ ps′ ls′ gs′ ws′) ≡ numbered withdrawRefusal (withdrawCall (lent h ps ls gs ws) i)
+      → ent 𝓤 (⋆ 𝓤 H A (‵ (flft κ₀ q₀) ∷ ‵ (flft κ₁ q₁) ∷ ‵ (flft κ₂ q₂) ∷ ‵ (flft κ₃ q₃) ∷ ‵ (flft κ₄ q₄) ∷ ‵ (fres γ₀ (R.the-row .coded .code h′)) ∷ ‵ (finally P.the-row γ₁ ps′) ∷ ‵ (finally u32 γ₂ ls′) ∷ ‵ (finally u32 γ₃ gs′) ∷ ‵ (finally u32 γ₄ ws′) ∷ [])) (Post (vint w32 answer))
+  exits h′ ps′ ls′ gs′ ws′ answer e₁ e₂ e₃ e₄ is ends =
+      qed W (‵ (flft κ₀ q₀) ∷ ‵ (flft κ₁ q₁) ∷ ‵ (flft κ₂ q₂) ∷ ‵ (flft κ₃ q₃) ∷ ‵ (flft κ₄ q₄) ∷ ‵ (fres γ₀ (R.the-row .coded .code h′)) ∷ ‵ (finally P.the-row γ₁ ps′) ∷ ‵ (finally u32 γ₂ ls′) ∷ ‵ (finally u32 γ₃ gs′) ∷ ‵ (finally u32 γ₄ ws′) ∷ []) ∵
+      suffices ! _ (ends-at 𝓤 H A it.ended stayed (it.clauses 𝓤 H A mem′ run) W (((κ₀, (κ₁, (κ₂, (κ₃, (κ₄, tt))))), (q₀, (q₁, (q₂, (q₃, (q₄, tt))))), tt, a, vals), tt) (vint w32 answer) answer (h′, (ps′, (ls′, (gs′, (ws′, (tt, tt)))))) (tt, (e₁, (e₂, (e₃, (e₄, (tt, tt))))))) $ says ! ends $
+      nothing ! $ move ! (5 ∷ 0 ∷ []) $ join ! $ move ! (4 ∷ 0 ∷ []) $ join ! $ move ! (3 ∷ 0 ∷ []) $ join ! $ move ! (2 ∷ 0 ∷ []) $ join ! $ move ! (1 ∷ 0 ∷ []) $ join ! $ frame ! $ nothing ! $ owned ! u32 (Is u32) (uint-makes 𝓤 H A W w32) i _ (refl, i-fits) $ fjoin ! $ move ! (5 ∷ 0 ∷ []) $ fjoin ! $ move ! (4 ∷ 0 ∷ []) $ fjoin ! $ move ! (3 ∷ 0 ∷ []) $ fjoin ! $ move ! (2 ∷ 0 ∷ []) $ fjoin ! $ move ! (1 ∷ 0 ∷ []) $ fjoin ! $ owned ! u32 (Is u32) (uint-makes 𝓤 H A W w32) answer _ is $ move ! (1 ∷ 0 ∷ []) $ done !
 
   module _ (C : Calls 𝓤 H) (Λ : Loops 𝓤 H) (fm : FmC 𝓤 H (W .laws) C) (known-withdraw : Triple 𝓤 (C #index·withdraw) (WithdrawC 𝓤 H A mem′ run)) (known-reply : Triple 𝓤 (C #bead·withdraw-number) (ReplyC 𝓤 H A mem′ run)) where
-    walk : ent 𝓤 (onEntry 𝓤 H A it.signature (κ₀, (κ₁, (κ₂, (κ₃, tt)))) (q₀, (q₁, (q₂, (q₃, tt)))) a vals) (WpFn 𝓤 H C Λ code.function (vptr b₀ o₀ ∷ s₁ ∷ s₂ ∷ s₃ ∷ vint w32 i ∷ []) Post)
+    walk : ent 𝓤 (onEntry 𝓤 H A it.signature (κ₀, (κ₁, (κ₂, (κ₃, (κ₄, tt))))) (q₀, (q₁, (q₂, (q₃, (q₄, tt))))) a vals) (WpFn 𝓤 H C Λ code.function (vptr b₀ o₀ ∷ s₁ ∷ s₂ ∷ s₃ ∷ s₄ ∷ vint w32 i ∷ []) Post)
     walk =
-        qed W ((‵ (flft κ₀ q₀) ⊛ ‵ (flft κ₁ q₁) ⊛ ‵ (flft κ₂ q₂) ⊛ ‵ (flft κ₃ q₃) ⊛ ‵ ftrue) ∷ ‵ (owns (MutRef (named 0) κ₀ R.the-row ∷ MutSlice (named 1) κ₁ P.the-row ∷ MutSlice (named 2) κ₂ u32 ∷ MutSlice (named 3) κ₃ u32 ∷ u32 ∷ []) a vals) ∷ []) ∵
-        enter ! C Λ code.function (vptr b₀ o₀ ∷ s₁ ∷ s₂ ∷ s₃ ∷ vint w32 i ∷ []) _ $
-        alloc1 ! (λ l₀. alloc1 ! (λ l₁. alloc1 ! (λ l₂. alloc1 ! (λ l₃. alloc1 ! (λ l₄. alloc1 ! (λ l₅. alloc1 ! (λ l₆. alloc1 ! (λ l₇. alloc1 ! (λ l₈. alloc1 ! (λ l₉. alloc1 ! (λ l₁₀. alloc1 ! (λ l₁₁. alloc1 ! (λ l₁₂. alloc1 ! (λ l₁₃. alloc0 ! $ params1 ! $
-        pass1 ! (init ! 24 refl (tt, tt)) $
-        pass1 ! (init ! 22 refl (tt, (tt, (record { fits = room₁ .0 }, tt)))) $
-        pass1 ! (init ! 20 refl (tt, (tt, (record { fits = room₂ .0 }, tt)))) $
-        pass1 ! (init ! 18 refl (tt, (tt, (record { fits = room₃ .0 }, tt)))) $
-        pass1 ! (init ! 16 refl (tt, record { fits = i-fits })) $
+        qed W ((‵ (flft κ₀ q₀) ⊛ ‵ (flft κ₁ q₁) ⊛ ‵ (flft κ₂ q₂) ⊛ ‵ (flft κ₃ q₃) ⊛ ‵ (flft κ₄ q₄) ⊛ ‵ ftrue) ∷ ‵ (owns (MutRef (named 0) κ₀ R.the-row ∷ MutSlice (named 1) κ₁ P.the-row ∷ MutSlice (named 2) κ₂ u32 ∷ MutSlice (named 3) κ₃ u32 ∷ MutSlice (named 4) κ₄ u32 ∷ u32 ∷ []) a vals) ∷ []) ∵
+        enter ! C Λ code.function (vptr b₀ o₀ ∷ s₁ ∷ s₂ ∷ s₃ ∷ s₄ ∷ vint w32 i ∷ []) _ $
+        alloc1 ! (λ l₀. alloc1 ! (λ l₁. alloc1 ! (λ l₂. alloc1 ! (λ l₃. alloc1 ! (λ l₄. alloc1 ! (λ l₅. alloc1 ! (λ l₆. alloc1 ! (λ l₇. alloc1 ! (λ l₈. alloc1 ! (λ l₉. alloc1 ! (λ l₁₀. alloc1 ! (λ l₁₁. alloc1 ! (λ l₁₂. alloc1 ! (λ l₁₃. alloc1 ! (λ l₁₄. alloc1 ! (λ l₁₅. alloc1 ! (λ l₁₆. alloc0 ! $ params1 ! $
+        pass1 ! (init ! 30 refl (tt, tt)) $
+        pass1 ! (init ! 28 refl (tt, (tt, (record { fits = room₁ .0 }, tt)))) $
+        pass1 ! (init ! 26 refl (tt, (tt, (record { fits = room₂ .0 }, tt)))) $
+        pass1 ! (init ! 24 refl (tt, (tt, (record { fits = room₃ .0 }, tt)))) $
+        pass1 ! (init ! 22 refl (tt, (tt, (record { fits = room₄ .0 }, tt)))) $
+        pass1 ! (init ! 20 refl (tt, record { fits = i-fits })) $
         pass0 ! $
-        move ! (28 ∷ []) $
+        move ! (34 ∷ []) $
         split ! $
         move ! (1 ∷ []) $
         split ! $
@@ -161,7 +168,9 @@ module _ {M : Type 1} (𝓤 : URA M) (H : Heap 𝓤) (A : Atoms 𝓤) (W : Given
         split ! $
         move ! (1 ∷ []) $
         split ! $
-        move ! (33 ∷ []) $
+        move ! (1 ∷ []) $
+        split ! $
+        move ! (40 ∷ []) $
         fsplit ! $
         move ! (1 ∷ []) $
         fsplit ! $
@@ -169,19 +178,25 @@ module _ {M : Type 1} (𝓤 : URA M) (H : Heap 𝓤) (A : Atoms 𝓤) (W : Given
         fsplit ! $
         move ! (1 ∷ []) $
         fsplit ! $
-        assigns ! (addr ! (from ! (hop ! (look ! 34 refl) (stop !)))) (from ! (stop !)) (init ! 22 refl (tt, tt)) $
-        assigns ! (addr ! (from ! (fld ! refl (hop ! (look-in ! 32 (sub ! 0 refl (whole !))) (stop !))))) (from ! (stop !)) (init ! 20 refl (tt, tt)) $
-        assigns ! (agg ! (and-then ! (load ! (from ! (stop !)) (look ! 20 refl)) (and-then ! (load ! (from ! (fld ! refl (stop !))) (look-in ! 32 (sub ! 1 refl (whole !)))) (no-more !)))) (from ! (stop !)) (init ! 18 refl (tt, (tt, (record { fits = room₁ .0 }, tt)))) $
-        assigns ! (addr ! (from ! (fld ! refl (hop ! (look-in ! 30 (sub ! 0 refl (whole !))) (stop !))))) (from ! (stop !)) (init ! 16 refl (tt, tt)) $
-        assigns ! (agg ! (and-then ! (load ! (from ! (stop !)) (look ! 16 refl)) (and-then ! (load ! (from ! (fld ! refl (stop !))) (look-in ! 30 (sub ! 1 refl (whole !)))) (no-more !)))) (from ! (stop !)) (init ! 14 refl (tt, (tt, (record { fits = room₂ .0 }, tt)))) $
-        assigns ! (addr ! (from ! (fld ! refl (hop ! (look-in ! 28 (sub ! 0 refl (whole !))) (stop !))))) (from ! (stop !)) (init ! 12 refl (tt, tt)) $
-        assigns ! (agg ! (and-then ! (load ! (from ! (stop !)) (look ! 12 refl)) (and-then ! (load ! (from ! (fld ! refl (stop !))) (look-in ! 28 (sub ! 1 refl (whole !)))) (no-more !)))) (from ! (stop !)) (init ! 10 refl (tt, (tt, (record { fits = room₃ .0 }, tt)))) $
+        move ! (1 ∷ []) $
+        fsplit ! $
+        assigns ! (addr ! (from ! (hop ! (look ! 42 refl) (stop !)))) (from ! (stop !)) (init ! 28 refl (tt, tt)) $
+        assigns ! (addr ! (from ! (fld ! refl (hop ! (look-in ! 40 (sub ! 0 refl (whole !))) (stop !))))) (from ! (stop !)) (init ! 26 refl (tt, tt)) $
+        assigns ! (agg ! (and-then ! (load ! (from ! (stop !)) (look ! 26 refl)) (and-then ! (load ! (from ! (fld ! refl (stop !))) (look-in ! 40 (sub ! 1 refl (whole !)))) (no-more !)))) (from ! (stop !)) (init ! 24 refl (tt, (tt, (record { fits = room₁ .0 }, tt)))) $
+        assigns ! (addr ! (from ! (fld ! refl (hop ! (look-in ! 38 (sub ! 0 refl (whole !))) (stop !))))) (from ! (stop !)) (init ! 22 refl (tt, tt)) $
+        assigns ! (agg ! (and-then ! (load ! (from ! (stop !)) (look ! 22 refl)) (and-then ! (load ! (from ! (fld ! refl (stop !))) (look-in ! 38 (sub ! 1 refl (whole !)))) (no-more !)))) (from ! (stop !)) (init ! 20 refl (tt, (tt, (record { fits = room₂ .0 }, tt)))) $
+        assigns ! (addr ! (from ! (fld ! refl (hop ! (look-in ! 36 (sub ! 0 refl (whole !))) (stop !))))) (from ! (stop !)) (init ! 18 refl (tt, tt)) $
+        assigns ! (agg ! (and-then ! (load ! (from ! (stop !)) (look ! 18 refl)) (and-then ! (load ! (from ! (fld ! refl (stop !))) (look-in ! 36 (sub ! 1 refl (whole !)))) (no-more !)))) (from ! (stop !)) (init ! 16 refl (tt, (tt, (record { fits = room₃ .0 }, tt)))) $
+        assigns ! (addr ! (from ! (fld ! refl (hop ! (look-in ! 34 (sub ! 0 refl (whole !))) (stop !))))) (from ! (stop !)) (init ! 14 refl (tt, tt)) $
+        assigns ! (agg ! (and-then ! (load ! (from ! (stop !)) (look ! 14 refl)) (and-then ! (load ! (from ! (fld ! refl (stop !))) (look-in ! 34 (sub ! 1 refl (whole !)))) (no-more !)))) (from ! (stop !)) (init ! 12 refl (tt, (tt, (record { fits = room₄ .0 }, tt)))) $
         -- `index::withdraw`
-        move ! (7 ∷ 5 ∷ []) $
+        move ! (8 ∷ 6 ∷ []) $
         join ! $
-        move ! (7 ∷ 0 ∷ []) $
+        move ! (8 ∷ 0 ∷ []) $
         join ! $
-        move ! (7 ∷ 0 ∷ []) $
+        move ! (8 ∷ 0 ∷ []) $
+        join ! $
+        move ! (8 ∷ 0 ∷ []) $
         join ! $
         move ! (3 ∷ 1 ∷ []) $
         join ! $
@@ -189,16 +204,18 @@ module _ {M : Type 1} (𝓤 : URA M) (H : Heap 𝓤) (A : Atoms 𝓤) (W : Given
         join ! $
         move ! (3 ∷ 0 ∷ []) $
         join ! $
+        move ! (3 ∷ 0 ∷ []) $
+        join ! $
         move ! (1 ∷ 0 ∷ []) $
         use2 W (raw (WithdrawC 𝓤 H A mem′ run .pre to-withdraw)) goes-withdraw $
-        calls-at ! fm (WithdrawC 𝓤 H A mem′ run) known-withdraw to-withdraw (and-then ! (load ! (from ! (stop !)) (look ! 15 refl)) (and-then ! (load ! (from ! (stop !)) (look ! 11 refl)) (and-then ! (load ! (from ! (stop !)) (look ! 7 refl)) (and-then ! (load ! (from ! (stop !)) (look ! 3 refl)) (and-then ! (load ! (from ! (stop !)) (look ! 19 refl)) (no-more !)))))) (λ ret.
-        use1 W (later (some (λ (x : WithdrawAnswer). ((‵ (flft κ₀ q₀) ⊛ ‵ (flft κ₁ q₁) ⊛ ‵ (flft κ₂ q₂) ⊛ ‵ (flft κ₃ q₃) ⊛ ‵ ftrue) ⊛ ‵ (G.the-row .own x (ret ∷ []))) ⊛ raw (ensured 𝓤 H A withdraw.ended (withdraw.clauses 𝓤 H A mem′ run) (κ₀, (κ₁, (κ₂, (κ₃, tt)))) withdraw-args tt x)))) (id⊢ 𝓤 _) $ await ! tt $ pick ! (λ x.
+        calls-at ! fm (WithdrawC 𝓤 H A mem′ run) known-withdraw to-withdraw (and-then ! (load ! (from ! (stop !)) (look ! 19 refl)) (and-then ! (load ! (from ! (stop !)) (look ! 15 refl)) (and-then ! (load ! (from ! (stop !)) (look ! 11 refl)) (and-then ! (load ! (from ! (stop !)) (look ! 7 refl)) (and-then ! (load ! (from ! (stop !)) (look ! 3 refl)) (and-then ! (load ! (from ! (stop !)) (look ! 23 refl)) (no-more !))))))) (λ ret.
+        use1 W (later (some (λ (x : WithdrawAnswer). ((‵ (flft κ₀ q₀) ⊛ ‵ (flft κ₁ q₁) ⊛ ‵ (flft κ₂ q₂) ⊛ ‵ (flft κ₃ q₃) ⊛ ‵ (flft κ₄ q₄) ⊛ ‵ ftrue) ⊛ ‵ (G.the-row .own x (ret ∷ []))) ⊛ raw (ensured 𝓤 H A withdraw.ended (withdraw.clauses 𝓤 H A mem′ run) (κ₀, (κ₁, (κ₂, (κ₃, (κ₄, tt))))) withdraw-args tt x)))) (id⊢ 𝓤 _) $ await ! tt $ pick ! (λ x.
         split ! $
         move ! (1 ∷ []) $
-        use1 W (some (λ (zs : Root × (List Party × (List ℕ × (List ℕ × (Unit {0} × Unit {0}))))). ‵ (lasts withdraw.ended (κ₀, (κ₁, (κ₂, (κ₃, tt)))) withdraw-args zs) ⊛ raw (fact 𝓤 (called x (lent (zs .0) (zs .1 .0) (zs .1 .1 .0) (zs .1 .1 .1 .0)) ≡ withdrawCall (lent h ps ls gs) i)))) (id⊢ 𝓤 _) $ pick ! (λ zs.
+        use1 W (some (λ (zs : Root × (List Party × (List ℕ × (List ℕ × (List ℕ × (Unit {0} × Unit {0})))))). ‵ (lasts withdraw.ended (κ₀, (κ₁, (κ₂, (κ₃, (κ₄, tt))))) withdraw-args zs) ⊛ raw (fact 𝓤 (called x (lent (zs .0) (zs .1 .0) (zs .1 .1 .0) (zs .1 .1 .1 .0) (zs .1 .1 .1 .1 .0)) ≡ withdrawCall (lent h ps ls gs ws) i)))) (id⊢ 𝓤 _) $ pick ! (λ zs.
         split ! $
         move ! (1 ∷ []) $
-        heard ! (called x (lent (zs .0) (zs .1 .0) (zs .1 .1 .0) (zs .1 .1 .1 .0)) ≡ withdrawCall (lent h ps ls gs) i) (λ said.
+        heard ! (called x (lent (zs .0) (zs .1 .0) (zs .1 .1 .0) (zs .1 .1 .1 .0) (zs .1 .1 .1 .1 .0)) ≡ withdrawCall (lent h ps ls gs ws) i) (λ said.
         fsplit ! $
         move ! (1 ∷ []) $
         fsplit ! $
@@ -206,19 +223,25 @@ module _ {M : Type 1} (𝓤 : URA M) (H : Heap 𝓤) (A : Atoms 𝓤) (W : Given
         fsplit ! $
         move ! (1 ∷ []) $
         fsplit ! $
-        move ! (3 ∷ []) $
+        move ! (1 ∷ []) $
+        fsplit ! $
+        move ! (4 ∷ []) $
         fsplit ! $
         move ! (1 ∷ []) $
         feqL ! (λ e₁.
-        move ! (3 ∷ []) $
+        move ! (4 ∷ []) $
         fsplit ! $
         move ! (1 ∷ []) $
         feqL ! (λ e₂.
-        move ! (2 ∷ []) $
+        move ! (4 ∷ []) $
         fsplit ! $
         move ! (1 ∷ []) $
         feqL ! (λ e₃.
-        move ! (5 ∷ []) $
+        move ! (3 ∷ []) $
+        fsplit ! $
+        move ! (1 ∷ []) $
+        feqL ! (λ e₄.
+        move ! (6 ∷ []) $
         split ! $
         split ! $
         move ! (1 ∷ []) $
@@ -227,14 +250,16 @@ module _ {M : Type 1} (𝓤 : URA M) (H : Heap 𝓤) (A : Atoms 𝓤) (W : Given
         split ! $
         move ! (1 ∷ []) $
         split ! $
-        move ! (5 ∷ []) $
+        move ! (1 ∷ []) $
+        split ! $
+        move ! (6 ∷ []) $
         peeks ! G.the-row (Is G.the-row) (shows 𝓤 H A G.the-row) x (ret ∷ []) (λ ix.
-        land ! (from ! (stop !)) (init ! 27 refl (EL.lawful G.the-type G′.the-laws 𝓤 H A W tt .typed x _ ix .0)) $
-        rewrite ! 27 (λ (u : Val). ‵ (fat fullShare G′.mir l₆ 0 u)) (ap only ((G′.lowers .val-is) x _ ix)) refl $
+        land ! (from ! (stop !)) (init ! 33 refl (EL.lawful G.the-type G′.the-laws 𝓤 H A W tt .typed x _ ix .0)) $
+        rewrite ! 33 (λ (u : Val). ‵ (fat fullShare G′.mir l₇ 0 u)) (ap only ((G′.lowers .val-is) x _ ix)) refl $
         drop ! $
         -- `bead::withdraw_number`
         use0 W (raw (ReplyC 𝓤 H A mem′ run .pre (to-reply x))) (goes-reply x (subst (Is G.the-row x) (G′.lowers .val-is x _ ix) ix)) $
-        calls-at ! fm (ReplyC 𝓤 H A mem′ run) known-reply (to-reply x) (and-then ! (load ! (from ! (stop !)) (look ! 27 refl)) (no-more !)) (λ ret′.
+        calls-at ! fm (ReplyC 𝓤 H A mem′ run) known-reply (to-reply x) (and-then ! (load ! (from ! (stop !)) (look ! 33 refl)) (no-more !)) (λ ret′.
         use1 W (later (some (λ (y : ℕ). (‵ ftrue ⊛ ‵ (u32 .own y (ret′ ∷ []))) ⊛ raw (ensured 𝓤 H A reply.ended (reply.clauses 𝓤 H A mem′ run) tt (reply-args x) tt y)))) (id⊢ 𝓤 _) $ await ! tt $ pick ! (λ y.
         split ! $
         move ! (1 ∷ []) $
@@ -246,24 +271,24 @@ module _ {M : Type 1} (𝓤 : URA M) (H : Heap 𝓤) (A : Atoms 𝓤) (W : Given
         split ! $
         move ! (1 ∷ []) $
         peeks ! u32 (Is u32) (shows 𝓤 H A u32) y (ret′ ∷ []) (λ iy.
-        land ! (from ! (stop !)) (init ! 41 refl (uint-lawful 𝓤 H A W w32 .typed y _ iy .0)) $
-        rewrite ! 41 (λ (u : Val). ‵ (fat fullShare (tyInt w32) l₀ 0 u)) (ap only ((uint-tells w32) y _ iy)) refl $
+        land ! (from ! (stop !)) (init ! 49 refl (uint-lawful 𝓤 H A W w32 .typed y _ iy .0)) $
+        rewrite ! 49 (λ (u : Val). ‵ (fat fullShare (tyInt w32) l₀ 0 u)) (ap only ((uint-tells w32) y _ iy)) refl $
         drop ! $
-        returns ! (look ! 40 refl) $
-        freed ! 14 (occupied _ ∷ occupied _ ∷ occupied _ ∷ occupied _ ∷ occupied _ ∷ occupied _ ∷ occupied _ ∷ occupied _ ∷ occupied _ ∷ occupied _ ∷ occupied _ ∷ occupied _ ∷ occupied _ ∷ occupied _ ∷ []) tt refl $
-        keep ! (6 ∷ 5 ∷ 4 ∷ 2 ∷ 11 ∷ 9 ∷ 8 ∷ 7 ∷ []) $
-        by ! (exits (zs .0) (zs .1 .0) (zs .1 .1 .0) (zs .1 .1 .1 .0) y e₁ e₂ e₃ (subst (Is u32 y) (uint-tells w32 y _ iy) iy) (answered withdrawRefusal x y _ _ is-number said)))))))))))))))))))))))))))))
+        returns ! (look ! 48 refl) $
+        freed ! 16 (occupied _ ∷ occupied _ ∷ occupied _ ∷ occupied _ ∷ occupied _ ∷ occupied _ ∷ occupied _ ∷ occupied _ ∷ occupied _ ∷ occupied _ ∷ occupied _ ∷ occupied _ ∷ occupied _ ∷ occupied _ ∷ occupied _ ∷ occupied _ ∷ occupied _ ∷ []) tt refl $
+        keep ! (7 ∷ 6 ∷ 5 ∷ 4 ∷ 2 ∷ 13 ∷ 11 ∷ 10 ∷ 9 ∷ 8 ∷ []) $
+        by ! (exits (zs .0) (zs .1 .0) (zs .1 .1 .0) (zs .1 .1 .1 .0) (zs .1 .1 .1 .1 .0) y e₁ e₂ e₃ e₄ (subst (Is u32 y) (uint-tells w32 y _ iy) iy) (answered withdrawRefusal x y _ _ is-number said)))))))))))))))))))))))))))))))))
 
 module _ {M : Type 1} (𝓤 : URA M) (H : Heap 𝓤) (A : Atoms 𝓤) (W : Given 𝓤 H A) (mem′ : Memory → SProp 𝓤) (run : Routine → Fun 𝓤) where
   walks : (C : Calls 𝓤 H) (Λ : Loops 𝓤 H) → FmC 𝓤 H (W .laws) C → Triple 𝓤 (C #index·withdraw) (WithdrawC 𝓤 H A mem′ run) → Triple 𝓤 (C #bead·withdraw-number) (ReplyC 𝓤 H A mem′ run)
       → Walks 𝓤 H A it.ended stayed (WpFn 𝓤 H C Λ code.function) (it.clauses 𝓤 H A mem′ run)
   walks C Λ fm known-withdraw known-reply = walked 𝓤 H A it.ended stayed (it.clauses 𝓤 H A mem′ run) (WpFn 𝓤 H C Λ code.function)
-      (λ κs. (ptr-vals, (slice-vals, (slice-vals, (slice-vals, ((uint-vals w32), tt))))))
-      (λ κs. (mut-tells (named 0) (κs .0) R.the-row, (mut-slice-tells (named 1) (κs .1 .0) P.the-row, (mut-slice-tells (named 2) (κs .1 .1 .0) u32, (mut-slice-tells (named 3) (κs .1 .1 .1 .0) u32, ((uint-tells w32), tt))))))
-      (λ κs qs bounds a _ are. via 𝓤 _ (fst∗ 𝓤 _ (emp 𝓤)) (walk 𝓤 H A W mem′ run (κs .0) (κs .1 .0) (κs .1 .1 .0) (κs .1 .1 .1 .0) (qs .0) (qs .1 .0) (qs .1 .1 .0) (qs .1 .1 .1 .0) (a .0 .ptr .0) (a .0 .ptr .1) (a .1 .0 .ptr .0) (a .1 .0 .ptr .1) (a .1 .1 .0 .ptr .0) (a .1 .1 .0 .ptr .1) (a .1 .1 .1 .0 .ptr .0) (a .1 .1 .1 .0 .ptr .1) (a .0 .name) (a .1 .0 .name) (a .1 .1 .0 .name) (a .1 .1 .1 .0 .name) (a .0 .now) (a .1 .0 .now) (a .1 .1 .0 .now) (a .1 .1 .1 .0 .now) (a .1 .1 .1 .1 .0) (are .1 .0 .0 .1) (are .1 .1 .0 .0 .1) (are .1 .1 .1 .0 .0 .1) (are .1 .1 .1 .1 .0 .1) C Λ fm known-withdraw known-reply))
+      (λ κs. (ptr-vals, (slice-vals, (slice-vals, (slice-vals, (slice-vals, ((uint-vals w32), tt)))))))
+      (λ κs. (mut-tells (named 0) (κs .0) R.the-row, (mut-slice-tells (named 1) (κs .1 .0) P.the-row, (mut-slice-tells (named 2) (κs .1 .1 .0) u32, (mut-slice-tells (named 3) (κs .1 .1 .1 .0) u32, (mut-slice-tells (named 4) (κs .1 .1 .1 .1 .0) u32, ((uint-tells w32), tt)))))))
+      (λ κs qs bounds a _ are. via 𝓤 _ (fst∗ 𝓤 _ (emp 𝓤)) (walk 𝓤 H A W mem′ run (κs .0) (κs .1 .0) (κs .1 .1 .0) (κs .1 .1 .1 .0) (κs .1 .1 .1 .1 .0) (qs .0) (qs .1 .0) (qs .1 .1 .0) (qs .1 .1 .1 .0) (qs .1 .1 .1 .1 .0) (a .0 .ptr .0) (a .0 .ptr .1) (a .1 .0 .ptr .0) (a .1 .0 .ptr .1) (a .1 .1 .0 .ptr .0) (a .1 .1 .0 .ptr .1) (a .1 .1 .1 .0 .ptr .0) (a .1 .1 .1 .0 .ptr .1) (a .1 .1 .1 .1 .0 .ptr .0) (a .1 .1 .1 .1 .0 .ptr .1) (a .0 .name) (a .1 .0 .name) (a .1 .1 .0 .name) (a .1 .1 .1 .0 .name) (a .1 .1 .1 .1 .0 .name) (a .0 .now) (a .1 .0 .now) (a .1 .1 .0 .now) (a .1 .1 .1 .0 .now) (a .1 .1 .1 .1 .0 .now) (a .1 .1 .1 .1 .1 .0) (are .1 .0 .0 .1) (are .1 .1 .0 .0 .1) (are .1 .1 .1 .0 .0 .1) (are .1 .1 .1 .1 .0 .0 .1) (are .1 .1 .1 .1 .1 .0 .1) C Λ fm known-withdraw known-reply))
 
-  goes : AllGo 𝓤 H A W 4 (it.signature .params) (it.ended .kept) stayed
-  goes = (goes-gave-ref 𝓤 H A W 4 0 tt (plain (λ _. R.the-row)), (goes-gave-slice 𝓤 H A W 4 1 tt (plain (λ _. P.the-row)), (goes-gave-slice 𝓤 H A W 4 2 tt (plain (λ _. u32)), (goes-gave-slice 𝓤 H A W 4 3 tt (plain (λ _. u32)), (goes-none 𝓤 H A W 4 (λ _. u32) yes (λ κs x f. refl), tt)))))
+  goes : AllGo 𝓤 H A W 5 (it.signature .params) (it.ended .kept) stayed
+  goes = (goes-gave-ref 𝓤 H A W 5 0 tt (plain (λ _. R.the-row)), (goes-gave-slice 𝓤 H A W 5 1 tt (plain (λ _. P.the-row)), (goes-gave-slice 𝓤 H A W 5 2 tt (plain (λ _. u32)), (goes-gave-slice 𝓤 H A W 5 3 tt (plain (λ _. u32)), (goes-gave-slice 𝓤 H A W 5 4 tt (plain (λ _. u32)), (goes-none 𝓤 H A W 5 (λ _. u32) yes (λ κs x f. refl), tt))))))
 
 meets : {M : Type 1} (𝓤 : URA M) (H : Heap 𝓤) (A : Atoms 𝓤) → Given 𝓤 H A → (mem′ : Memory → SProp 𝓤) (run : Routine → Fun 𝓤) (𝓣 : Tables 𝓤 H)
     → Triple 𝓤 (𝓣 .C #index·withdraw) (WithdrawC 𝓤 H A mem′ run) → Triple 𝓤 (𝓣 .C #bead·withdraw-number) (ReplyC 𝓤 H A mem′ run) → Meets 𝓤 H A it.signature (WpFn 𝓤 H (𝓣 .C) (𝓣 .Λ) code.function) (it.spec 𝓤 H A mem′ run)

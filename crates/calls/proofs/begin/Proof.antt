@@ -10,7 +10,7 @@ begin-cause-requires c κs = search needs
 returns : tie.Need-returns
 returns c =
     let a = c .before .before .args in
-    λ row ls ps many el ep here. begin-refused (a .root) row ls ps (a .parties) many (a .q) _ (a .party) here (a .operation) (a .key) (a .locks) (a .pages) el ep
+    λ row ls ps ws many el ep long here. begin-refused (a .root) row ls ps ws (a .parties) (a .waiting) many long (a .q) _ (a .party) here (a .operation) (a .key) (a .locks) (a .pages) el ep
     (c .before .begin-cause .ensures) (c .if1 .taken)
 
 begun-requires : tie.Need-begun-requires
@@ -19,7 +19,7 @@ begun-requires c κs = search needs
 returns-2 : tie.Need-returns-2
 returns-2 c =
     let a = c .before .before .before .args in
-    λ row ls ps many el ep here. begin-begun (a .root) row ls ps (a .parties) many (a .q) _ (a .party) here (a .operation) (a .key) (a .locks) (a .pages) el ep
+    λ row ls ps ws many el ep long here. begin-begun (a .root) row ls ps ws (a .parties) (a .waiting) many long (a .q) _ (a .party) here (a .operation) (a .key) (a .locks) (a .pages) el ep
     (c .before .before .begin-cause .ensures) (c .before .if1 .left) _ (c .begun .ensures)
 
 pub begin-spec : {M : Type 1} → statement M

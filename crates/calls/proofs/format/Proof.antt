@@ -1,7 +1,7 @@
 -- `calls::format` meets its contract.
 use mathlib.Core.Path.{sym, _∙_}
 use Rattle.model.specs.Records.{rootSized}
-use Rattle.memory.proofs.Accepted.{can-format, row-fits}
+use Rattle.memory.proofs.Accepted.{can-format, row-fits, waiting-fits}
 use Rattle.calls.proofs.Calling.{format-refused, format-formatted}
 use borrow.Author.Needs.{needs}
 use Rattle.calls.proofs.format.Statement.{statement}
@@ -13,12 +13,12 @@ format-cause-requires c κs = search needs
 returns : tie.Need-returns
 returns c =
     let a = c .before .before .before .before .args in
-    λ row many. format-refused (a .root) row (a .locks .now) (a .pages .now) (a .parties) many (a .sizes .originals) (a .sizes .capacity) (a .sizes .primaries) (a .sizes .overflow) (a .sizes .parties) _ (c .before .format-cause .ensures) (c .if1 .taken)
+    λ row ws many long. format-refused (a .root) row (a .locks .now) (a .pages .now) ws (a .parties) (a .waiting) many long (a .sizes .originals) (a .sizes .capacity) (a .sizes .primaries) (a .sizes .overflow) (a .sizes .parties) _ (c .before .format-cause .ensures) (c .if1 .taken)
 
 format-words-requires : tie.Need-format-words-requires
 format-words-requires c κs =
     let a = c .before .before .before .before .before .before .args in
-    can-format (rootSized (a .sizes)) (a .parties) _ _ (sym (c .before .before .before .format-cause .ensures) ∙ c .before .before .if1 .left)
+    can-format (rootSized (a .sizes)) (a .parties) _ _ (a .waiting) (sym (c .before .before .before .format-cause .ensures) ∙ c .before .before .if1 .left)
 
 same-length : tie.Need-same-length
 same-length c = search needs
@@ -31,9 +31,10 @@ returns-2 c =
     let a = c .before .before .before .before .before .before .before .before .before .before .before .args in
     let cause = c .before .before .before .before .before .before .before .before .format-cause .ensures in
     let none = c .before .before .before .before .before .before .before .if1 .left in
-    let fits = row-fits (rootSized (a .sizes)) (a .parties) _ _ (sym cause ∙ none) in
+    let fits = row-fits (rootSized (a .sizes)) (a .parties) _ _ (a .waiting) (sym cause ∙ none) in
+    let words = waiting-fits (rootSized (a .sizes)) (a .parties) _ _ (a .waiting) (sym cause ∙ none) in
     let made = c .before .before .before .before .format-words in
-    λ row many. format-formatted (a .root) row (a .locks .now) (a .pages .now) (a .parties) many (a .sizes .originals) (a .sizes .capacity) (a .sizes .primaries) (a .sizes .overflow) (a .sizes .parties) _ cause none fits _ _ _ (made .ensures .0)
+    λ row ws many long. format-formatted (a .root) row (a .locks .now) (a .pages .now) ws (a .parties) (a .waiting) many long (a .sizes .originals) (a .sizes .capacity) (a .sizes .primaries) (a .sizes .overflow) (a .sizes .parties) _ cause none fits words _ _ _ (made .ensures .0)
     (made .ensures .1) (made .ensures .2)
 
 pub format-spec : {M : Type 1} → statement M

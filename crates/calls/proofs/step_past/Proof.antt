@@ -10,7 +10,7 @@ place-cause-requires c κs = search needs
 returns : tie.Need-returns
 returns c =
     let a = c .before .args in
-    λ row ls ps many el ep past. past-refused (a .root) row ls ps (a .parties) many (a .q) _ (a .locks) (a .pages) el ep past (c .place-cause .ensures)
+    λ row ls ps ws many el ep long past. past-refused (a .root) row ls ps ws (a .parties) (a .waiting) many long (a .q) _ (a .locks) (a .pages) el ep past (c .place-cause .ensures)
 
 pub step-past-spec : {M : Type 1} → statement M
 step-past-spec = tie.close (tie.spec place-cause-requires returns)

@@ -12,13 +12,13 @@ returns : tie.Need-returns
 returns c =
     let a = c .before .before .before .before .args in
     let s = c .before .take-up-cause in
-    λ row many rest. answer-refused (lent (a .root) row (a .locks .now) (a .pages .now)) (s .result) (s .ensures row many rest) (c .if1 .taken)
+    λ row ws many long rest. answer-refused (lent (a .root) row (a .locks .now) (a .pages .now) ws) (s .result) (s .ensures row ws many long rest) (c .if1 .taken)
 
 returns-2 : tie.Need-returns-2
 returns-2 c =
     let a = c .before .before .before .before .args in
     let s = c .before .take-up-cause in
-    λ row many rest. answer-taken (lent (a .root) row (a .locks .now) (a .pages .now)) (s .result) (s .ensures row many rest) (c .if1 .left)
+    λ row ws many long rest. answer-taken (lent (a .root) row (a .locks .now) (a .pages .now) ws) (s .result) (s .ensures row ws many long rest) (c .if1 .left)
 
 pub take-up-spec : {M : Type 1} → statement M
 take-up-spec = tie.close (tie.spec take-up-cause-requires returns returns-2)

@@ -1,10 +1,11 @@
 -- `calls::withdraw` meets its contract: what withdraw_in_place ensures, of the records that the words make.
-use mathlib.Core.Path.{sym, ap, ap₂, _∙_}
+use mathlib.Core.Path.{sym, ap, ap₂, subst, _∙_}
 use lib.ListN.{set}
 use Rattle.model.specs.declared.Root.{Root}
 use Rattle.model.specs.declared.Party.{Party}
+use Rattle.model.specs.WaitingRow.{rowLeft}
 use Rattle.model.specs.Calls.{called, withdrawCall}
-use Rattle.calls.specs.Lent.{lent}
+use Rattle.calls.specs.Lent.{lent, PlaceRight}
 use borrow.Author.Needs.{needs}
 use Rattle.calls.proofs.withdraw.Statement.{statement}
 use Rattle.calls.proofs.withdraw.Tie as tie
@@ -43,7 +44,7 @@ same-length-2 : tie.Need-same-length-2
 same-length-2 c = search needs
 
 returns : tie.Need-returns
-returns c = λ row many here.
+returns c = λ row ws many long here right.
     let at-root-of = c .before .before in
     let at-withdraw-in-place = at-root-of .before .before .before .before .before .before .before .before in
     let at-words-of-party = at-withdraw-in-place .before .before .before .before .before in
@@ -51,10 +52,11 @@ returns c = λ row many here.
     let start = at-words-of-root .before .before .before in
     let a = start .args in
     let s = at-withdraw-in-place .withdraw-in-place in
+    let root = at-words-of-root .words-of-root .ensures in
     let party = at-words-of-party .words-of-party .ensures in
-    ap₂ (λ (x : Root) (y : Party). called (s .result) (lent x (set row (a .q) y) (s .last .1 .1 .1 .1 .0) (s .last .1 .1 .1 .1 .1 .0))) (at-root-of .root-of .ensures) (c .party-of .ensures)
-    ∙ s .ensures row many (λ h. here h ∙ sym party)
-    ∙ ap (λ (x : Root). withdrawCall (lent x row (a .locks .now) (a .pages .now)) (a .q)) (at-words-of-root .words-of-root .ensures)
+    ap₂ (λ (x : Root) (y : Party). called (s .result) (lent x (set row (a .q) y) (s .last .1 .1 .1 .1 .0) (s .last .1 .1 .1 .1 .1 .0) (rowLeft (a .q) ws (s .result)))) (at-root-of .root-of .ensures) (c .party-of .ensures)
+    ∙ s .ensures row ws many long (λ h. here h ∙ sym party) (subst (λ (x : Root). PlaceRight x row ws (a .q) (a .place)) (sym root) right)
+    ∙ ap (λ (x : Root). withdrawCall (lent x row (a .locks .now) (a .pages .now) ws) (a .q)) root
 
 pub withdraw-spec : {M : Type 1} → statement M
 withdraw-spec =

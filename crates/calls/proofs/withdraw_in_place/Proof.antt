@@ -28,7 +28,7 @@ same-length-2 : tie.Need-same-length-2
 same-length-2 c = search needs
 
 returns : tie.Need-returns
-returns c = λ row many here.
+returns c = λ row ws many long here right.
     let at-withdraw-cause = c .before in
     let at-party-of = at-withdraw-cause .before in
     let at-root-of = at-party-of .before .before in
@@ -36,9 +36,9 @@ returns c = λ row many here.
     let a = start .args in
     let r = rootIn (a .root .now) in
     let p = partyIn (a .party .now) in
-    let causing : Root → Party → ℕ = λ x y. withdrawCause x y (a .parties) (length (a .locks .now)) (length (a .pages .now)) (a .q) in
+    let causing : Root → Party → ℕ = λ x y. withdrawCause x y (a .parties) (length (a .locks .now)) (length (a .pages .now)) (a .waiting) (a .q) (a .place .sound) in
     let cause = at-withdraw-cause .withdraw-cause .ensures ∙ ap₂ causing (at-root-of .root-of .ensures) (at-party-of .party-of .ensures) in
-    withdraw-refused r row (a .locks .now) (a .pages .now) (a .parties) many (a .q) _ p here cause (c .if1 .taken)
+    withdraw-refused r row (a .locks .now) (a .pages .now) ws (a .parties) (a .waiting) many long (a .q) _ p (a .place) here right cause (c .if1 .taken)
 
 withdrawn-requires : tie.Need-withdrawn-requires
 withdrawn-requires c κs =
@@ -50,9 +50,9 @@ withdrawn-requires c κs =
     let a = start .args in
     let r = rootIn (a .root .now) in
     let p = partyIn (a .party .now) in
-    let causing : Root → Party → ℕ = λ x y. withdrawCause x y (a .parties) (length (a .locks .now)) (length (a .pages .now)) (a .q) in
+    let causing : Root → Party → ℕ = λ x y. withdrawCause x y (a .parties) (length (a .locks .now)) (length (a .pages .now)) (a .waiting) (a .q) (a .place .sound) in
     let cause = at-withdraw-cause .withdraw-cause .ensures ∙ ap₂ causing (at-root-of .root-of .ensures) (at-party-of .party-of .ensures) in
-    let passed = withdraw-ready r p (a .parties) (a .q) (a .locks .now) (a .pages .now) (sym cause ∙ at-if1 .if1 .left) in
+    let passed = withdraw-ready r p (a .parties) (a .waiting) (a .q) (a .locks .now) (a .pages .now) (a .place .sound) (sym cause ∙ at-if1 .if1 .left) in
     (start .pre .0, record { words = start .pre .1; ready = passed .0 }, passed .1)
 
 same-length-3 : tie.Need-same-length-3
@@ -68,7 +68,7 @@ same-length-6 : tie.Need-same-length-6
 same-length-6 c = search needs
 
 returns-2 : tie.Need-returns-2
-returns-2 c = λ row many here.
+returns-2 c = λ row ws many long here right.
     let at-withdrawn = c .before .before .before .before .before .before .before .before in
     let at-if1 = at-withdrawn .before .before .before .before .before in
     let at-withdraw-cause = at-if1 .before in
@@ -78,9 +78,9 @@ returns-2 c = λ row many here.
     let a = start .args in
     let r = rootIn (a .root .now) in
     let p = partyIn (a .party .now) in
-    let causing : Root → Party → ℕ = λ x y. withdrawCause x y (a .parties) (length (a .locks .now)) (length (a .pages .now)) (a .q) in
+    let causing : Root → Party → ℕ = λ x y. withdrawCause x y (a .parties) (length (a .locks .now)) (length (a .pages .now)) (a .waiting) (a .q) (a .place .sound) in
     let cause = at-withdraw-cause .withdraw-cause .ensures ∙ ap₂ causing (at-root-of .root-of .ensures) (at-party-of .party-of .ensures) in
-    withdraw-withdrawn r row (a .locks .now) (a .pages .now) (a .parties) many (a .q) _ p here cause (at-if1 .if1 .left) (at-withdrawn .withdrawn .ensures)
+    withdraw-withdrawn r row (a .locks .now) (a .pages .now) ws (a .parties) (a .waiting) many long (a .q) _ p (a .place) here right cause (at-if1 .if1 .left) (at-withdrawn .withdrawn .ensures)
 
 pub withdraw-in-place-spec : {M : Type 1} → statement M
 withdraw-in-place-spec =

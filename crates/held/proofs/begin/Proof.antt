@@ -44,10 +44,10 @@ same-length c = search needs
 returns : tie.Need-returns
 returns c =
     let at-if1 = c .before .before .before .before in
-    let a = at-if1 .before .before .before .before .args in
+    let a = at-if1 .before .before .before .before .before .args in
     let s = c .before .begin in
-    held-put (λ m. beginCall m (a .q) (a .operation) (a .key)) (a .root) (a .row .now) (a .locks .now) (a .pages .now) _ _ (at-if1 .before .records-lent .ensures)
-    (s .result .answer) (a .root) _ _ (a .q) _ (s .result .party) _ (c .words-of-party .result) (c .before .before .record-in .ensures) (c .words-of-party .ensures) (at-if1 .if1 .taken) (λ row many here. s .ensures row _ _ many refl refl here)
+    held-put (λ m. beginCall m (a .q) (a .operation) (a .key)) (a .root) (a .row .now) (a .locks .now) (a .pages .now) (a .waiting .now) _ _ (at-if1 .before .records-lent .ensures)
+    (s .result .answer) (a .root) _ _ _ (a .q) _ (s .result .party) _ (c .words-of-party .result) (c .before .before .record-in .ensures) (c .words-of-party .ensures) (at-if1 .if1 .taken) (λ many here. s .ensures _ _ _ _ many refl refl refl here)
 
 idle-requires : tie.Need-idle-requires
 idle-requires c κs = search needs
@@ -58,15 +58,15 @@ begin-requires-2 c κs = search needs
 returns-2 : tie.Need-returns-2
 returns-2 c =
     let at-lent = c .before .before .before in
-    let a = at-lent .before .before .before .args in
+    let a = at-lent .before .before .before .before .args in
     let s = c .begin2 in
     let past = c .before .before .if1 .left in
-    held-kept (λ m. beginCall m (a .q) (a .operation) (a .key)) (a .root) (a .row .now) (a .locks .now) (a .pages .now) _ _ (at-lent .records-lent .ensures)
-    (s .result .answer) (a .root) _ _
+    held-kept (λ m. beginCall m (a .q) (a .operation) (a .key)) (a .root) (a .row .now) (a .locks .now) (a .pages .now) (a .waiting .now) _ _ (at-lent .records-lent .ensures)
+    (s .result .answer) (a .root) _ _ _
     (λ row many.
     let outside : a .q < length row → ⊥ = λ h. omega (arith, h, many, past) in
-    ap (λ (x : List Party). called (s .result .answer) (lent (a .root) x (a .locks .now) (a .pages .now))) (sym (put-back row (a .q) (s .result .party) (λ h. absurd (outside h))))
-    ∙ s .ensures row _ _ many refl refl (λ h. absurd (omega (arith, h, past))))
+    ap (λ (x : List Party). called (s .result .answer) (lent (a .root) x (a .locks .now) (a .pages .now) (a .waiting .now))) (sym (put-back row (a .q) (s .result .party) (λ h. absurd (outside h))))
+    ∙ s .ensures row _ _ _ many refl refl refl (λ h. absurd (omega (arith, h, past))))
 
 pub begin-spec : {M : Type 1} → statement M
 begin-spec =

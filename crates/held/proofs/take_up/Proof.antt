@@ -1,5 +1,6 @@
 -- `held::take_up` meets its contract, by what `calls::take_up` says of the first records.
-use mathlib.Core.Path.{sym}
+use mathlib.Core.Path.{refl, sym, ap₂}
+use mathlib.Core.Bool.{_&&_}
 use lib.ListN.{take}
 use Rattle.model.specs.TakeUp.{takeUpCall}
 use Rattle.held.specs.Held.{recordsIn}
@@ -14,15 +15,19 @@ records-lent-requires c κs = search needs
 all-idle-requires : tie.Need-all-idle-requires
 all-idle-requires c κs = search needs
 
+clear-requires : tie.Need-clear-requires
+clear-requires c κs = search needs
+
 take-up-requires : tie.Need-take-up-requires
 take-up-requires c κs = search needs
 
 returns : tie.Need-returns
 returns c =
-    let lends = c .before .before .records-lent in
-    let a = c .before .before .before .before .before .args in
-    let said = c .take-up .ensures (take (lends .result) (recordsIn (a .row .now))) (first-many (a .row .now) (lends .result) (lends .ensures .1)) (sym (c .before .all-idle .ensures)) in
-    held-same takeUpCall (a .root) (a .row .now) (a .locks .now) (a .pages .now) _ _ (lends .ensures) (c .take-up .result) (a .root) _ _ said
+    let lends = c .before .before .before .records-lent in
+    let a = c .before .before .before .before .before .before .before .args in
+    let rest = ap₂ _&&_ (sym (c .before .before .all-idle .ensures)) (sym (c .before .clear .ensures)) in
+    let said = c .take-up .ensures (take (lends .result) (recordsIn (a .row .now))) (a .waiting .now) (first-many (a .row .now) (lends .result) (lends .ensures .1)) refl rest in
+    held-same takeUpCall (a .root) (a .row .now) (a .locks .now) (a .pages .now) (a .waiting .now) _ _ (lends .ensures) (c .take-up .result) (a .root) _ _ _ said
 
 pub take-up-spec : {M : Type 1} → statement M
 take-up-spec =
@@ -30,5 +35,6 @@ take-up-spec =
     (tie.spec
     records-lent-requires
     all-idle-requires
+    clear-requires
     take-up-requires
     returns)

@@ -29,10 +29,13 @@ same-length-3 c = search needs
 same-length-4 : tie.Need-same-length-4
 same-length-4 c = search needs
 
+same-length-5 : tie.Need-same-length-5
+same-length-5 c = search needs
+
 returns : tie.Need-returns
 returns c =
-    let a = c .before .before .before .before .before .before .before .before .before .before .before .before .before .before .before .before .before .before .args in
-    let done = c .before .before .before .before .before .before .before .before .before .before .perform-line .ensures in
+    let a = c .before .before .before .before .before .before .before .before .before .before .before .before .before .before .before .before .before .before .before .before .before .before .args in
+    let done = c .before .before .before .before .before .before .before .before .before .before .before .before .perform-line .ensures in
     let print = c .before .before .print-reply .ensures in
     let reply = ap (λ (d : Called Reply). d .answer) done in (
       ap (λ (d : Called Reply). d .memory) done,
@@ -52,4 +55,5 @@ answer-spec =
     same-length-2
     same-length-3
     same-length-4
+    same-length-5
     returns)

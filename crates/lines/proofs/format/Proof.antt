@@ -25,6 +25,12 @@ page-words-requires c κs = search needs
 words-lent-requires-2 : tie.Need-words-lent-requires-2
 words-lent-requires-2 c κs = search needs
 
+cast-words-lent : tie.Need-cast-words-lent
+cast-words-lent c = search needs
+
+words-lent-requires-3 : tie.Need-words-lent-requires-3
+words-lent-requires-3 c κs = search needs
+
 sub-format : tie.Need-sub-format
 sub-format c = search needs
 
@@ -43,6 +49,15 @@ part-format-start-2 c = search needs
 part-format-end-2 : tie.Need-part-format-end-2
 part-format-end-2 c = search needs
 
+sub-format-3 : tie.Need-sub-format-3
+sub-format-3 c = search needs
+
+part-format-start-3 : tie.Need-part-format-start-3
+part-format-start-3 c = search needs
+
+part-format-end-3 : tie.Need-part-format-end-3
+part-format-end-3 c = search needs
+
 format-requires : tie.Need-format-requires
 format-requires c κs = search needs
 
@@ -55,17 +70,25 @@ same-length-2 c = search needs
 same-length-3 : tie.Need-same-length-3
 same-length-3 c = search needs
 
+same-length-4 : tie.Need-same-length-4
+same-length-4 c = search needs
+
 returns : tie.Need-returns
 unfolding performed
 returns c =
-    let a = c .before .before .before .before .before .before .before .before .before .before .before .before .before .before .before .before .args in
-    let made = c .before .before .before .before .before .before .format in
-    let g = c .before .before .before .before .before .before .before .before .before .before .words-lent2 in
-    let l = c .before .before .before .before .before .before .before .before .before .before .before .before .words-lent in
-    let el = sub-zero (l .result) ∙ l .ensures .0 ∙ ap (λ (n : ℕ). min n (length (a .locks .now))) (c .before .before .before .before .before .before .before .before .before .before .before .before .before .lock-words .ensures) in
-    let eg = sub-zero (g .result) ∙ g .ensures .0 ∙ ap (λ (n : ℕ). min n (length (a .pages .now))) (c .before .before .before .before .before .before .before .before .before .before .before .page-words .ensures) in
-    words-left (rootSized (a .sizes)) (λ (us ws : List ℕ). heldFormat (heldIn (a .root) (a .row .now) us ws) (a .sizes)) (λ t. Reply.Format t) (heldIn (a .root) (a .row .now) (a .locks .now) (a .pages .now)) (l .result - 0) (g .result - 0) el eg
-    (made .result .answer) (made .result .root) _ _ _ (made .ensures)
+    let made = c .before .before .before .before .before .before .before .before .format in
+    let at-w = c .before .before .before .before .before .before .before .before .before .before .before .before .before in
+    let at-g = at-w .before .before in
+    let at-l = at-g .before .before in
+    let a = at-l .before .before .before .before .before .args in
+    let w = at-w .words-lent3 in
+    let g = at-g .words-lent2 in
+    let l = at-l .words-lent in
+    let el = sub-zero (l .result) ∙ l .ensures .0 ∙ ap (λ (n : ℕ). min n (length (a .locks .now))) (at-l .before .lock-words .ensures) in
+    let eg = sub-zero (g .result) ∙ g .ensures .0 ∙ ap (λ (n : ℕ). min n (length (a .pages .now))) (at-g .before .page-words .ensures) in
+    let ew = sub-zero (w .result) ∙ w .ensures .0 in
+    words-left (rootSized (a .sizes)) (λ (us ws vs : List ℕ). heldFormat (heldIn (a .root) (a .row .now) us ws vs) (a .sizes)) (λ t. Reply.Format t) (heldIn (a .root) (a .row .now) (a .locks .now) (a .pages .now) (a .waiting .now)) (l .result - 0) (g .result - 0) (w .result - 0) el eg ew
+    (made .result .answer) (made .result .root) _ _ _ _ (made .ensures)
 
 pub format-spec : {M : Type 1} → statement M
 format-spec =
@@ -75,14 +98,20 @@ format-spec =
     words-lent-requires
     page-words-requires
     words-lent-requires-2
+    cast-words-lent
+    words-lent-requires-3
     sub-format
     part-format-start
     part-format-end
     sub-format-2
     part-format-start-2
     part-format-end-2
+    sub-format-3
+    part-format-start-3
+    part-format-end-3
     format-requires
     same-length
     same-length-2
     same-length-3
+    same-length-4
     returns)

@@ -32,11 +32,14 @@ same-length-2 c = search needs
 same-length-3 : tie.Need-same-length-3
 same-length-3 c = search needs
 
+same-length-4 : tie.Need-same-length-4
+same-length-4 c = search needs
+
 returns-2 : tie.Need-returns-2
 unfolding lineAnswered answeredAs
 returns-2 c =
-    let a = c .before .before .before .before .before .before .before .before .before .before .before .before .before .before .before .before .args in
-    c .before .before .before .before .before .perform .ensures ∙ ap (λ (f : FormRead). answeredAs f (heldIn (a .root) (a .row .now) (a .locks .now) (a .pages .now))) (sym (c .before .before .before .before .before .before .before .before .before .before .read .given .1) ∙ c .before .before .before .before .before .before .before .before .before .before .before .before .read-form .ensures)
+    let a = c .before .before .before .before .before .before .before .before .before .before .before .before .before .before .before .before .before .before .before .before .args in
+    c .before .before .before .before .before .before .before .perform .ensures ∙ ap (λ (f : FormRead). answeredAs f (heldIn (a .root) (a .row .now) (a .locks .now) (a .pages .now) (a .waiting .now))) (sym (c .before .before .before .before .before .before .before .before .before .before .before .before .before .read .given .1) ∙ c .before .before .before .before .before .before .before .before .before .before .before .before .before .before .before .read-form .ensures)
 
 pub perform-line-spec : {M : Type 1} → statement M
 perform-line-spec =
@@ -50,4 +53,5 @@ perform-line-spec =
     same-length
     same-length-2
     same-length-3
+    same-length-4
     returns-2)

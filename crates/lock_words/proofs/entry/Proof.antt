@@ -5,7 +5,7 @@ use mathlib.Core.List.{List, [], _∷_}
 use mathlib.Core.Logic.{⊎-elim}
 use Rattle.model.specs.declared.Mode.{Mode}
 use Rattle.model.specs.declared.Mode.the-variants.{Read, Selective, Exclusive}
-use Rattle.model.specs.Holds.{tableOne}
+use Rattle.model.specs.LockWords.{tableOne}
 use borrow.Author.Needs.{needs}
 use Rattle.lock_words.proofs.entry.Statement.{statement}
 use Rattle.lock_words.proofs.entry.Tie as tie

@@ -3,7 +3,7 @@ use mathlib.Core.Path.{_≡_, refl, sym, _∙_}
 use mathlib.Core.Bool.{true}
 use mathlib.Core.Option.{Option, none, some}
 use Rattle.model.specs.declared.Mode.{Mode}
-use Rattle.model.specs.Holds.{tableOne}
+use Rattle.model.specs.LockWords.{tableOne}
 use Rattle.model.specs.GrantTable.{heldIn, strongest, grantedBeside}
 use Rattle.model.proofs.Theorems.GrantTable.{word-judged}
 use Rattle.lock_words.specs.declared.Held.the-variants.{None, In}

@@ -2,8 +2,8 @@
 -- is the book's note.
 -- Main statements: claims-claimed (every lock of a list is claimed by it); Ends (what such a step owes), held-listed
 -- (its locks are found held), done-kept, ended-kept.
-use mathlib.Core.Path.{_≡_, refl, sym, _∙_, subst}
-use mathlib.Core.Bool.{true}
+use mathlib.Core.Path.{_≡_, refl, sym, _∙_, subst, ap}
+use mathlib.Core.Bool.{true, true≢false}
 use mathlib.Core.List.{List, [], _∷_}
 use mathlib.Core.Option.{none, some}
 use Prim.Native.Nat.{ℕ, _<_}
@@ -12,7 +12,7 @@ use Rattle.model.specs.declared.OperationAnswer.{OperationAnswer}
 use Rattle.model.specs.declared.Restructuring.{Restructuring}
 use Rattle.model.specs.Sizes.{lockWords}
 use Rattle.model.specs.Records.{idle}
-use Rattle.model.specs.Answers.{answerOf, refusalNumber}
+use Rattle.model.specs.Answers.{answerOf, refusalNumber, performs}
 use Rattle.model.specs.LockWords.{Claim}
 use Rattle.model.specs.Pages.{withPage, scratchPage, zeroPage}
 use Rattle.model.specs.Endings.{done, endedWith}
@@ -27,7 +27,8 @@ use Rattle.model.proofs.Invariant.Statement.{ExtentsOk, NoPages, restin
 use Rattle.model.proofs.Invariant.Frame.{named, later}
 use Rattle.model.proofs.Invariant.Facts.{no-pages-held}
 use Rattle.model.proofs.Invariant.Turn.{Plain, Turn, before, claimsAt, its-claims, me, note-still, notesAt, owns-no-old, uses-none, usesAt}
-use Rattle.model.proofs.Effects.Kept.{Kept, Parts, assemble, ahead-stays}
+use Rattle.model.proofs.Effects.Kept.{Kept, Parts, assemble, ahead-stays, asks-stay}
+use Rattle.model.proofs.Laws.WaitingRow.{RowOk}
 use Rattle.model.proofs.Effects.ScratchPage.{scratch-same, scratch-parts}
 use Rattle.model.proofs.Effects.GiveUps.{Apart, given-up-rest, held-all, release-all}
 use Rattle.model.proofs.Laws.Answers.{same-answer}
@@ -75,11 +76,12 @@ module _ {m : Memory} {b : Book} {q k : ℕ} (t : Turn m b q k) {a : OperationAn
         self = resting refl (rw (eqb-same q q refl) refl) (no-pages-held _ _ q refl (x .no-pages)) (scratch-same m b (t .inv) q (t .in-row) zeroPage length-zeroPage);
       })
 
-  done-inv : Inv (record { root = m .root; parties = set (m .parties) q idle; locks = givenUp cs (viewOf m q) .locks; pages = withPage (m .pages) (scratchPage (m .root) q) zeroPage }) (withEntry b q none)
+  done-inv : (row : List ℕ) → RowOk (m .root) (set (m .parties) q idle) row
+      → Inv (record { root = m .root; parties = set (m .parties) q idle; locks = givenUp cs (viewOf m q) .locks; pages = withPage (m .pages) (scratchPage (m .root) q) zeroPage; waiting = row }) (withEntry b q none)
   done-inv = assemble m b (t .inv) q (t .in-row) (m .root) _ _ idle (withEntry b q none) (t .inv .ghost) done-parts
 
   pub done-kept : (s : Restructuring) → Kept m b q (done a s (givenUp cs (viewOf m q)))
-  unfolding refusalNumber agreesWith afterReply isNote isNoteOf
+  unfolding refusalNumber agreesWith afterReply isNote isNoteOf performs
   done-kept s =
       rw (given-up-rest cs (viewOf m q))
       (record {
@@ -87,6 +89,8 @@ module _ {m : Memory} {b : Book} {q k : ℕ} (t : Turn m b q k) {a : OperationAn
         right = rw (still, t .busy .entry, x .noted, same-answer a) refl;
         inv = rw still done-inv;
         framed = ahead-stays m b (t .inv) q (t .in-row) (m .root) _ _ idle (withEntry b q none) (t .inv .ghost) done-parts;
+        asks = asks-stay m b (t .inv) q (t .in-row) (m .root) _ _ idle (withEntry b q none) (t .inv .ghost) done-parts;
+        stays = λ e. absurd (true≢false (ap performs e));
       })
 
 -- Step 16, 17, 24, 26 or 30: all locks are given up, and the answer is that of the record.

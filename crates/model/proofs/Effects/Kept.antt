@@ -5,7 +5,7 @@
 -- moved-kept (a step that moves).
 use mathlib.Core.Path.{_≡_, refl, sym, ap, _∙_}
 use mathlib.Core.Logic.{_≢_}
-use mathlib.Core.Bool.{true, false, false≢true}
+use mathlib.Core.Bool.{true, false, false≢true, true≢false}
 use mathlib.Core.List.{List}
 use mathlib.Core.Option.{none}
 use Prim.Native.Nat.{ℕ, _≤_, _<_}
@@ -16,12 +16,16 @@ use Rattle.model.specs.declared.Root.{Root}
 use Rattle.model.specs.declared.Party.{Party}
 use Rattle.model.specs.Sizes.{lockWords}
 use Rattle.model.specs.Records.{idle}
-use Rattle.model.specs.Answers.{refusalNumber}
+use Rattle.model.specs.Answers.{refusalNumber, performs}
 use Rattle.model.specs.Addresses.{span}
 use Rattle.model.specs.Outcome.{Outcome, waits, moved}
-use Rattle.model.specs.Memory.{Memory, partyAt, viewOf, afterStep}
+use Rattle.model.specs.Memory.{Memory, partyAt, viewOf, afterStep, withWaiting}
+use Rattle.model.specs.WaitingRow.{requests}
+use Rattle.model.specs.declared.StepAnswer.the-variants as StepAnswer
 use Rattle.model.specs.Book.{Book, agreesWith, noteFor, afterReply}
 use Rattle.model.proofs.Laws.Lists.{Cmp, same, diff, cmp}
+use Rattle.model.proofs.Laws.WaitingRow.{RowOk, AskSame}
+use Rattle.model.proofs.Invariant.Asks.{requests-same}
 use Rattle.model.proofs.Invariant.Ghost.{Extent, rootExtent, size, Ghost}
 use Rattle.model.proofs.Invariant.Claims.{LocksOk, claimed}
 use Rattle.model.proofs.Invariant.Statement.{Limits, restructures, liveFor, lowFor, ExtentsOk, PagesOk, BookOk, NoPages, PartyOk, sceneOf, Inv}
@@ -34,9 +38,15 @@ use Rattle.model.proofs.Invariant.Restructurer.{others-rest}
 pub record Kept (m : Memory) (b : Book) (q : ℕ) (o : Outcome) : Type 0 where
   pub allowed : refusalNumber (o .answer) ≡ 0
   pub right : agreesWith b q (partyAt (m .parties) q .step) (o .answer) ≡ true
-  pub inv : Inv (afterStep m (o .after)) (afterReply b q (partyAt (m .parties) q .step) (o .answer))
+  -- The invariant, with any waiting row that is sound then.
+  pub inv : (row : List ℕ) → RowOk (o .after .root) (set (m .parties) (o .after .number) (o .after .party)) row
+      → Inv (withWaiting row (afterStep m (o .after))) (afterReply b q (partyAt (m .parties) q .step) (o .answer))
   -- Another party at 9 has as many pages yet to copy.
   pub framed : AheadStays m q (o .after .root) (o .after .pages)
+  -- Every other party requests what it requested.
+  pub asks : AskSame (m .root) (o .after .root) (m .parties) (set (m .parties) (o .after .number) (o .after .party)) q
+  -- A step that waits leaves what it was lent.
+  pub stays : o .answer ≡ StepAnswer.Waiting → o .after ≡ viewOf m q
 
 -- ---- The row of parties after one record changed
 
@@ -190,8 +200,8 @@ module _ (m : Memory) (b : Book) (i : Inv m b) (q : ℕ) (in-row : q < m .root .
       let old = i .strangers j far in
       (k .entry= ∙ old .0, none-kept _ _ j (partyAt (m .parties) j) k (old .1))
 
-  pub assemble : Inv (record { root = t; parties = set (m .parties) q p; locks = ls; pages = ps }) c
-  assemble = record {
+  pub assemble : (row : List ℕ) → RowOk t (set (m .parties) q p) row → Inv (record { root = t; parties = set (m .parties) q p; locks = ls; pages = ps; waiting = row }) c
+  assemble row ok = record {
     ghost = h;
     limits = limits-sizes (m .root) t (x .sizes) (i .limits);
     parties-many = length-set (m .parties) q p ∙ i .parties-many ∙ sym (x .sizes .parties=);
@@ -201,7 +211,15 @@ module _ (m : Memory) (b : Book) (i : Inv m b) (q : ℕ) (in-row : q < m .root .
     pages-ok = x .pages;
     book-ok = x .book;
     parties-ok = λ j l. each-party j l (cmp j q);
+    row-ok = ok;
     strangers = each-stranger;
+  }
+
+  -- What other parties request stays.
+  pub asks-stay : AskSame (m .root) t (m .parties) (set (m .parties) q p) q
+  asks-stay = record {
+    as-many = x .sizes .parties=;
+    same-ask = λ j n l. ap (requests t) (row-other (m .parties) q j p n) ∙ requests-same _ _ j (partyAt (m .parties) j) (x .others j n);
   }
 
   -- What other finds have yet to copy stays.
@@ -210,13 +228,31 @@ module _ (m : Memory) (b : Book) (i : Inv m b) (q : ℕ) (in-row : q < m .root .
 
 -- ---- A waiting call
 
+-- The invariant with another row.
+pub with-row : (m : Memory) (b : Book) → Inv m b → (row : List ℕ) → RowOk (m .root) (m .parties) row → Inv (withWaiting row m) b
+with-row m b i row ok = record {
+  ghost = i .ghost;
+  limits = i .limits;
+  parties-many = i .parties-many;
+  pages-many = i .pages-many;
+  extents-ok = i .extents-ok;
+  locks-ok = i .locks-ok;
+  pages-ok = i .pages-ok;
+  book-ok = i .book-ok;
+  parties-ok = i .parties-ok;
+  row-ok = ok;
+  strangers = i .strangers;
+}
+
 pub waits-kept : (m : Memory) (b : Book) (q : ℕ) → Inv m b → Kept m b q (waits (viewOf m q))
 unfolding refusalNumber agreesWith afterReply
 waits-kept m b q i = record {
   allowed = refl;
   right = refl;
-  inv = rw (set-getD (m .parties) q idle) i;
+  inv = rw (set-getD (m .parties) q idle) (λ row ok. with-row m b i row ok);
   framed = λ j _ _ _. refl;
+  asks = rw (set-getD (m .parties) q idle) (record { as-many = refl; same-ask = λ j n l. refl });
+  stays = λ e. refl;
 }
 
 -- ---- A step that moves
@@ -224,11 +260,13 @@ waits-kept m b q i = record {
 -- It leaves the parts of the invariant that it proves; the book is then c.
 pub moved-kept : {m : Memory} {b c : Book} {q k : ℕ} {r : Root} {ls ps : List ℕ} {p : Party} {h : Ghost} (t : Turn m b q k)
     → noteFor b q (b .entries q) (partyAt (m .parties) q .step) ≡ c → Parts m b (t .inv) q r ls ps p c h
-    → Kept m b q (moved (record { root = r; party = p; number = q; locks = ls; pages = ps }))
-unfolding refusalNumber agreesWith afterReply
+    → Kept m b q (moved (record { root = r; party = p; number = q; locks = ls; pages = ps; behind = viewOf m q .behind }))
+unfolding refusalNumber agreesWith afterReply performs
 moved-kept {m} {b} {c} {q} {k} {r} {ls} {ps} {p} {h} t noted x = record {
   allowed = refl;
   right = refl;
   inv = rw noted (assemble m b (t .inv) q (t .in-row) r ls ps p c h x);
   framed = ahead-stays m b (t .inv) q (t .in-row) r ls ps p c h x;
+  asks = asks-stay m b (t .inv) q (t .in-row) r ls ps p c h x;
+  stays = λ e. absurd (true≢false (ap performs e));
 }

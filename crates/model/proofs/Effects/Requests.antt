@@ -12,11 +12,12 @@ use Rattle.model.specs.declared.Mode.{Mode}
 use Rattle.model.specs.declared.Mode.the-variants.{Read, Selective, Exclusive}
 use Rattle.model.specs.Sizes.{lockWords}
 use Rattle.model.specs.LockWords.{Claim, permits}
-use Rattle.model.specs.LockRequests.{isGranted, withHold, request}
+use Rattle.model.specs.Outcome.{View}
+use Rattle.model.specs.LockRequests.{lockWord, isGranted, withHold, request}
 use Rattle.model.specs.Memory.{Memory, viewOf}
 use Rattle.model.specs.Book.{Book}
 use Rattle.model.specs.Holds.{sameMode}
-use Rattle.model.proofs.Laws.Lists.{Cmp, same, diff, cmp, cond-ind, eqb-same, eqb-diff}
+use Rattle.model.proofs.Laws.Lists.{Cmp, same, diff, cmp, Told, holds, fails, tell, cond-ind, false≢true, eqb-same, eqb-diff}
 use Rattle.model.specs.Claims.{claims}
 use Rattle.model.proofs.Invariant.Claims.{isClaimed, claimed}
 use Rattle.model.proofs.Invariant.LockMoves.{locks-granted, locks-move}
@@ -61,6 +62,15 @@ claim-among (d ∷ xs) c ys i m =
 
 -- ---- A request
 
+-- What is granted is permitted by Table I.
+pub granted-permits : (v : View) (c : Claim) → isGranted v c ≡ true → permits (lockWord v (c .word)) (c .mode) ≡ true
+unfolding isGranted
+granted-permits v c g = go (tell (permits (lockWord v (c .word)) (c .mode)))
+  where
+    go : Told (permits (lockWord v (c .word)) (c .mode)) → permits (lockWord v (c .word)) (c .mode) ≡ true
+    go (holds t) = t
+    go (fails t) = absurd (false≢true (rw t at g))
+
 -- What a step owes that requests the lock c, and whose record is p once that is granted.
 pub record Requests {m : Memory} {b : Book} {q k : ℕ} (t : Turn m b q k) (c : Claim) (p : Party) : Type 0 where
   pub word-fits : c .word < lockWords (m .root)
@@ -85,9 +95,10 @@ module _ {m : Memory} {b : Book} {q k : ℕ} (t : Turn m b q k) (c : Claim) (p :
       go (diff n) = rw (eqb-diff j q n, and-false (eqb w (c .word))) (or-false (claimed (m .root) (m .parties) w j o))
 
   pub request-kept : Kept m b q (request (viewOf m q) c p)
-  unfolding request isGranted withHold
+  unfolding request withHold
   request-kept =
-      cond-ind (Kept m b q) (permits (getD (m .locks) (c .word) 0) (c .mode)) _ _
-      (λ y. own-kept t p (x .moves y) _
+      cond-ind (Kept m b q) (isGranted (viewOf m q) c) _ _
+      (λ g. let y = granted-permits (viewOf m q) c g in
+      own-kept t p (x .moves y) _
       (locks-move (m .root) (m .parties) q p (row-long t) (locks-granted (t .inv .locks-ok) (c .word) (x .word-fits) q (c .mode) y (party-small t)) holds-then))
       (λ y. waits-kept m b q (t .inv))

@@ -10,10 +10,10 @@ use Rattle.model.specs.declared.Root.{Root}
 use Rattle.model.specs.declared.Party.{Party}
 use Rattle.model.specs.declared.Mode.{Mode}
 use Rattle.model.specs.declared.Mode.the-variants.{Read, Selective, Exclusive}
-use Rattle.model.specs.LockWords.{rootWord, permits}
+use Rattle.model.specs.LockWords.{rootWord, permits, tableOne}
 use Rattle.model.specs.Memory.{Memory, partyAt}
 use Rattle.model.specs.Book.{Book}
-use Rattle.model.specs.Holds.{tableOne, sameMode}
+use Rattle.model.specs.Holds.{sameMode}
 use Rattle.model.proofs.Laws.Lists.{Told, holds, fails, tell, Cmp, same, diff, cmp}
 use Rattle.model.proofs.Invariant.Ghost.{Extent, rootExtent}
 use Rattle.model.proofs.Invariant.Claims.{claimed}

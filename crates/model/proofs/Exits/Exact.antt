@@ -43,7 +43,7 @@ keyed key find k = withAnswer 1 (withOther 1 (withChain 2 (atStep k (begun (cond
 
 -- The view of the party, all lock words being w.
 abbrev seen : ℕ → Root → Party → View
-seen w r p = record { root = r; party = p; number = 0; locks = replicate 4 w; pages = pages }
+seen w r p = record { root = r; party = p; number = 0; locks = replicate 4 w; pages = pages; behind = false }
 
 -- Nobody holds a lock.
 abbrev free : Party → View

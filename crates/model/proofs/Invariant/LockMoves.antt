@@ -20,8 +20,8 @@ use Rattle.model.specs.declared.Root.{Root}
 use Rattle.model.specs.declared.Party.{Party}
 use Rattle.model.specs.declared.Mode.{Mode}
 use Rattle.model.specs.declared.Mode.the-variants.{Read, Selective, Exclusive}
-use Rattle.model.specs.LockWords.{fieldOf, withField, readersOf, selectiveOf, exclusiveOf, permits, holds, grantedWord, releasedWord, turnedSelective}
-use Rattle.model.specs.Holds.{tableOne, sameMode}
+use Rattle.model.specs.LockWords.{fieldOf, withField, readersOf, selectiveOf, exclusiveOf, permits, holds, grantedWord, releasedWord, turnedSelective, tableOne}
+use Rattle.model.specs.Holds.{sameMode}
 use Rattle.model.specs.Records.{idle}
 use Rattle.model.specs.Claims.{claims}
 use Rattle.model.proofs.Invariant.Claims.{isClaimed, claimed, bit, HolderIs, WordOk, LocksOk}

@@ -23,6 +23,8 @@ use Rattle.model.proofs.Laws.Lists.{cond-true, cond-false, cond-ind, an
 use Rattle.model.proofs.Invariant.Ghost.{Owner, Named, nobody, free, inChain, oldOf, partnerOf, builtBy, newBy, sameOwner, extent, size, localLevel, Ghost}
 use Rattle.model.proofs.Invariant.Owners.{kinds-apart, owner-self, upFrom, owned-start}
 use Rattle.model.proofs.Laws.Structure.{ChainIs}
+use Rattle.model.specs.WaitingRow.{allZero}
+use Rattle.model.proofs.Laws.WaitingRow.{row-clear}
 use Rattle.model.specs.Claims.{claims}
 use Rattle.model.proofs.Invariant.Claims.{isClaimed, claimed, LocksOk}
 use Rattle.model.proofs.Invariant.LockMoves.{locks-same, locks-start}
@@ -186,6 +188,11 @@ module _ (n b p v q : ℕ) (fits : withinLimits (rootOfSizes n b p v q) ≡ true
   unfolding emptyBook
   start-strangers x h = (refl, start-no-pages x)
 
+  zeros-clear : (n : ℕ) → allZero (replicate n 0) ≡ true
+  unfolding allZero
+  zeros-clear zero = refl
+  zeros-clear (suc n) = zeros-clear n
+
   pub start-inv : Inv (formatted (rootOfSizes n b p v q)) emptyBook
   unfolding formatted formattedRoot
   start-inv = record {
@@ -198,5 +205,6 @@ module _ (n b p v q : ℕ) (fits : withinLimits (rootOfSizes n b p v q) ≡ true
     pages-ok = start-pages;
     book-ok = start-book;
     parties-ok = start-parties;
+    row-ok = row-clear root row (replicate q 0) (length-replicate q 0) (zeros-clear q);
     strangers = start-strangers;
   }

@@ -29,6 +29,7 @@ use Rattle.model.specs.Steps.Write.{isChange}
 use Rattle.model.specs.Steps.MergeLocks.{targetOf, mergeStops}
 use Rattle.model.specs.Steps.Dispatch.{hasStep}
 use Rattle.model.proofs.Invariant.Ghost.{Owner, Named, free, inChain, oldOf, partnerOf, builtBy, newBy, count, Extent, extent, rootExtent, size, advance, localLevel, Ghost, Owned}
+use Rattle.model.proofs.Laws.WaitingRow.{RowOk}
 use Rattle.model.proofs.Laws.Structure.{Linked, FreePages, Overflow, ChainIs}
 use Rattle.model.proofs.Invariant.Claims.{LocksOk, claimed}
 
@@ -401,5 +402,7 @@ pub record Inv (m : Memory) (b : Book) : Type 0 where
   pub book-ok : BookOk (m .root) ghost b
   -- Each party of the row rests or works as its step number says.
   pub parties-ok : (q : ℕ) → q < m .root .parties → PartyOk (sceneOf m ghost b) q (partyAt (m .parties) q)
+  -- The waiting row is as long as the row of records, has nobody twice, and each of it requests a lock.
+  pub row-ok : RowOk (m .root) (m .parties) (m .waiting)
   -- A number past the row has no entry and no pages.
   pub strangers : (q : ℕ) → m .root .parties ≤ q → (b .entries q ≡ none) × NoPages (sceneOf m ghost b) q

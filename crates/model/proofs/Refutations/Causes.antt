@@ -32,7 +32,7 @@ late = atStep 12 early
 
 -- A file with so many lock words, of which two are right.
 abbrev lent : Root → ℕ → Party → Memory
-lent r n p = record { root = r; parties = p ∷ []; locks = replicate n 0; pages = replicate 32 0 }
+lent r n p = record { root = r; parties = p ∷ []; locks = replicate n 0; pages = replicate 32 0; waiting = 0 ∷ [] }
 
 -- Begin: every cause, then one less each time.
 begin-first :

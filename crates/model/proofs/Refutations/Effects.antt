@@ -1,12 +1,13 @@
 -- What follows from the statements of specs/Effects.antt and specs/Consistency.antt for a caller: each takes a field
 -- that nothing else reads, so that none can be emptied unseen.
--- Main statements: moved-alters, done-alters, waiting-leaves, refused-leaves (a step); begin-refused-leaves,
--- withdraw-refused-leaves; lock-refused, nothing-awaited (a wait); one-step-fed, one-begin-fed, one-withdraw-fed,
--- other-answer-refused, refused-withdraw-kept (the book); searched-home, searched-page, searched-locked, walked-locked,
--- stays-at-nine (a search); next-in-round, pair-words-at (the file); joined-writes-scratch, both-given-back (a merge).
+-- Main statements: moved-alters, done-alters, waiting-leaves, waiting-joins, waiting-again, refused-leaves (a step);
+-- begin-refused-leaves, withdraw-refused-leaves; lock-refused, nothing-awaited (a wait); one-step-fed, one-begin-fed,
+-- one-withdraw-fed, other-answer-refused, refused-withdraw-kept (the book); searched-home, searched-page,
+-- searched-locked, walked-locked, stays-at-nine (a search); next-in-round, pair-words-at (the file);
+-- joined-writes-scratch, both-given-back (a merge).
 use mathlib.Core.Path.{_≡_, sym, ap, _∙_}
-use mathlib.Core.Logic.{_≢_}
-use mathlib.Core.Bool.{Bool, true, false, false≢true}
+use mathlib.Core.Logic.{_≢_, _⊎_, inl, inr}
+use mathlib.Core.Bool.{Bool, true, false, not, false≢true}
 use mathlib.Core.Option.{none}
 use mathlib.Core.List.{List, [], _∷_}
 use Prim.Native.Nat.{ℕ, _+_, _*_, _^_, _<_}
@@ -24,20 +25,22 @@ use Rattle.model.specs.Answers.{performs}
 use Rattle.model.specs.Pages.{pageOf, primaryPage, scratchPage}
 use Rattle.model.specs.Addresses.{span, hash}
 use Rattle.model.specs.LockRequests.{isGranted, modeOf}
-use Rattle.model.specs.LockWords.{holds, chainWord}
+use Rattle.model.specs.LockWords.{holds, chainWord, permits}
 use Rattle.model.specs.Memory.{Memory, partyAt, viewOf}
+use Rattle.model.specs.WaitingRow.{standsBehind, rowWith}
 use Rattle.model.specs.Calls.{beginCall, stepCall, withdrawCall}
 use Rattle.model.specs.Runs.{beginFor, stepFor, withdrawFor, toBegin, toStep, toWithdraw, Event, eventOf, events}
 use Rattle.model.specs.Book.{Book, isNoteOf, noteFor}
 use Rattle.model.specs.Effects.{recordBefore, recordAfter, AltersScratch, AltersOwn, own-record, own-scratch, StepAlters, WaitsForLock, BeginAlters, WithdrawAlters, withdrawAfter, BookFed, BookCompares, BookLeaves, agreesTo, bookThen, scratchLink}
 use Rattle.model.specs.Filling.{PairIs}
 use Rattle.model.specs.Outcome.{View, guarded}
-use Rattle.model.specs.FreeList.{roomToGiveBack}
+use Rattle.model.specs.FreeList.{isAmong, roomToGiveBack}
 use Rattle.model.specs.Steps.Dispatch.{wants}
 use Rattle.model.specs.Steps.MergeBuild.{Pair, step26}
 use Rattle.model.specs.Steps.MergeWrite.{partnerCleared, step29}
 use Rattle.model.specs.Merges.{TakesNone, before29, pagesOfBoth, GivesBackBoth}
 use Rattle.model.specs.Consistency.{Consistent, SearchEnds, LeftToWalk}
+use Rattle.model.proofs.Laws.Lists.{and-both}
 
 -- ---- A step
 
@@ -55,17 +58,34 @@ module _ (m : Memory) (q : ℕ) (s : StepAlters m q) where
   unfolding performs
   done-alters a r e = own-altered (s .performed (ap performs e))
 
-  pub waiting-leaves : stepCall m q .answer ≡ StepAnswer.Waiting → stepCall m q .memory ≡ m
-  unfolding performs
-  waiting-leaves e = s .otherwise (ap performs e)
+  -- A waiting call leaves all but the row, and all where the party is in the row.
+  pub waiting-leaves : stepCall m q .answer ≡ StepAnswer.Waiting
+      → (stepCall m q .memory .root ≡ m .root) × (stepCall m q .memory .parties ≡ m .parties) × (stepCall m q .memory .locks ≡ m .locks)
+      × (stepCall m q .memory .pages ≡ m .pages)
+  waiting-leaves e =
+      let f = s .otherwise .waits e in
+      (ap (λ (u : Memory). u .root) f, ap (λ (u : Memory). u .parties) f, ap (λ (u : Memory). u .locks) f, ap (λ (u : Memory). u .pages) f)
+
+  pub waiting-joins : stepCall m q .answer ≡ StepAnswer.Waiting → stepCall m q .memory .waiting ≡ rowWith q (m .waiting)
+  waiting-joins e = ap (λ (u : Memory). u .waiting) (s .otherwise .waits e)
+
+  pub waiting-again : stepCall m q .answer ≡ StepAnswer.Waiting → isAmong (q + 1) (m .waiting) ≡ true → stepCall m q .memory ≡ m
+  waiting-again e h = s .otherwise .waits-again e h
 
   pub refused-leaves : (n : ℕ) → stepCall m q .answer ≡ StepAnswer.Refused n → stepCall m q .memory ≡ m
-  unfolding performs
-  refused-leaves n e = s .otherwise (ap performs e)
+  refused-leaves n e = s .otherwise .refused n e
 
 -- A party that waits for a lock is not granted it.
 pub lock-refused : (m : Memory) (q : ℕ) (w : WaitsForLock m q) → isGranted (viewOf m q) (w .lock) ≢ true
-lock-refused m q w e = let z = sym e ∙ w .forbidden in absurd (false≢true (sym z))
+unfolding isGranted
+lock-refused m q w e = go (w .forbidden)
+  where
+    both : (permits (getD (m .locks) (w .lock .word) 0) (w .lock .mode) ≡ true) × (not (standsBehind (m .root) (m .parties) (m .waiting) q) ≡ true)
+    both = and-both (permits (getD (m .locks) (w .lock .word) 0) (w .lock .mode)) (not (standsBehind (m .root) (m .parties) (m .waiting) q)) e
+
+    go : (permits (getD (m .locks) (w .lock .word) 0) (w .lock .mode) ≡ false) ⊎ (standsBehind (m .root) (m .parties) (m .waiting) q ≡ true) → ⊥
+    go (inl f) = false≢true (sym f ∙ both .0)
+    go (inr f) = false≢true (sym (ap not f) ∙ both .1)
 
 -- A party whose next step requests nothing does not wait for a lock.
 pub nothing-awaited : (m : Memory) (q : ℕ) → wants (m .root) (recordBefore m q) ≡ none → WaitsForLock m q → ⊥

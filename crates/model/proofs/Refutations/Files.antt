@@ -22,7 +22,7 @@ pair level j k rest = level ∷ 2 ∷ 0 ∷ j ∷ 0 ∷ k ∷ 0 ∷ 0 ∷ 0 ∷ 
 -- N = 2, b = 2, P = 2, no overflow page, one party at rest: two chains with two keys each. The mixed keys of 3 and 12
 -- are even, those of 8 and 19 odd.
 abbrev two : List ℕ → Memory
-two ps = record { root = rootOf 2 2 2 0 1 0 0 0 0; parties = []; locks = 0 ∷ 0 ∷ 0 ∷ []; pages = ps }
+two ps = record { root = rootOf 2 2 2 0 1 0 0 0 0; parties = []; locks = 0 ∷ 0 ∷ 0 ∷ []; pages = ps; waiting = 0 ∷ [] }
 
 -- There are two chains at least, whatever x is.
 first-inside : (ps : List ℕ) (f : Consistent (two ps)) → 0 < chainsWith (two ps) (f .split)

@@ -44,6 +44,7 @@ crossed w = record {
   parties = partyOf 3 7 4 0 0 0 0 0 0 0 ∷ partyOf 3 7 4 0 1 0 0 0 0 0 ∷ [];
   locks = 0 ∷ 131072 ∷ w ∷ [];
   pages = bare (bare (bare (bare [])));
+  waiting = 0 ∷ 0 ∷ [];
 }
 
 -- ---- Progress
@@ -83,35 +84,35 @@ unfolding opened
 holds-told = refl
 
 -- Chain 0 is marked as held by party 1, so party 0 waits: right where party 1 holds it by the calls made.
-held-by-nobody : grantsRight sizes busy [] (crossed 0) (stepFor 0 ∷ []) ≡ false
+held-by-nobody : grantsRight sizes busy [] [] (crossed 0) (stepFor 0 ∷ []) ≡ false
 unfolding opened
 held-by-nobody = refl
 
-held-by-one : grantsRight sizes busy (heldBy 1 1 ∷ []) (crossed 0) (stepFor 0 ∷ []) ≡ true
+held-by-one : grantsRight sizes busy (heldBy 1 1 ∷ []) [] (crossed 0) (stepFor 0 ∷ []) ≡ true
 unfolding opened
 held-by-one = refl
 
 -- Chain 1 is free, so party 1 is granted it: wrong where party 0 holds it by the calls made.
-granted-held : grantsRight sizes busy (heldBy 0 2 ∷ []) (crossed 0) (stepFor 1 ∷ []) ≡ false
+granted-held : grantsRight sizes busy (heldBy 0 2 ∷ []) [] (crossed 0) (stepFor 1 ∷ []) ≡ false
 unfolding opened
 granted-held = refl
 
-granted-free : grantsRight sizes busy [] (crossed 0) (stepFor 1 ∷ []) ≡ true
+granted-free : grantsRight sizes busy [] [] (crossed 0) (stepFor 1 ∷ []) ≡ true
 unfolding opened
 granted-free = refl
 
 -- Granted once, it is held: the same lock a second time is wrong to grant, and wrong in the second call alone.
-granted-again : grantsRight sizes busy [] (crossed 0) (stepFor 1 ∷ stepFor 0 ∷ []) ≡ false
+granted-again : grantsRight sizes busy [] [] (crossed 0) (stepFor 1 ∷ stepFor 0 ∷ []) ≡ false
 unfolding opened
 granted-again = refl
 
 -- ---- Refusals: what the calls say is under way, against what memory says
 
 abbrev idles : Memory
-idles = record { root = sizes; parties = idle ∷ idle ∷ []; locks = 0 ∷ 0 ∷ 0 ∷ []; pages = bare (bare (bare (bare []))) }
+idles = record { root = sizes; parties = idle ∷ idle ∷ []; locks = 0 ∷ 0 ∷ 0 ∷ []; pages = bare (bare (bare (bare []))); waiting = 0 ∷ 0 ∷ [] }
 
 abbrev right : Book → Memory → Call → Bool
-right b m c = grantsRight sizes b [] m (c ∷ [])
+right b m c = grantsRight sizes b [] [] m (c ∷ [])
 
 begun-twice : right busy idles (beginFor 0 Operation.Find 7) ≡ false
 unfolding opened
@@ -147,6 +148,6 @@ unfolding opened
 withdrawn-idle = refl
 
 -- Beyond the row it is 3 for all three, whatever is under way.
-beyond : grantsRight sizes busy [] idles (beginFor 2 Operation.Find 7 ∷ withdrawFor 2 ∷ []) ≡ true
+beyond : grantsRight sizes busy [] [] idles (beginFor 2 Operation.Find 7 ∷ withdrawFor 2 ∷ []) ≡ true
 unfolding opened
 beyond = refl

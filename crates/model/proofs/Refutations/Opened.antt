@@ -29,19 +29,20 @@ unfolding Rattle.model.specs.Addresses.span Rattle.model.specs.A
     Rattle.model.specs.Filling.filled Rattle.model.specs.Filling.overflowWritten Rattle.model.specs.FreeList.tooFew Rattle.model.specs.FreeList.isAmong
     Rattle.model.specs.FreeList.alsoTaken Rattle.model.specs.FreeList.takenFrom Rattle.model.specs.FreeList.pagesTaken Rattle.model.specs.FreeList.rootAfterTaking
     Rattle.model.specs.FreeList.givenBack Rattle.model.specs.FreeList.roomToGiveBack Rattle.model.specs.FreeList.pagesGivenBack Rattle.model.specs.GrantTable.rank
-    Rattle.model.specs.GrantTable.heldIn Rattle.model.specs.GrantTable.strongest Rattle.model.specs.GrantTable.grantedBeside Rattle.model.specs.Holds.tableOne
-    Rattle.model.specs.Holds.permitted Rattle.model.specs.Holds.sameMode Rattle.model.specs.Holds.isHold Rattle.model.specs.Holds.withoutOne
-    Rattle.model.specs.Holds.withoutAll Rattle.model.specs.Holds.givesUpMoving Rattle.model.specs.Holds.givesUp Rattle.model.specs.Holds.requested
-    Rattle.model.specs.Holds.withHeld Rattle.model.specs.Holds.holdsAfterStep Rattle.model.specs.Holds.givesUpWithdrawn
-    Rattle.model.specs.Holds.holdsAfterWithdraw Rattle.model.specs.Holds.holdsAfter Rattle.model.specs.Holds.grantRight Rattle.model.specs.Holds.neverWaits
-    Rattle.model.specs.Holds.answerRight Rattle.model.specs.Holds.refusedWith Rattle.model.specs.Holds.beginRefusedWith Rattle.model.specs.Holds.isBegun
-    Rattle.model.specs.Holds.idleRight Rattle.model.specs.Holds.beginRight Rattle.model.specs.Holds.withdrawRefusedWith Rattle.model.specs.Holds.isWithdrawn
-    Rattle.model.specs.Holds.withdrawRight Rattle.model.specs.Holds.stepRight Rattle.model.specs.Holds.callRight Rattle.model.specs.Holds.grantsRight
-    Rattle.model.specs.LockRequests.modeOf Rattle.model.specs.LockRequests.isGranted Rattle.model.specs.LockRequests.withHold
-    Rattle.model.specs.LockRequests.request Rattle.model.specs.LockRequests.isHeld Rattle.model.specs.LockRequests.heldAll
-    Rattle.model.specs.LockRequests.withoutHold Rattle.model.specs.LockRequests.givenUp Rattle.model.specs.LockRequests.release
-    Rattle.model.specs.LockWords.fieldOf Rattle.model.specs.LockWords.withField Rattle.model.specs.LockWords.tableOne Rattle.model.specs.LockWords.permits
-    Rattle.model.specs.LockWords.holds Rattle.model.specs.LockWords.grantedWord Rattle.model.specs.LockWords.releasedWord
+    Rattle.model.specs.GrantTable.heldIn Rattle.model.specs.GrantTable.strongest Rattle.model.specs.GrantTable.grantedBeside Rattle.model.specs.Holds.permitted
+    Rattle.model.specs.Holds.sameMode Rattle.model.specs.Holds.isHold Rattle.model.specs.Holds.withoutOne Rattle.model.specs.Holds.withoutAll
+    Rattle.model.specs.Holds.givesUpMoving Rattle.model.specs.Holds.givesUp Rattle.model.specs.Holds.requested Rattle.model.specs.Holds.withHeld
+    Rattle.model.specs.Holds.holdsAfterStep Rattle.model.specs.Holds.givesUpWithdrawn Rattle.model.specs.Holds.holdsAfterWithdraw
+    Rattle.model.specs.Holds.holdsAfter Rattle.model.specs.Holds.waitsIn Rattle.model.specs.Holds.joins Rattle.model.specs.Holds.leaves
+    Rattle.model.specs.Holds.waitsAfterStep Rattle.model.specs.Holds.waitsAfterWithdraw Rattle.model.specs.Holds.waitsAfter Rattle.model.specs.Holds.waitsBefore
+    Rattle.model.specs.Holds.grantRight Rattle.model.specs.Holds.neverWaits Rattle.model.specs.Holds.answerRight Rattle.model.specs.Holds.refusedWith
+    Rattle.model.specs.Holds.beginRefusedWith Rattle.model.specs.Holds.isBegun Rattle.model.specs.Holds.idleRight Rattle.model.specs.Holds.beginRight
+    Rattle.model.specs.Holds.withdrawRefusedWith Rattle.model.specs.Holds.isWithdrawn Rattle.model.specs.Holds.withdrawRight Rattle.model.specs.Holds.stepRight
+    Rattle.model.specs.Holds.callRight Rattle.model.specs.Holds.grantsRight Rattle.model.specs.LockRequests.modeOf Rattle.model.specs.LockRequests.isGranted
+    Rattle.model.specs.LockRequests.withHold Rattle.model.specs.LockRequests.request Rattle.model.specs.LockRequests.isHeld
+    Rattle.model.specs.LockRequests.heldAll Rattle.model.specs.LockRequests.withoutHold Rattle.model.specs.LockRequests.givenUp
+    Rattle.model.specs.LockRequests.release Rattle.model.specs.LockWords.fieldOf Rattle.model.specs.LockWords.withField Rattle.model.specs.LockWords.tableOne
+    Rattle.model.specs.LockWords.permits Rattle.model.specs.LockWords.holds Rattle.model.specs.LockWords.grantedWord Rattle.model.specs.LockWords.releasedWord
     Rattle.model.specs.LockWords.turnedSelective Rattle.model.specs.Memory.freePages Rattle.model.specs.Memory.formattedRoot
     Rattle.model.specs.Memory.formattedPages Rattle.model.specs.Memory.formatted Rattle.model.specs.Mixing.stirredLeft Rattle.model.specs.Mixing.stirredRight
     Rattle.model.specs.Mixing.nextWord Rattle.model.specs.Mixing.outputs Rattle.model.specs.Mixing.table Rattle.model.specs.Mixing.byteOf
@@ -80,12 +81,12 @@ unfolding Rattle.model.specs.Addresses.span Rattle.model.specs.A
     Rattle.model.specs.Steps.SplitLocks.splitting Rattle.model.specs.Steps.SplitLocks.step16 Rattle.model.specs.Steps.SplitLocks.step19
     Rattle.model.specs.Steps.SplitLocks.step22 Rattle.model.specs.Steps.SplitWrite.step18 Rattle.model.specs.Steps.SplitWrite.step20
     Rattle.model.specs.Steps.SplitWrite.step21 Rattle.model.specs.Steps.Write.step11 Rattle.model.specs.Steps.Write.isChange Rattle.model.specs.Steps.Write.step12
-    Rattle.model.specs.TakeUp.sameWords Rattle.model.specs.TakeUp.allZero Rattle.model.specs.TakeUp.zeroPages Rattle.model.specs.TakeUp.isZeroRecord
-    Rattle.model.specs.TakeUp.allIdle Rattle.model.specs.TakeUp.partiesRest Rattle.model.specs.TakeUp.locksClear Rattle.model.specs.TakeUp.scratchClear
-    Rattle.model.specs.TakeUp.levelAt Rattle.model.specs.TakeUp.allHome Rattle.model.specs.TakeUp.packed Rattle.model.specs.TakeUp.chainFits
-    Rattle.model.specs.TakeUp.fitsIfSound Rattle.model.specs.TakeUp.chainsFit Rattle.model.specs.TakeUp.chainsSaved Rattle.model.specs.TakeUp.beyondClear
-    Rattle.model.specs.TakeUp.allFree Rattle.model.specs.TakeUp.freeIfSound Rattle.model.specs.TakeUp.freeSaved Rattle.model.specs.TakeUp.eachOnce
-    Rattle.model.specs.TakeUp.pagesOnce Rattle.model.specs.TakeUp.isSaved Rattle.model.specs.TakeUp.takeUpRows Rattle.model.specs.TakeUp.takeUpAnswer
+    Rattle.model.specs.TakeUp.sameWords Rattle.model.specs.TakeUp.zeroPages Rattle.model.specs.TakeUp.isZeroRecord Rattle.model.specs.TakeUp.allIdle
+    Rattle.model.specs.TakeUp.partiesRest Rattle.model.specs.TakeUp.locksClear Rattle.model.specs.TakeUp.scratchClear Rattle.model.specs.TakeUp.levelAt
+    Rattle.model.specs.TakeUp.allHome Rattle.model.specs.TakeUp.packed Rattle.model.specs.TakeUp.chainFits Rattle.model.specs.TakeUp.fitsIfSound
+    Rattle.model.specs.TakeUp.chainsFit Rattle.model.specs.TakeUp.chainsSaved Rattle.model.specs.TakeUp.beyondClear Rattle.model.specs.TakeUp.allFree
+    Rattle.model.specs.TakeUp.freeIfSound Rattle.model.specs.TakeUp.freeSaved Rattle.model.specs.TakeUp.eachOnce Rattle.model.specs.TakeUp.pagesOnce
+    Rattle.model.specs.TakeUp.rowClear Rattle.model.specs.TakeUp.isSaved Rattle.model.specs.TakeUp.takeUpRows Rattle.model.specs.TakeUp.takeUpAnswer
     Rattle.model.specs.TakeUp.takeUpCall Rattle.model.specs.TakeUp.recordsSaved Rattle.model.specs.TakeUp.openBook Rattle.model.specs.WaitingRow.requests
     Rattle.model.specs.WaitingRow.isSome Rattle.model.specs.WaitingRow.waitersIn Rattle.model.specs.WaitingRow.allZero Rattle.model.specs.WaitingRow.noneTwice
     Rattle.model.specs.WaitingRow.allRequest Rattle.model.specs.WaitingRow.rowSound Rattle.model.specs.WaitingRow.conflicts

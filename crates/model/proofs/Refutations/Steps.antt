@@ -4,7 +4,7 @@
 -- halves-at-17, joined-at-26, turned-at-27, lowered-at-28, taken-back-head (what is left); words-listed, locks-listed
 -- (the table of the steps); below-next (addresses); entered (the book).
 use mathlib.Core.Path.{_≡_, refl}
-use mathlib.Core.Bool.{cond}
+use mathlib.Core.Bool.{false, cond}
 use mathlib.Core.List.{List, [], _∷_, _++_, map}
 use mathlib.Core.Option.{none, some}
 use Prim.Native.Nat.{ℕ, _+_}
@@ -43,6 +43,7 @@ seen w level next p s = record {
   number = 0;
   locks = replicate 4 w;
   pages = page 1 4 5 ++ (page 2 5 7 ++ (page 1 0 9 ++ (page 0 0 6 ++ (page 0 0 8 ++ (page 0 0 0 ++ page s 0 5)))));
+  behind = false;
 }
 
 -- All locks are held: 1 + 2^16 + 2^21.

@@ -27,7 +27,7 @@ use Rattle.model.specs.LockRequests.{heldAll, givenUp}
 use Rattle.model.specs.ScratchPages.{withScratch}
 use Rattle.model.specs.Claims.{Claims, claimTable, noLock, claims}
 use Rattle.model.specs.Withdraw.{isDecided, builtPages, takenBack, takenBackSoundly, Withdrawal, withdrawal, withdrawn}
-use Rattle.model.specs.Memory.{Memory, viewOf, afterStep}
+use Rattle.model.specs.Memory.{Memory, viewOf, afterStep, withWaiting}
 use Rattle.model.specs.Book.{Book, changedAt, withEntry}
 use Rattle.model.specs.Steps.Dispatch.{hasStep}
 use Rattle.model.proofs.Laws.Lists.{All, Numbered, numbered-below, _▸_, and-both, both-and, left-or, right-or, or-either, or-neither, and-fails, not-both, eqb-same, eqb-diff, leb-true, leb-false, count-reverse, count-nil}
@@ -41,7 +41,8 @@ use Rattle.model.proofs.Invariant.LockMoves.{locks-root}
 use Rattle.model.proofs.Invariant.Statement.{restructures, NothingOld, Early, resting, Inv}
 use Rattle.model.proofs.Invariant.Ahead.{AheadStays}
 use Rattle.model.proofs.Invariant.Turn.{Turn, before, claimsAt, its-claims, me, uses-none, usesAt, restructuresAt}
-use Rattle.model.proofs.Effects.Kept.{assemble, ahead-stays, Parts}
+use Rattle.model.proofs.Effects.Kept.{assemble, ahead-stays, asks-stay, Parts}
+use Rattle.model.proofs.Laws.WaitingRow.{RowOk, AskSame}
 use Rattle.model.proofs.Effects.Moves.{extents-rest}
 use Rattle.model.proofs.Effects.Touch.{own-scratch}
 use Rattle.model.proofs.Effects.Done.{claims-claimed}
@@ -61,6 +62,7 @@ leftBy v xs =
       number = v .number;
       locks = givenUp (claims (v .root) (v .party)) v .locks;
       pages = withPage (g .pages) (scratchPage (v .root) (v .number)) zeroPage;
+      behind = v .behind;
     }
 
 -- The locks given up once other words have changed, the record and the scratch page zeroed: the lock words are as if
@@ -222,9 +224,13 @@ module _ (m : Memory) (b : Book) (q : ℕ) where
 -- What is owed of a withdraw of party q: it is accepted, and the invariant holds after it.
 pub record WithdrawKept (m : Memory) (b : Book) (q : ℕ) : Type 0 where
   pub accepted : withdrawn (viewOf m q) .answer ≡ WithdrawAnswer.Withdrawn
-  pub inv : Inv (afterStep m (withdrawn (viewOf m q) .after)) (withEntry b q none)
+  -- The invariant, with any waiting row that is sound then.
+  pub inv : (row : List ℕ) → RowOk (withdrawn (viewOf m q) .after .root) (set (m .parties) (withdrawn (viewOf m q) .after .number) (withdrawn (viewOf m q) .after .party)) row
+      → Inv (withWaiting row (afterStep m (withdrawn (viewOf m q) .after))) (withEntry b q none)
   -- Another party at 9 has as many pages yet to copy.
   pub framed : AheadStays m q (withdrawn (viewOf m q) .after .root) (withdrawn (viewOf m q) .after .pages)
+  -- Every other party requests what it requested.
+  pub asks : AskSame (m .root) (withdrawn (viewOf m q) .after .root) (m .parties) (set (m .parties) (withdrawn (viewOf m q) .after .number) (withdrawn (viewOf m q) .after .party)) q
 
 module _ {m : Memory} {b : Book} {q k : ℕ} (t : Turn m b q k) (x : Undecided t (claimsAt k (me t))) where
   abbrev builts : List ℕ
@@ -307,6 +313,7 @@ module _ {m : Memory} {b : Book} {q k : ℕ} (t : Turn m b q k) (x : Undecided t
     accepted = ap (λ (o : Withdrawal). o .answer) goes-ahead;
     inv = rw goes-ahead (assemble m b (t .inv) q (t .in-row) root-then locks-then pages-then idle (withEntry b q none) ghost-then parts-then);
     framed = rw goes-ahead (ahead-stays m b (t .inv) q (t .in-row) root-then locks-then pages-then idle (withEntry b q none) ghost-then parts-then);
+    asks = rw goes-ahead (asks-stay m b (t .inv) q (t .in-row) root-then locks-then pages-then idle (withEntry b q none) ghost-then parts-then);
   }
 
 pub withdraw-kept : {m : Memory} {b : Book} {q k : ℕ} (t : Turn m b q k) → isDecided (me t) ≡ false → WithdrawKept m b q

@@ -30,7 +30,9 @@ use Rattle.model.specs.Memory.{Memory, partyAt}
 use Rattle.model.specs.PagePlaces.{pagesDrawn, freeList, chainedFrom}
 use Rattle.model.specs.Book.{Book, Entered}
 use Rattle.model.specs.Claims.{claims}
-use Rattle.model.specs.TakeUp.{sameWords, allZero, isZeroRecord, allIdle, zeroPages, partiesRest, locksClear, scratchClear, levelAt, allHome, packed, chainFits, fitsIfSound, chainsFit, chainsSaved, beyondClear, allFree, freeIfSound, freeSaved, eachOnce, pagesOnce, isSaved, recordsSaved, openBook, savedBook}
+use Rattle.model.specs.WaitingRow.{allZero}
+use Rattle.model.proofs.Laws.WaitingRow.{row-at-rest, idle-asks-none}
+use Rattle.model.specs.TakeUp.{sameWords, isZeroRecord, allIdle, zeroPages, partiesRest, locksClear, scratchClear, levelAt, allHome, packed, chainFits, fitsIfSound, chainsFit, chainsSaved, beyondClear, allFree, freeIfSound, freeSaved, eachOnce, pagesOnce, rowClear, isSaved, recordsSaved, openBook, savedBook}
 use Rattle.model.proofs.Laws.Lists.{false≢true, Told, holds, fails, tell, Cmp, same, diff, cmp, Ord, lt, ge, ord, both-and, left-or, right-or, eqb-true, eqb-false, eqb-same, count-nil, count-append}
 use Rattle.model.proofs.Laws.Ascending.{same-ascending}
 use Rattle.model.proofs.Laws.Fields.{readers-zero}
@@ -316,10 +318,11 @@ module _ (m : Memory) (b : Book) (i : Inv m b) (rest : (q : ℕ) → b .entries 
 
   -- COMPLETENESS: memory at rest passes take-up.
   pub rests-saved : isSaved m ≡ true
-  unfolding isSaved partiesRest locksClear scratchClear chainsSaved beyondClear pagesOnce
+  unfolding isSaved partiesRest locksClear scratchClear chainsSaved beyondClear pagesOnce rowClear
   rests-saved =
-      both-and (both-and (both-and (both-and (both-and (both-and (both-and parties-rest locks-clear) scratch-clear) (root-sound m b i)) (chains-fit n 0 (omega arith))) beyond-clear) free-saved)
-      (once-all (freeList m ++ chainedFrom m n 0) (m .root .overflow) (m .root .primaries) page-once)
+      both-and (both-and (both-and (both-and (both-and (both-and (both-and (both-and parties-rest locks-clear) scratch-clear) (root-sound m b i)) (chains-fit n 0 (omega arith))) beyond-clear) free-saved)
+      (once-all (freeList m ++ chainedFrom m n 0) (m .root .overflow) (m .root .primaries) page-once))
+      (row-at-rest (m .root) (m .parties) (m .waiting) (i .row-ok) (λ q. idle-asks-none (m .root) (partyAt (m .parties) q) (rests q .idle-is)))
 
   -- Its records are the book's map.
   pub rests-map : recordsSaved m ≡ b .contents

@@ -1,7 +1,6 @@
 -- A file that passes take-up has the invariant, beside the book with its records and nobody under way.
 -- Main statement: saved-inv; fit-at (one chain of those that fit) and each-once-at (one of the numbers that are once).
 use mathlib.Core.Path.{_≡_, refl, sym, ap, _∙_, subst}
-use mathlib.Core.Logic.{_≢_}
 use mathlib.Core.Bool.{Bool, true, false, cond, _&&_, _||_}
 use mathlib.Core.List.{List, [], _∷_, _++_}
 use Prim.Native.Nat.{ℕ, zero, suc, _+_, _-_, _≤_, _<_}
@@ -22,7 +21,7 @@ use Rattle.model.specs.Memory.{Memory, partyAt}
 use Rattle.model.specs.Refusals.{lengthsFit, rootSound}
 use Rattle.model.specs.PagePlaces.{pagesDrawn, freeList, chainedFrom}
 use Rattle.model.specs.Claims.{claims}
-use Rattle.model.specs.TakeUp.{allZero, allIdle, zeroPages, partiesRest, locksClear, scratchClear, levelAt, allHome, packed, chainFits, fitsIfSound, chainsFit, chainsSaved, beyondClear, allFree, freeIfSound, freeSaved, eachOnce, pagesOnce, isSaved, recordsSaved, openBook, savedBook}
+use Rattle.model.specs.TakeUp.{allIdle, zeroPages, partiesRest, locksClear, scratchClear, levelAt, allHome, packed, chainFits, fitsIfSound, chainsFit, chainsSaved, beyondClear, allFree, freeIfSound, freeSaved, eachOnce, pagesOnce, isSaved, recordsSaved, openBook, savedBook, rowClear}
 use Rattle.model.proofs.Laws.Lists.{false≢true, Told, holds, fails, tell, Cmp, same, diff, cmp, and-both, eqb-true, ltb-true, ltb-false, leb-true, count-nil, count-append, All, all-in, count-among}
 use Rattle.model.proofs.Laws.Booleans.{and-left, and-right}
 use Rattle.model.proofs.Laws.Tests.{sound-page-links}
@@ -39,6 +38,8 @@ use Rattle.model.proofs.Invariant.Start.{limits-within}
 use Rattle.model.proofs.Invariant.Statement.{Limits, restructures, ExtentsOk, PagesOk, BookOk, Scene, NoPages, resting, sceneOf, Inv}
 use Rattle.model.proofs.TakingUp.Tests.{zeros, all-idle, zero-page-at, packed-chain, home-keys, TakenList, taken-list}
 use Rattle.model.proofs.TakingUp.Owners.{chained, ownerIn, heldIn, held-free, held-chain, held-beyond, held-none, named-in, owned-once}
+use Rattle.model.proofs.Laws.WaitingRow.{row-clear}
+use Rattle.model.specs.WaitingRow.{allZero}
 
 -- ---- Chains
 
@@ -154,9 +155,10 @@ module _ (m : Memory) (fits : withinLimits (m .root) ≡ true) (lengths : length
     beyond : zeroPages ps (r .primaries - n) n ≡ true
     frees : freeSaved m ≡ true
     once : eachOnce (freeList m ++ chainedFrom m n 0) (r .overflow) (r .primaries) ≡ true
+    row : allZero (m .waiting) ≡ true
 
   conditions : Conditions
-  unfolding isSaved partiesRest locksClear scratchClear chainsSaved beyondClear pagesOnce
+  unfolding isSaved partiesRest locksClear scratchClear chainsSaved beyondClear pagesOnce rowClear
   conditions =
       record {
         idle = search (and-left, and-right) depth 10;
@@ -167,6 +169,7 @@ module _ (m : Memory) (fits : withinLimits (m .root) ≡ true) (lengths : length
         beyond = search (and-left, and-right) depth 10;
         frees = search (and-left, and-right) depth 10;
         once = search (and-left, and-right) depth 10;
+        row = search (and-left, and-right) depth 10;
       }
 
   limits : Limits (m .root)
@@ -188,13 +191,15 @@ module _ (m : Memory) (fits : withinLimits (m .root) ≡ true) (lengths : length
     parties-many : length (m .parties) ≡ r .parties
     locks-many : length (m .locks) ≡ lockWords r
     pages-many : length (m .pages) ≡ allPageWords r
+    row-many : length (m .waiting) ≡ r .parties
 
   lengths-are : Lengths
   unfolding lengthsFit
   lengths-are =
-      let a = and-both (eqb (length (m .parties)) (r .parties) && eqb (length (m .locks)) (lockWords r)) (eqb (length (m .pages)) (allPageWords r)) lengths in
+      let z = and-both (eqb (length (m .parties)) (r .parties) && eqb (length (m .locks)) (lockWords r) && eqb (length (m .pages)) (allPageWords r)) (eqb (length (m .waiting)) (r .parties)) lengths in
+      let a = and-both (eqb (length (m .parties)) (r .parties) && eqb (length (m .locks)) (lockWords r)) (eqb (length (m .pages)) (allPageWords r)) (z .0) in
       let b = and-both (eqb (length (m .parties)) (r .parties)) (eqb (length (m .locks)) (lockWords r)) (a .0) in
-      record { parties-many = eqb-true _ _ (b .0); locks-many = eqb-true _ _ (b .1); pages-many = eqb-true _ _ (a .1) }
+      record { parties-many = eqb-true _ _ (b .0); locks-many = eqb-true _ _ (b .1); pages-many = eqb-true _ _ (a .1); row-many = eqb-true _ _ (z .1) }
 
   pub frees-are : FreeAll m
   frees-are = free-all m (conditions .frees)
@@ -352,5 +357,6 @@ module _ (m : Memory) (fits : withinLimits (m .root) ≡ true) (lengths : length
     pages-ok = pages-ok;
     book-ok = book-ok;
     parties-ok = λ q h. resting (idle-at q) refl (no-pages q) (zero-page-at ps (r .parties) (scratchPage r 0) (scratchPage r q) (conditions .scratch) (omega arith) (omega arith));
+    row-ok = row-clear (m .root) (m .parties) (m .waiting) (lengths-are .row-many) (conditions .row);
     strangers = λ q h. (refl, no-pages q);
   }

@@ -3,7 +3,7 @@
 -- Main statements: same-words, zeros, record-zero, all-idle, zero-page-at; packed-overflow and packed-chain (a chain
 -- word for word); home-keys; taken-list (the free list).
 use mathlib.Core.Path.{_≡_, refl, sym, ap, ap₂, _∙_}
-use mathlib.Core.Logic.{_≢_, _⊎_, inl, inr}
+use mathlib.Core.Logic.{_⊎_, inl, inr}
 use mathlib.Core.Bool.{Bool, true, false, cond, not, _&&_}
 use mathlib.Core.List.{List, [], _∷_}
 use Prim.Native.Nat.{ℕ, zero, suc, _+_, _-_, _≤_, _<_}
@@ -21,11 +21,12 @@ use Rattle.model.specs.Chains.{Checked, damaged, sound, andThen}
 use Rattle.model.specs.Filling.{pagesFor, primaryOf}
 use Rattle.model.specs.FreeList.{Taken, isAmong, alsoTaken, takenFrom}
 use Rattle.model.specs.Memory.{partyAt}
-use Rattle.model.specs.TakeUp.{sameWords, allZero, zeroPages, isZeroRecord, allIdle, allHome, packed, allFree}
+use Rattle.model.specs.TakeUp.{sameWords, zeroPages, isZeroRecord, allIdle, allHome, packed, allFree}
 use Rattle.model.proofs.Laws.Lists.{false≢true, eqb-true, and-both, or-either, Cmp, same, diff, cmp, All}
 use Rattle.model.proofs.Laws.Tests.{named-within}
 use Rattle.model.proofs.Laws.Structure.{FreePages, Overflow, ChainIs}
 use Rattle.model.proofs.Laws.Filling.{Exact, exact-less, needed-exact, IsOverflow}
+use Rattle.model.specs.WaitingRow.{allZero}
 
 -- ---- Words
 

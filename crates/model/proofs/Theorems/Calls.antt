@@ -7,7 +7,8 @@ use mathlib.Core.List.{List, [], _∷_}
 use mathlib.Core.Option.{Option}
 use Prim.Native.Nat.{ℕ, _+_, _≤_, _<_}
 use native.Mathlib.Omega.{arith}
-use lib.ListN.{length}
+use lib.ListN.{length, set}
+use lib.Seq.{set-getD}
 use lib.Dec.{eqb, ltb}
 use Rattle.model.specs.declared.Root.{Root}
 use Rattle.model.specs.declared.Party.{Party}
@@ -23,15 +24,18 @@ use Rattle.model.specs.Sizes.{withinLimits, lockWords, allPageWords}
 use Rattle.model.specs.Records.{idle, begun}
 use Rattle.model.specs.Answers.{operationNumber, refusalNumber, settingGiven}
 use Rattle.model.specs.Addresses.{span, chainCount}
-use Rattle.model.specs.Outcome.{damage}
+use Rattle.model.specs.Outcome.{View, Outcome, damage}
 use Rattle.model.specs.Withdraw.{isDecided, withdrawn}
-use Rattle.model.specs.Memory.{Memory, partyAt, viewOf, afterStep}
+use Rattle.model.specs.Memory.{Memory, partyAt, viewOf, afterStep, withWaiting}
+use Rattle.model.specs.WaitingRow.{requests, rowAfter, rowLeft, rowWith, rowWithout}
 use Rattle.model.specs.Refusals.{lengthsFit, rootSound, partySound, recordSound}
 use Rattle.model.specs.Calls.{Called, called, stepped, stepCall, withBegun, beginCall, withdrawnFrom, withdrawCall}
 use Rattle.model.specs.Runs.{Call, beginFor, stepFor, withdrawFor, Reply, toBegin, toStep, toWithdraw, callerOf, replyTo, afterCall, eventOf, events, finalMemory}
 use Rattle.model.specs.Book.{Book, Entered, changedAt, enter, bookAfter, afterReply, afterBegin, afterWithdraw, agrees, agreesWith, bookAgrees, bookAtEnd}
 use Rattle.model.specs.Steps.Dispatch.{hasStep, stepOf}
 use Rattle.model.proofs.Laws.Lists.{Told, holds, fails, tell, Ord, lt, ge, ord, both-and, eqb-same, eqb-diff, le-leb, lt-ltb}
+use Rattle.model.proofs.Laws.WaitingRow.{RowOk, row-waits, row-moves, row-stays, idle-asks-none}
+use Rattle.model.proofs.Theorems.Answering.{waiting-asks, done-asks-none, refused-damage}
 use Rattle.model.proofs.Invariant.Ghost.{nobody, oldOf, free, rootExtent, size}
 use Rattle.model.proofs.Invariant.Owners.{owns-nothing, kinds-apart}
 use Rattle.model.specs.Claims.{claims}
@@ -42,7 +46,7 @@ use Rattle.model.proofs.Invariant.Extents.{level-fits}
 use Rattle.model.proofs.Laws.Reading.{held-length}
 use Rattle.model.proofs.Theorems.RefusalOrder.{begin-order, step-order, withdraw-order}
 use Rattle.model.proofs.Invariant.Statement.{Limits, restructures, uses, NoPages, Busy, PartyOk, resting, working, Inv, sceneOf}
-use Rattle.model.proofs.Effects.Kept.{Kept, extents-move, assemble}
+use Rattle.model.proofs.Effects.Kept.{Kept, row-other, extents-move, assemble}
 use Rattle.model.proofs.Steps.Withdraw.{WithdrawKept, withdraw-kept}
 
 -- Every step of a party under way is not refused, agrees with the book and keeps the invariant.
@@ -92,6 +96,7 @@ module _ (m : Memory) (b : Book) (i : Inv m b) where
         eqb-same (length (m .parties)) (m .root .parties) (i .parties-many),
         eqb-same (length (m .locks)) (lockWords (m .root)) (i .locks-ok .as-many),
         eqb-same (length (m .pages)) (allPageWords (m .root)) (i .pages-many),
+        eqb-same (length (m .waiting)) (m .root .parties) (i .row-ok .long),
       ) refl
 
   pub root-sound : rootSound (m .root) ≡ true
@@ -162,6 +167,11 @@ module _ (m : Memory) (b : Book) (i : Inv m b) (q : ℕ) (o : Operation) (k : �
   unfolding claims
   begun-claims = rw was-idle refl
 
+  begun-row : RowOk (m .root) (set (m .parties) q p-then) (m .waiting)
+  begun-row =
+      row-stays (m .root) (m .root) (m .parties) (set (m .parties) q p-then) (m .waiting) q (i .row-ok) (idle-asks-none (m .root) (partyAt (m .parties) q) was-idle)
+      (record { as-many = refl; same-ask = λ j n l. ap (requests (m .root)) (row-other (m .parties) q j p-then n) })
+
   abbrev entered : Entered
   entered = record { operation = o; key = k; note = Option.none }
 
@@ -204,6 +214,7 @@ module _ (m : Memory) (b : Book) (i : Inv m b) (q : ℕ) (o : Operation) (k : �
             })
             (record { nothing-owed = refl; no-pages = no-pages-held _ _ q refl none });
       }))
+      (m .waiting) begun-row
 
 -- ---- A call
 
@@ -240,6 +251,24 @@ module _ (kept : StepsKept) (m : Memory) (b : Book) (i : Inv m b) where
     inv = subst (λ (c : Called StepAnswer). Inv (c .memory) (afterReply b q (partyAt (m .parties) q .step) (c .answer))) (sym e) i;
   }
 
+  -- The waiting row after a step performed.
+  module _ (q : ℕ) (l : q < m .root .parties) (h : hasStep (partyAt (m .parties) q .operation) (partyAt (m .parties) q .step) ≡ true) where
+    abbrev left : Outcome
+    left = stepOf (partyAt (m .parties) q .step) (viewOf m q)
+
+    pub step-row : (a : StepAnswer) → left .answer ≡ a → RowOk (left .after .root) (set (m .parties) (left .after .number) (left .after .party)) (rowAfter q (m .waiting) a)
+    unfolding rowAfter refusalNumber
+    step-row StepAnswer.Waiting e =
+        subst (λ (v : View). RowOk (v .root) (set (m .parties) (v .number) (v .party)) (rowWith q (m .waiting))) (sym (kept m b i q l h .stays e))
+        (subst (λ (ps : List Party). RowOk (m .root) ps (rowWith q (m .waiting))) (sym (set-getD (m .parties) q idle))
+        (row-waits (m .root) (m .parties) (m .waiting) q (i .row-ok) (record { there = l; asks = waiting-asks (viewOf m q) h e })))
+    step-row StepAnswer.Moved e = row-moves (m .root) _ (m .parties) _ (m .waiting) q (i .row-ok) (kept m b i q l h .asks)
+    step-row (StepAnswer.Done a s) e = row-stays (m .root) _ (m .parties) _ (m .waiting) q (i .row-ok) (done-asks-none (viewOf m q) h a s e) (kept m b i q l h .asks)
+    step-row (StepAnswer.Refused n) e =
+        let z : refusalNumber (StepAnswer.Refused n) ≡ 0 = ap refusalNumber (sym e) ∙ kept m b i q l h .allowed in
+        let six = refused-damage (viewOf m q) h n e in
+        absurd (omega (arith, z, six))
+
   -- A step performed.
   performed-ok : (q : ℕ) → q < m .root .parties → hasStep (partyAt (m .parties) q .operation) (partyAt (m .parties) q .step) ≡ true → stepCall m q ≡ stepped m q → CallOk m b (stepFor q)
   unfolding replyTo afterCall bookAfter agrees stepped undamaged
@@ -248,7 +277,7 @@ module _ (kept : StepsKept) (m : Memory) (b : Book) (i : Inv m b) where
       record {
         right = ap (λ (c : Called StepAnswer). agreesWith b q (partyAt (m .parties) q .step) (c .answer)) e ∙ k .right;
         sound = ap (λ (c : Called StepAnswer). undamaged (toStep (c .answer))) e ∙ allowed-undamaged _ (k .allowed);
-        inv = subst (λ (c : Called StepAnswer). Inv (c .memory) (afterReply b q (partyAt (m .parties) q .step) (c .answer))) (sym e) (k .inv);
+        inv = subst (λ (c : Called StepAnswer). Inv (c .memory) (afterReply b q (partyAt (m .parties) q .step) (c .answer))) (sym e) (k .inv _ (step-row q l h _ refl));
       }
 
   step-ok : (q : ℕ) → Ord q (m .root .parties) → CallOk m b (stepFor q)
@@ -261,7 +290,7 @@ module _ (kept : StepsKept) (m : Memory) (b : Book) (i : Inv m b) where
       go (working e k f) =
           performed-ok q h (k .step-fits)
           (step-order m q .none (within-limits (m .root) (i .limits)) (lengths-fit m b i) h (operation-some (e .operation) (partyAt (m .parties) q .operation) (k .same-operation))
-          (record-sound (m .root) (partyAt (m .parties) q) (root-sound m b i) (party-sound m b i q h (partyAt (m .parties) q) e k)))
+          (record-sound (m .root) (partyAt (m .parties) q) (root-sound m b i) (party-sound m b i q h (partyAt (m .parties) q) e k)) (i .row-ok .sound))
 
   -- ---- Begin
 
@@ -307,13 +336,14 @@ module _ (kept : StepsKept) (m : Memory) (b : Book) (i : Inv m b) where
 
   -- The operation is taken back, in the record and in the book.
   withdrawn-ok : (q : ℕ) → WithdrawKept m b q → withdrawCall m q ≡ withdrawnFrom m q → CallOk m b (withdrawFor q)
-  unfolding replyTo afterCall bookAfter afterWithdraw agrees undamaged withdrawnFrom
+  unfolding replyTo afterCall bookAfter afterWithdraw agrees undamaged withdrawnFrom rowLeft
   withdrawn-ok q k e =
-      let now : withdrawCall m q ≡ called WithdrawAnswer.Withdrawn (afterStep m (withdrawn (viewOf m q) .after)) = e ∙ ap (λ (a : WithdrawAnswer). called a (afterStep m (withdrawn (viewOf m q) .after))) (k .accepted) in
+      let now : withdrawCall m q ≡ called WithdrawAnswer.Withdrawn (withWaiting (rowWithout q (m .waiting)) (afterStep m (withdrawn (viewOf m q) .after)))
+      = e ∙ ap (λ (a : WithdrawAnswer). called a (withWaiting (rowLeft q (m .waiting) a) (afterStep m (withdrawn (viewOf m q) .after)))) (k .accepted) in
       record {
         right = refl;
         sound = ap (λ (c : Called WithdrawAnswer). undamaged (toWithdraw (c .answer))) now;
-        inv = subst (λ (c : Called WithdrawAnswer). Inv (c .memory) (afterWithdraw b q (c .answer))) (sym now) (k .inv);
+        inv = subst (λ (c : Called WithdrawAnswer). Inv (c .memory) (afterWithdraw b q (c .answer))) (sym now) (k .inv _ (row-moves (m .root) _ (m .parties) _ (m .waiting) q (i .row-ok) (k .asks)));
       }
 
   withdraw-ok : (q : ℕ) → Ord q (m .root .parties) → CallOk m b (withdrawFor q)
@@ -332,7 +362,7 @@ module _ (kept : StepsKept) (m : Memory) (b : Book) (i : Inv m b) where
           by (fails d) =
               withdrawn-ok q (withdraw-kept (record { inv = i; in-row = h; is-at = refl; entered = e; busy = k; facts = f }) d)
               (withdraw-order m q .none (within-limits (m .root) (i .limits)) (lengths-fit m b i) h some-operation d
-              (record-sound (m .root) (partyAt (m .parties) q) (root-sound m b i) (party-sound m b i q h (partyAt (m .parties) q) e k)))
+              (record-sound (m .root) (partyAt (m .parties) q) (root-sound m b i) (party-sound m b i q h (partyAt (m .parties) q) e k)) (i .row-ok .sound))
 
   pub call-kept : (c : Call) → CallOk m b c
   call-kept (beginFor q o k) = begin-ok q o k (ord q (m .root .parties))

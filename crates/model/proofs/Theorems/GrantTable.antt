@@ -10,8 +10,7 @@ use native.Mathlib.Omega.{arith}
 use lib.Dec.{eqb, ltb}
 use Rattle.model.specs.declared.Mode.{Mode}
 use Rattle.model.specs.declared.Mode.the-variants.{Read, Selective, Exclusive}
-use Rattle.model.specs.LockWords.{readersOf, selectiveOf, exclusiveOf, permits}
-use Rattle.model.specs.Holds.{tableOne}
+use Rattle.model.specs.LockWords.{readersOf, selectiveOf, exclusiveOf, permits, tableOne}
 use Rattle.model.specs.GrantTable.{rank, heldIn, strongest, StrongestIs, nobody, holder, grantedBeside}
 use Rattle.model.proofs.Laws.Lists.{Told, holds, fails, tell, ltb-true, lt-ltb}
 

@@ -180,16 +180,16 @@ module _ (v : View) (ready : Ready v) (m : Pair) (h : MovedTo29 v m) where
   locks₁ = set (v .locks) rootWord (turnedSelective (lockWord v rootWord) (v .number))
 
   abbrev joinedView : View
-  joinedView = record { root = r; party = atStep 27 party₁; number = v .number; locks = v .locks; pages = pages₁ }
+  joinedView = record { root = r; party = atStep 27 party₁; number = v .number; locks = v .locks; pages = pages₁; behind = v .behind }
 
   abbrev rootView : View
-  rootView = record { root = rootMovedBack (v .party) r; party = atStep 28 party₁; number = v .number; locks = locks₁; pages = pages₁ }
+  rootView = record { root = rootMovedBack (v .party) r; party = atStep 28 party₁; number = v .number; locks = locks₁; pages = pages₁; behind = v .behind }
 
   abbrev written : List ℕ
   written = withLocalLevel (levelOf (scratchOf rootView) - 1) (scratchOf rootView)
 
   abbrev writtenView : View
-  writtenView = record { root = rootMovedBack (v .party) r; party = atStep 29 party₁; number = v .number; locks = locks₁; pages = withPage pages₁ (primaryPage c) written }
+  writtenView = record { root = rootMovedBack (v .party) r; party = atStep 29 party₁; number = v .number; locks = locks₁; pages = withPage pages₁ (primaryPage c) written; behind = v .behind }
 
   is-27 : before27 v ≡ joinedView
   unfolding combined

@@ -24,9 +24,10 @@ use Rattle.model.specs.declared.TakeUpAnswer.the-variants as TakeUpAnswe
 use Rattle.model.specs.Sizes.{withinLimits}
 use Rattle.model.specs.Records.{rootOfSizes}
 use Rattle.model.specs.Memory.{Memory, partyAt, formatted}
-use Rattle.model.specs.Refusals.{Row, firstCause, lengthsFit, recordSound, sizeRow, lengthRow, partyRow, busyRow, idleRow, decidedRow, damageRow, formatRows, beginRows, stepRows, withdrawRows}
+use Rattle.model.specs.Refusals.{Row, firstCause, lengthsFit, recordSound, sizeRow, lengthRow, partyRow, busyRow, idleRow, decidedRow, damageRow, waitingRow, formatRows, beginRows, stepRows, withdrawRows}
 use Rattle.model.specs.Calls.{called, formatCall, withBegun, beginCall, stepped, stepCall, withdrawnFrom, withdrawCall}
 use Rattle.model.specs.Withdraw.{isDecided}
+use Rattle.model.specs.WaitingRow.{rowSound}
 use Rattle.model.specs.TakeUp.{isSaved, takeUpRows, takeUpAnswer, takeUpCall}
 use Rattle.model.proofs.Laws.Lists.{All}
 
@@ -119,7 +120,11 @@ pub record StepOrder (m : Memory) (q : ℕ) : Type 0 where
       → recordSound (m .root) (partyAt (m .parties) q) ≡ false → stepCall m q ≡ called (StepAnswer.Refused 6) m
   pub none :
       withinLimits (m .root) ≡ true → lengthsFit (m .root) m ≡ true → q < m .root .parties → partyAt (m .parties) q .operation ≢ 0
-      → recordSound (m .root) (partyAt (m .parties) q) ≡ true → stepCall m q ≡ stepped m q
+      → recordSound (m .root) (partyAt (m .parties) q) ≡ true → rowSound (m .root) (m .parties) (m .waiting) ≡ true → stepCall m q ≡ stepped m q
+  -- The waiting row is tested last.
+  pub row-damaged :
+      withinLimits (m .root) ≡ true → lengthsFit (m .root) m ≡ true → q < m .root .parties → partyAt (m .parties) q .operation ≢ 0
+      → recordSound (m .root) (partyAt (m .parties) q) ≡ true → rowSound (m .root) (m .parties) (m .waiting) ≡ false → stepCall m q ≡ called (StepAnswer.Refused 6) m
 
 -- Withdraw for party q; its own tests of damage come after these.
 pub record WithdrawOrder (m : Memory) (q : ℕ) : Type 0 where
@@ -138,7 +143,13 @@ pub record WithdrawOrder (m : Memory) (q : ℕ) : Type 0 where
       → withdrawCall m q ≡ called (WithdrawAnswer.Refused 6) m
   pub none :
       withinLimits (m .root) ≡ true → lengthsFit (m .root) m ≡ true → q < m .root .parties → partyAt (m .parties) q .operation ≢ 0
-      → isDecided (partyAt (m .parties) q) ≡ false → recordSound (m .root) (partyAt (m .parties) q) ≡ true → withdrawCall m q ≡ withdrawnFrom m q
+      → isDecided (partyAt (m .parties) q) ≡ false → recordSound (m .root) (partyAt (m .parties) q) ≡ true → rowSound (m .root) (m .parties) (m .waiting) ≡ true
+      → withdrawCall m q ≡ withdrawnFrom m q
+  -- The waiting row is tested last.
+  pub row-damaged :
+      withinLimits (m .root) ≡ true → lengthsFit (m .root) m ≡ true → q < m .root .parties → partyAt (m .parties) q .operation ≢ 0
+      → isDecided (partyAt (m .parties) q) ≡ false → recordSound (m .root) (partyAt (m .parties) q) ≡ true → rowSound (m .root) (m .parties) (m .waiting) ≡ false
+      → withdrawCall m q ≡ called (WithdrawAnswer.Refused 6) m
 
 pub format-order : (m : Memory) (n b p v q : ℕ) → FormatOrder m n b p v q
 unfolding formatRows
@@ -183,6 +194,7 @@ step-order m q =
     let who = partyRow r q in
     let idle = idleRow x in
     let harm = damageRow r x in
+    let line = waitingRow m in
     record {
       sizes = λ e. step-refused m 2 (omega arith) q (first-cause [] size _ tt (ap not e));
       lengths = λ s e. step-refused m 1 (omega arith) q (first-cause (size ∷ []) lens _ (ap not s, tt) (ap not e));
@@ -193,9 +205,12 @@ step-order m q =
       damaged = λ s l h i d. step-refused m 6 (omega arith) q
           (first-cause (size ∷ (lens ∷ (who ∷ (idle ∷ [])))) harm _
           (ap not s, (ap not l, (lt-leb (r .parties) q h, (ne-eqb (x .operation) 0 i, tt)))) (ap not d));
-      none = λ s l h i d. step-accepted m q
-          (no-cause (size ∷ (lens ∷ (who ∷ (idle ∷ (harm ∷ [])))))
-          (ap not s, (ap not l, (lt-leb (r .parties) q h, (ne-eqb (x .operation) 0 i, (ap not d, tt))))));
+      none = λ s l h i d w. step-accepted m q
+          (no-cause (size ∷ (lens ∷ (who ∷ (idle ∷ (harm ∷ (line ∷ []))))))
+          (ap not s, (ap not l, (lt-leb (r .parties) q h, (ne-eqb (x .operation) 0 i, (ap not d, (ap not w, tt)))))));
+      row-damaged = λ s l h i d w. step-refused m 6 (omega arith) q
+          (first-cause (size ∷ (lens ∷ (who ∷ (idle ∷ (harm ∷ []))))) line _
+          (ap not s, (ap not l, (lt-leb (r .parties) q h, (ne-eqb (x .operation) 0 i, (ap not d, tt))))) (ap not w));
     }
 
 pub withdraw-order : (m : Memory) (q : ℕ) → WithdrawOrder m q
@@ -209,6 +224,7 @@ withdraw-order m q =
     let idle = idleRow x in
     let late = decidedRow x in
     let harm = damageRow r x in
+    let line = waitingRow m in
     record {
       sizes = λ e. withdraw-refused m 2 (omega arith) q (first-cause [] size _ tt (ap not e));
       lengths = λ s e. withdraw-refused m 1 (omega arith) q (first-cause (size ∷ []) lens _ (ap not s, tt) (ap not e));
@@ -222,9 +238,12 @@ withdraw-order m q =
       damaged = λ s l h i d e. withdraw-refused m 6 (omega arith) q
           (first-cause (size ∷ (lens ∷ (who ∷ (idle ∷ (late ∷ []))))) harm _
           (ap not s, (ap not l, (lt-leb (r .parties) q h, (ne-eqb (x .operation) 0 i, (d, tt))))) (ap not e));
-      none = λ s l h i d e. withdraw-accepted m q
-          (no-cause (size ∷ (lens ∷ (who ∷ (idle ∷ (late ∷ (harm ∷ []))))))
-          (ap not s, (ap not l, (lt-leb (r .parties) q h, (ne-eqb (x .operation) 0 i, (d, (ap not e, tt)))))));
+      none = λ s l h i d e w. withdraw-accepted m q
+          (no-cause (size ∷ (lens ∷ (who ∷ (idle ∷ (late ∷ (harm ∷ (line ∷ [])))))))
+          (ap not s, (ap not l, (lt-leb (r .parties) q h, (ne-eqb (x .operation) 0 i, (d, (ap not e, (ap not w, tt))))))));
+      row-damaged = λ s l h i d e w. withdraw-refused m 6 (omega arith) q
+          (first-cause (size ∷ (lens ∷ (who ∷ (idle ∷ (late ∷ (harm ∷ [])))))) line _
+          (ap not s, (ap not l, (lt-leb (r .parties) q h, (ne-eqb (x .operation) 0 i, (d, (ap not e, tt)))))) (ap not w));
     }
 
 -- ---- Take-up

@@ -13,6 +13,7 @@ use Rattle.model.specs.LockWords.{Claim, grantedWord, releasedWord}
 use Rattle.model.specs.Outcome.{View, withLocks}
 use Rattle.model.specs.LockRequests.{lockWord, isGranted, withHold, withoutHold, givenUp}
 use Rattle.model.proofs.Laws.Lists.{All}
+use Rattle.model.proofs.Effects.Requests.{granted-permits}
 use Rattle.model.proofs.Invariant.Claims.{LocksOk}
 use Rattle.model.proofs.Invariant.LockMoves.{word-restored}
 
@@ -24,8 +25,7 @@ pub record Regained (v : View) (c : Claim) : Type 0 where
 -- So it is of a lock that is granted and was not held.
 pub regained : {n : ℕ} {h : ℕ → ℕ → Mode → Bool} (v : View) (c : Claim) → LocksOk n (v .locks) h → c .word < n → v .number < 16 → isGranted v c ≡ true
     → h (c .word) (v .number) (c .mode) ≡ false → Regained v c
-unfolding isGranted
-regained v c ok fits small may unheld = record { fits = rw (ok .as-many) fits; word= = word-restored (ok .each (c .word) fits) (v .number) (c .mode) may unheld small }
+regained v c ok fits small may unheld = record { fits = rw (ok .as-many) fits; word= = word-restored (ok .each (c .word) fits) (v .number) (c .mode) (granted-permits v c may) unheld small }
 
 -- At once.
 given-up-at-once : (v : View) (c : Claim) → Regained v c → withoutHold c (withHold c v) .locks ≡ v .locks

@@ -70,7 +70,7 @@ module _ {m : Memory} {b : Book} {q : ℕ} (t : Turn m b q 10) (level : ℕ) (es
   qs = builtMemory t level es new
 
   abbrev then : View
-  then = record { root = builtRoot t level es new; party = p; number = q; locks = m .locks; pages = qs }
+  then = record { root = builtRoot t level es new; party = p; number = q; locks = m .locks; pages = qs; behind = viewOf m q .behind }
 
   -- ---- The pages built are those taken
 
@@ -141,7 +141,7 @@ module _ {m : Memory} {b : Book} {q : ℕ} (t : Turn m b q 10) (level : ℕ) (es
       go y (same e) = rw e (page-same (given .pages) s zeroPage has length-zeroPage ∙ sym (page-same (m .pages) s zeroPage had length-zeroPage))
       go y (diff n) = page-other (given .pages) s zeroPage has length-zeroPage y n ∙ page-again y n ∙ sym (page-other (m .pages) s zeroPage had length-zeroPage y n)
 
-  pub built-undone : undone (record { root = builtRoot t level es new; party = p; number = q; locks = m .locks; pages = builtMemory t level es new }) ≡ undone (viewOf m q)
+  pub built-undone : undone (record { root = builtRoot t level es new; party = p; number = q; locks = m .locks; pages = builtMemory t level es new; behind = viewOf m q .behind }) ≡ undone (viewOf m q)
   unfolding givenBack
   built-undone = undone-built then xs built-are ∙ rw (locks-are, head-is, count-is, pages-are) refl ∙ sym (undone-early (viewOf m q) (rw (t .is-at) refl))
 

@@ -2,7 +2,8 @@
 use mathlib.Core.Path.{_≡_, refl, sym}
 use mathlib.Core.Bool.{Bool, true, false, _&&_, and-true}
 use lib.Dec.{eqb}
-use Rattle.model.specs.TakeUp.{allZero, isZeroRecord}
+use Rattle.model.specs.WaitingRow.{allZero}
+use Rattle.model.specs.TakeUp.{isZeroRecord}
 use borrow.Author.Needs.{needs}
 use Rattle.records.proofs.is_zero.Statement.{statement}
 use Rattle.records.proofs.is_zero.Tie as tie

@@ -12,7 +12,7 @@ within-limits-requires c κs = search needs
 returns : tie.Need-returns
 returns c =
     let a = c .before .before .args in
-    size-refused (a .root) (a .parties) (a .locks) (a .pages) (sym (c .before .within-limits .ensures) ∙ not-true _ (c .if1 .taken))
+    size-refused (a .root) (a .parties) (a .locks) (a .pages) (a .waiting) (sym (c .before .within-limits .ensures) ∙ not-true _ (c .if1 .taken))
 
 lengths-fit-requires : tie.Need-lengths-fit-requires
 lengths-fit-requires c κs = search needs
@@ -21,14 +21,14 @@ returns-2 : tie.Need-returns-2
 returns-2 c =
     let sizes = c .before .before .before in
     let a = sizes .before .args in
-    length-refused (a .root) (a .parties) (a .locks) (a .pages) (sym (sizes .within-limits .ensures) ∙ not-false _ (c .before .before .if1 .left))
+    length-refused (a .root) (a .parties) (a .locks) (a .pages) (a .waiting) (sym (sizes .within-limits .ensures) ∙ not-false _ (c .before .before .if1 .left))
     (sym (c .before .lengths-fit .ensures) ∙ not-true _ (c .if2 .taken))
 
 returns-3 : tie.Need-returns-3
 returns-3 c =
     let sizes = c .before .before .before in
     let a = sizes .before .args in
-    file-passed (a .root) (a .parties) (a .locks) (a .pages) (sym (sizes .within-limits .ensures) ∙ not-false _ (c .before .before .if1 .left))
+    file-passed (a .root) (a .parties) (a .locks) (a .pages) (a .waiting) (sym (sizes .within-limits .ensures) ∙ not-false _ (c .before .before .if1 .left))
     (sym (c .before .lengths-fit .ensures) ∙ not-false _ (c .if2 .left))
 
 pub file-cause-spec : {M : Type 1} → statement M

@@ -1,5 +1,6 @@
 -- `refusals::step_cause` meets its contract.
 use mathlib.Core.Path.{sym, _∙_}
+use mathlib.Core.Bool.{true}
 use borrow.Author.Tests.{not-true, not-false}
 use Rattle.model.specs.Refusals.{rootSound, recordSound}
 use Rattle.model.proofs.Laws.Lists.{both-and, left-fails, right-fails}
@@ -15,14 +16,14 @@ returns : tie.Need-returns
 returns c =
     let a = c .before .before .args in
     let e = c .before .place-cause .ensures in
-    e ∙ place-stands-at-step (a .root) (a .party) (a .parties) (a .locks) (a .pages) (a .q) (λ z. c .if1 .taken (e ∙ z))
+    e ∙ place-stands-at-step (a .root) (a .party) (a .parties) (a .locks) (a .pages) (a .waiting) (a .q) true (λ z. c .if1 .taken (e ∙ z))
 
 returns-2 : tie.Need-returns-2
 returns-2 c =
     let place = c .before .before .before in
     let a = place .before .args in
     let passed = sym (place .place-cause .ensures) ∙ c .before .before .if1 .left in
-    idle-refused (a .root) (a .party) (a .parties) (a .locks) (a .pages) (a .q) passed (c .if2 .taken)
+    idle-refused (a .root) (a .party) (a .parties) (a .locks) (a .pages) (a .waiting) (a .q) passed true (c .if2 .taken)
 
 root-sound-requires : tie.Need-root-sound-requires
 root-sound-requires c κs = search needs
@@ -35,7 +36,7 @@ returns-3 c =
     let a = place .before .args in
     let passed = sym (place .place-cause .ensures) ∙ busy .before .before .if1 .left in
     let root = sym (c .before .root-sound .ensures) ∙ not-true _ (c .if3 .taken) in
-    damage-refused (a .root) (a .party) (a .parties) (a .locks) (a .pages) (a .q) passed (busy .if2 .left) (left-fails _ root)
+    damage-refused (a .root) (a .party) (a .parties) (a .locks) (a .pages) (a .waiting) (a .q) passed true (busy .if2 .left) (left-fails _ root)
 
 party-sound-requires : tie.Need-party-sound-requires
 party-sound-requires c κs = search needs
@@ -48,7 +49,7 @@ returns-4 c =
     let a = place .before .args in
     let passed = sym (place .place-cause .ensures) ∙ busy .before .before .if1 .left in
     let party = sym (c .before .party-sound .ensures) ∙ not-true _ (c .if4 .taken) in
-    damage-refused (a .root) (a .party) (a .parties) (a .locks) (a .pages) (a .q) passed (busy .if2 .left) (right-fails (rootSound (a .root)) party)
+    damage-refused (a .root) (a .party) (a .parties) (a .locks) (a .pages) (a .waiting) (a .q) passed true (busy .if2 .left) (right-fails (rootSound (a .root)) party)
 
 returns-5 : tie.Need-returns-5
 unfolding recordSound
@@ -59,7 +60,7 @@ returns-5 c =
     let passed = sym (place .place-cause .ensures) ∙ busy .before .before .if1 .left in
     let root = sym (c .before .before .before .root-sound .ensures) ∙ not-false _ (c .before .before .if3 .left) in
     let party = sym (c .before .party-sound .ensures) ∙ not-false _ (c .if4 .left) in
-    step-passed (a .root) (a .party) (a .parties) (a .locks) (a .pages) (a .q) passed (busy .if2 .left) (both-and root party)
+    step-passed (a .root) (a .party) (a .parties) (a .locks) (a .pages) (a .waiting) (a .q) passed (busy .if2 .left) (both-and root party)
 
 pub step-cause-spec : {M : Type 1} → statement M
 step-cause-spec =

@@ -3,7 +3,7 @@ use mathlib.Core.Path.{_≡_, refl, sym, _∙_}
 use mathlib.Core.Bool.{_&&_}
 use Prim.Native.Nat.{_-_}
 use lib.ListN.{length, drop}
-use Rattle.model.specs.TakeUp.{allZero}
+use Rattle.model.specs.WaitingRow.{allZero}
 use Rattle.take_up.proofs.Words.{zero-passed, zero-ends}
 use borrow.Author.Needs.{needs}
 use Rattle.take_up.proofs.all_zero.Statement.{statement}

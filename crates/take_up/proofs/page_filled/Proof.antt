@@ -4,7 +4,7 @@ use mathlib.Core.Bool.{_&&_}
 use Prim.Native.Nat.{ℕ, _+_, _-_, _*_}
 use lib.ListN.{drop}
 use lib.Dec.{eqb, leb}
-use Rattle.model.specs.TakeUp.{allZero}
+use Rattle.model.specs.WaitingRow.{allZero}
 use Rattle.take_up.specs.Seen.{pageFilled}
 use borrow.Author.Needs.{needs}
 use Rattle.take_up.proofs.page_filled.Statement.{statement}

@@ -4,7 +4,7 @@ use Prim.Native.Nat.{ℕ, _-_, _*_}
 use native.Mathlib.Omega.{arith}
 use lib.ListN.{take, drop}
 use Rattle.model.specs.Sizes.{pageWords}
-use Rattle.model.specs.TakeUp.{allZero}
+use Rattle.model.specs.WaitingRow.{allZero}
 use Rattle.take_up.proofs.Words.{pages-words}
 use borrow.Author.Needs.{needs}
 use Rattle.take_up.proofs.pages_zero.Statement.{statement}

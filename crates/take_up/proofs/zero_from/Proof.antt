@@ -5,7 +5,7 @@ use Prim.Native.Nat.{_-_}
 use native.Mathlib.Omega.{arith}
 use lib.ListN.{length, drop}
 use Rattle.model.specs.Sizes.{pageWords}
-use Rattle.model.specs.TakeUp.{allZero}
+use Rattle.model.specs.WaitingRow.{allZero}
 use Rattle.take_up.proofs.Words.{zero-passed, zero-ends}
 use borrow.Author.Needs.{needs}
 use Rattle.take_up.proofs.zero_from.Statement.{statement}

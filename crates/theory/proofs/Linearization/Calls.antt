@@ -30,8 +30,8 @@ use Rattle.model.specs.ScratchPages.{scratchOf, primaryWritten}
 use Rattle.model.specs.Steps.Rebuild.{kept, changed, changeOf}
 use Rattle.model.specs.Steps.Write.{isChange, step11}
 use Rattle.model.specs.Steps.Dispatch.{hasStep, stepTable, stepOf}
-use Rattle.model.specs.Memory.{Memory, partyAt, viewOf, afterStep}
-use Rattle.model.specs.Calls.{Called, called, stepped, stepCall, withBegun, beginCall, withdrawCall}
+use Rattle.model.specs.Memory.{Memory, partyAt, viewOf}
+use Rattle.model.specs.Calls.{Called, called, stepped, stepCall, withBegun, beginCall, withdrawCall, calledBy}
 use Rattle.model.specs.Runs.{Call, beginFor, stepFor, withdrawFor, callerOf, toBegin, toWithdraw, replyTo, afterCall, eventOf, events, finalMemory}
 use Rattle.model.specs.Book.{Book, Entered, noted, noteAtEleven, withEntry, enter, noteFor, afterReply, afterBegin, afterWithdraw, bookAfter, bookAtEnd, agreesWith}
 use Rattle.theory.specs.Linearization.{entering, endIn, endTo, stepMarks, marks}
@@ -40,7 +40,7 @@ use Rattle.model.proofs.Laws.Lists.{Ord, lt, ge, ord}
 use Rattle.model.proofs.Invariant.Statement.{Written, unchanged, made-change, Busy, PartyOk, resting, working, Inv, sceneOf}
 use Rattle.model.proofs.Invariant.Facts.{At, facts-at, changed-here, changed-elsewhere}
 use Rattle.model.proofs.Theorems.RefusalOrder.{begin-order, step-order}
-use Rattle.model.proofs.Theorems.Calls.{within-limits, operation-some, record-sound, lengths-fit, root-sound, party-sound, call-kept}
+use Rattle.model.proofs.Theorems.Calls.{within-limits, operation-some, record-sound, lengths-fit, root-sound, party-sound, call-kept, step-row}
 use Rattle.model.proofs.Theorems.AllSteps.{steps-kept}
 use Rattle.model.proofs.Steps.Withdraw.{leftBy}
 use Rattle.theory.proofs.Alters.{nothing-altered}
@@ -115,13 +115,13 @@ module _ (m : Memory) (b : Book) (i : Inv m b) (q : ℕ) (in-row : q < m .root .
   out = stepOf number (viewOf m q)
 
   abbrev then : Memory
-  then = afterStep m (out .after)
+  then = calledBy m q out .memory
 
   abbrev bookThen : Book
   bookThen = afterReply b q number (out .answer)
 
   inv-then : Inv then bookThen
-  inv-then = steps-kept m b i q in-row (busy .step-fits) .inv
+  inv-then = steps-kept m b i q in-row (busy .step-fits) .inv _ (step-row steps-kept m b i q in-row (busy .step-fits) _ refl)
 
   -- A find has neither 10 nor 11.
   no-find : (n : ℕ) → number ≡ n → hasStep (operationNumber Operation.Find) n ≡ false → e .operation ≢ Operation.Find
@@ -170,6 +170,7 @@ module _ (m : Memory) (b : Book) (i : Inv m b) (q : ℕ) (in-row : q < m .root .
 
   moves-turn : out .answer ≡ StepAnswer.Moved → out .after .number ≡ q → Passage (partyAt (m .parties) q .operation) number (out .after .party .step)
       → StepTurn m b q (called StepAnswer.Moved then)
+  unfolding statusOf
   moves-turn a n (searches was not-eleven now) = searches-turn m b i q in-row (out .after) n e (busy .entry) was not-eleven now
   moves-turn a n (at-six k find now) = six-turn m b i q in-row (out .after) n e (busy .entry) k (find-only (e .operation) (busy .same-operation ∙ find)) now
   moves-turn a n (at-ten k now) = ten-turn m b i q in-row (out .after) n e (busy .entry) k (no-find 10 k find-lacks-ten) now
@@ -177,6 +178,7 @@ module _ (m : Memory) (b : Book) (i : Inv m b) (q : ℕ) (in-row : q < m .root .
   moves-turn a n (goes-on was now) = goes-on-turn m b i q in-row (out .after) n e (busy .entry) was now
 
   performs-turn : stepCall m q ≡ called (out .answer) then → Leads (viewOf m q) number out → StepTurn m b q (stepCall m q)
+  unfolding statusOf
   performs-turn x (stays p s) =
       let h : performs (stepCall m q .answer) ≡ false = ap (λ (c : Called StepAnswer). performs (c .answer)) x ∙ p in
       subst (λ (n : Memory). StepTurn m b q (called (stepCall m q .answer) n)) (sym (nothing-altered m q h)) (waits-turn m b q (stepCall m q .answer) h)
@@ -199,7 +201,7 @@ module _ (m : Memory) (b : Book) (i : Inv m b) (q : ℕ) where
       inside h (working e k f) =
           performs-turn m b i q h e k
           (step-order m q .none (within-limits (m .root) (i .limits)) (lengths-fit m b i) h (operation-some (e .operation) (partyAt (m .parties) q .operation) (k .same-operation))
-          (record-sound (m .root) (partyAt (m .parties) q) (root-sound m b i) (party-sound m b i q h (partyAt (m .parties) q) e k)))
+          (record-sound (m .root) (partyAt (m .parties) q) (root-sound m b i) (party-sound m b i q h (partyAt (m .parties) q) e k)) (i .row-ok .sound))
           (step-leads (viewOf m q))
 
       go : Ord q (m .root .parties) → StepTurn m b q (stepCall m q)
@@ -220,7 +222,7 @@ module _ (m : Memory) (b : Book) (i : Inv m b) (q : ℕ) (o : Operation) (k : �
   begin-refused-turn n x = subst (BeginTurn m b q o k) (sym x) (still (λ j es rest. refl) (λ p. refl) (λ p u l a h. refl) refl refl)
 
   abbrev viewThen : View
-  viewThen = record { root = m .root; party = begun (operationNumber o) k (settingGiven o); number = q; locks = m .locks; pages = m .pages }
+  viewThen = record { root = m .root; party = begun (operationNumber o) k (settingGiven o); number = q; locks = m .locks; pages = m .pages; behind = false }
 
   begun-turn : q < m .root .parties → b .entries q ≡ none → beginCall m q o k ≡ called BeginAnswer.Begun (withBegun m q o k) → BeginTurn m b q o k (beginCall m q o k)
   unfolding afterBegin withBegun enter statusOf isBehind

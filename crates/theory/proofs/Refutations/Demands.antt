@@ -13,7 +13,7 @@ use Rattle.model.specs.Effects.{recordAfter}
 use Rattle.model.specs.GivenSizes.{sizedRoot}
 use Rattle.model.specs.Memory.{Memory}
 use Rattle.model.specs.Runs.{Call, eventOf, events, afterCall}
-use Rattle.model.specs.Holds.{callRight, grantsRight, holdsAfter}
+use Rattle.model.specs.Holds.{callRight, grantsRight, holdsAfter, waitsAfter}
 use Rattle.model.specs.Progress.{bookAfterCall}
 use Rattle.theory.specs.Links.{Clock, traceOfStep}
 use Rattle.theory.specs.NoPage.{noneWrote, noPageRight, noPageKept, wroteAfter}
@@ -28,11 +28,11 @@ use Rattle.model.proofs.Laws.Lists.{and-both}
 
 module _ (s : Start) (c : Call) (cs : List Call) where
   -- The first call of a list is answered rightly.
-  pub first-granted : GrantsRight s (c ∷ cs) → callRight (sizesOf s) (bookStart s) [] (start s) c ≡ true
+  pub first-granted : GrantsRight s (c ∷ cs) → callRight (sizesOf s) (bookStart s) [] [] (start s) c ≡ true
   unfolding grantsRight
   first-granted g =
-      and-both (callRight (sizesOf s) (bookStart s) [] (start s) c)
-      (grantsRight (sizesOf s) (bookAfterCall (bookStart s) (start s) c) (holdsAfter (sizesOf s) [] (start s) c) (afterCall (start s) c) cs) (g .grants) .0
+      and-both (callRight (sizesOf s) (bookStart s) [] [] (start s) c)
+      (grantsRight (sizesOf s) (bookAfterCall (bookStart s) (start s) c) (holdsAfter (sizesOf s) [] (start s) c) (waitsAfter (sizesOf s) [] (start s) c) (afterCall (start s) c) cs) (g .grants) .0
 
   -- It does not end with no page after an 11.
   pub last-no-page : ScheduleRight s (c ∷ cs) → noPageRight noneWrote (eventOf (start s) c .call) (eventOf (start s) c .number) (eventOf (start s) c .reply) ≡ true

@@ -93,7 +93,7 @@ module _ (m : Memory) (q : ℕ) where
 
 -- Two chains and two parties at rest, and the same with both parties at 4.
 abbrev resting : Memory
-resting = record { root = crossed 0 .root; parties = idle ∷ idle ∷ []; locks = 0 ∷ 0 ∷ 0 ∷ []; pages = crossed 0 .pages }
+resting = record { root = crossed 0 .root; parties = idle ∷ idle ∷ []; locks = 0 ∷ 0 ∷ 0 ∷ []; pages = crossed 0 .pages; waiting = crossed 0 .waiting }
 
 taken-told :
     takenRightly 2 emptyBook resting ∷ takenRightly 2 busy resting ∷ takenRightly 2 busy (crossed 0) ∷ takenRightly 2 emptyBook (crossed 0) ∷ [] ≡ true ∷ false ∷ true ∷ false ∷ []

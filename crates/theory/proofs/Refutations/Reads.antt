@@ -1,8 +1,8 @@
 -- What a call reads: which pages are shut, that memories which differ on them there are, and what is not alike.
 -- Main statements: pages-told, open-told, overflow-is, primary-is-not, scratch-is-not (which pages are overflow pages);
 -- shut-page (those that are not listed are shut); shut-rewritten (every memory differs, on a shut page, from another),
--- shut-unread (which a step that is accepted does not notice); open-differs, other-answer, open-left, shut-written
--- (what is not alike); copy-leads (a copy); chains-unread, chains-read (a chain that does not read as sound).
+-- shut-unread (which a step that is accepted does not notice); open-differs, other-row, other-answer, open-left,
+-- shut-written (what is not alike); copy-leads (a copy); chains-unread, chains-read (a chain that does not read as sound).
 use mathlib.Core.Path.{_≡_, refl, ap, sym, _∙_}
 use mathlib.Core.Logic.{_≢_}
 use mathlib.Core.Bool.{Bool, true, false, _&&_, false≢true}
@@ -19,7 +19,7 @@ use Rattle.model.specs.Pages.{pageOf, withPage, linkOf}
 use Rattle.model.specs.Chains.{damaged, sound, Chain, chainOf}
 use Rattle.model.specs.FreeList.{isAmong}
 use Rattle.model.specs.Outcome.{View}
-use Rattle.model.specs.Memory.{Memory}
+use Rattle.model.specs.Memory.{Memory, withWaiting}
 use Rattle.model.specs.Calls.{called, stepCall}
 use Rattle.theory.specs.Sequential.{ChainsRead, chainsIn, fileOf}
 use Rattle.theory.specs.Reads.{isAccepted, readBy, isOverflowPage, isOpen, DiffersOutside, ReadAlike, StepAlike, Copied}
@@ -67,7 +67,7 @@ module _ (r : Root) (x : ℕ) where
 
 -- The memory with page x rewritten.
 abbrev rewritten : Memory → ℕ → List ℕ → Memory
-rewritten m x w = record { root = m .root; parties = m .parties; locks = m .locks; pages = withPage (m .pages) x w }
+rewritten m x w = record { root = m .root; parties = m .parties; locks = m .locks; pages = withPage (m .pages) x w; waiting = m .waiting }
 
 module _ (m : Memory) (xs : List ℕ) (x : ℕ) (w : List ℕ) (has : Has (m .pages) x) (full : length w ≡ pageWords) (shut : isOpen (m .root) xs x ≡ false) where
   pub shut-rewritten : DiffersOutside xs m (rewritten m x w)
@@ -75,6 +75,7 @@ module _ (m : Memory) (xs : List ℕ) (x : ℕ) (w : List ℕ) (has : Has (m .pa
     root= = refl;
     parties= = refl;
     locks= = refl;
+    waiting= = refl;
     length= = length-withPage (m .pages) x w has full;
     open= = λ y h. page-other (m .pages) x w has full y (apart y h);
   }
@@ -97,6 +98,7 @@ holding k = record {
   parties = [];
   locks = [];
   pages = 0 ∷ 2 ∷ 0 ∷ k ∷ 0 ∷ 7 ∷ 0 ∷ 0 ∷ 0 ∷ 0 ∷ 0 ∷ 0 ∷ 0 ∷ 0 ∷ 0 ∷ 0 ∷ bare (bare []);
+  waiting = [];
 }
 
 -- The same with a word on the overflow page.
@@ -106,6 +108,7 @@ marked = record {
   parties = [];
   locks = [];
   pages = 0 ∷ 2 ∷ 0 ∷ 5 ∷ 0 ∷ 7 ∷ 0 ∷ 0 ∷ 0 ∷ 0 ∷ 0 ∷ 0 ∷ 0 ∷ 0 ∷ 0 ∷ 0 ∷ 0 ∷ 1 ∷ 0 ∷ 0 ∷ 0 ∷ 0 ∷ 0 ∷ 0 ∷ 0 ∷ 0 ∷ 0 ∷ 0 ∷ 0 ∷ 0 ∷ 0 ∷ 0 ∷ bare [];
+  waiting = [];
 }
 
 words-differ : {k : ℕ} {ks ls : List ℕ} → k ∷ 2 ∷ 0 ∷ 5 ∷ ks ≡ k ∷ 2 ∷ 0 ∷ 6 ∷ ls → ⊥
@@ -134,11 +137,19 @@ alike = record {
   root= = refl;
   parties= = refl;
   locks= = refl;
+  waiting= = refl;
   length= = refl;
   open= = λ x h. refl;
   shut-kept = λ x h. refl;
   shut-kept′ = λ x h. refl;
 }
+
+-- Another row.
+other-row : moving (withWaiting (3 ∷ []) (holding 5)) → ⊥
+other-row a = row-longer (a .waiting=)
+  where
+    row-longer : _≡_ {A = List ℕ} (3 ∷ []) [] → ⊥
+    row-longer e = let z : _≡_ {A = ℕ} 1 0 = ap length e in omega arith
 
 other-answer : ReadAlike [] (holding 5) (holding 5) (called StepAnswer.Moved (holding 5)) (called StepAnswer.Waiting (holding 5)) → ⊥
 other-answer a = moved-waits (a .answer=)

@@ -11,6 +11,8 @@ use Prim.Native.Nat.{ℕ, zero, suc, _+_, _<_}
 use native.Mathlib.Omega.{arith}
 use lib.ListN.{length, set, drop}
 use lib.Dec.{eqb, leb}
+use Rattle.model.proofs.Laws.WaitingRow.{RowOk, alone-before-all, idle-asks-none}
+use Rattle.model.specs.WaitingRow.{rowAfter}
 use Rattle.model.specs.declared.Root.{Root}
 use Rattle.model.specs.declared.Party.{Party}
 use Rattle.model.specs.declared.Mode.{Mode}
@@ -28,8 +30,8 @@ use Rattle.model.specs.Chains.{Checked, damaged, sound}
 use Rattle.model.specs.Outcome.{View, Outcome, moved, guarded, checked, withParty}
 use Rattle.model.specs.Endings.{done}
 use Rattle.model.specs.LockRequests.{isGranted, withHold, request, heldAll, givenUp, release}
-use Rattle.model.specs.Memory.{Memory, partyAt, viewOf, afterStep}
-use Rattle.model.specs.Calls.{Called, called, stepCall, stepped}
+use Rattle.model.specs.Memory.{Memory, partyAt, viewOf}
+use Rattle.model.specs.Calls.{Called, called, stepCall, stepped, calledBy}
 use Rattle.model.specs.Runs.{Reply, toStep, replyTo, afterCall, eventOf, events, finalMemory}
 use Rattle.model.specs.declared.Entry.{Entry}
 use Rattle.model.specs.Entries.{settingIn}
@@ -56,7 +58,7 @@ use Rattle.model.proofs.Effects.OwnRecord.{same-limits}
 use Rattle.model.proofs.Effects.ScratchPage.{has-scratch}
 use Rattle.model.proofs.Effects.GiveUps.{given-up-rest}
 use Rattle.model.proofs.Theorems.RefusalOrder.{step-order}
-use Rattle.model.proofs.Theorems.Calls.{StepsKept, within-limits, operation-some, record-sound, lengths-fit, root-sound, party-sound}
+use Rattle.model.proofs.Theorems.Calls.{StepsKept, within-limits, operation-some, record-sound, lengths-fit, root-sound, party-sound, step-row}
 use Rattle.model.proofs.Laws.Answers.{answers-same}
 use Rattle.theory.proofs.Singly.Files.{extentOf, Holding, same-file}
 use Rattle.theory.proofs.Singly.AtRest.{liveFile, live-holding, live-records, live-pages, file-read, Whole}
@@ -75,7 +77,7 @@ pub record Alone (m : Memory) (b : Book) (q : ℕ) (p : Party) (f : File) (out :
 
 -- The memory after a step of party q: root, record, lock words and page words. The book after a step of the record p that goes on.
 abbrev pub leftAt : Memory → ℕ → Root → Party → List ℕ → List ℕ → Memory
-leftAt m q t x ls ps = record { root = t; parties = set (m .parties) q x; locks = ls; pages = ps }
+leftAt m q t x ls ps = record { root = t; parties = set (m .parties) q x; locks = ls; pages = ps; waiting = rowAfter q (m .waiting) StepAnswer.Moved }
 
 abbrev pub bookOn : Book → ℕ → Party → Book
 bookOn b q p = noteFor b q (b .entries q) (p .step)
@@ -145,7 +147,7 @@ module _ (m : Memory) (b : Book) (q : ℕ) (p : Party) (f : File) (out : ℕ) (a
   pub granted : (c : Claim) → c .word < lockWords (m .root) → ((o : Mode) → isClaimed (claims (m .root) p) (c .word) o ≡ false)
       → isGranted (viewing (m .root) p q (m .locks) (m .pages)) c ≡ true
   unfolding isGranted
-  granted c fits mine-none = permits-true (a .inv .locks-ok .each (c .word) fits) (c .mode) (λ j o h. absurd (not-both _ h (nobody j o (cmp j q))))
+  granted c fits mine-none = both-and (permits-true (a .inv .locks-ok .each (c .word) fits) (c .mode) (λ j o h. absurd (not-both _ h (nobody j o (cmp j q))))) refl
     where
       idle-claims : (o : Mode) → isClaimed (claims (m .root) idle) (c .word) o ≡ false
       idle-claims o = none-claimed (m .root) idle (claims-at (m .root) idle 0 refl) (c .word) o
@@ -158,8 +160,9 @@ module _ (m : Memory) (b : Book) (q : ℕ) (p : Party) (f : File) (out : ℕ) (a
 
 -- Party q's step has this outcome, and what is owed of it holds.
 pub record Performed (m : Memory) (b : Book) (q : ℕ) (o : Outcome) : Type 0 where
-  pub call : stepCall m q ≡ called (o .answer) (afterStep m (o .after))
+  pub call : stepCall m q ≡ calledBy m q o
   pub kept : Kept m b q o
+  pub row : RowOk (o .after .root) (set (m .parties) (o .after .number) (o .after .party)) (rowAfter q (m .waiting) (o .answer))
 
 pub performs-as : {m : Memory} {b : Book} {q : ℕ} {o u : Outcome} → o ≡ u → Performed m b q o → Performed m b q u
 performs-as {m} {b} {q} e x = subst (Performed m b q) e x
@@ -172,17 +175,25 @@ performed kept m b q p f out a k g e s =
     (record {
       call = step-order m q .none (within-limits (m .root) (a .inv .limits)) (lengths-fit m b (a .inv)) (a .in-row)
           (rw (a .mine) (operation-some (x .entered .operation) (p .operation) (x .busy .same-operation)))
-          (rw (a .mine) (record-sound (m .root) p (root-sound m b (a .inv)) (party-sound m b (a .inv) q (a .in-row) p (x .entered) (x .busy))));
+          (rw (a .mine) (record-sound (m .root) p (root-sound m b (a .inv)) (party-sound m b (a .inv) q (a .in-row) p (x .entered) (x .busy)))) (a .inv .row-ok .sound);
       kept = kept m b (a .inv) q (a .in-row) (rw (a .mine) (x .busy .step-fits));
+      row = step-row kept m b (a .inv) q (a .in-row) (rw (a .mine) (x .busy .step-fits)) _ refl;
     })
   where
+    -- It stands behind nobody.
+    view-is : viewOf m q ≡ viewing (m .root) p q (m .locks) (m .pages)
+    view-is =
+        ap (λ (u : Party). record { root = m .root; party = u; number = q; locks = m .locks; pages = m .pages; behind = viewOf m q .behind }) (a .mine)
+        ∙ ap (λ (t : Bool). record { root = m .root; party = p; number = q; locks = m .locks; pages = m .pages; behind = t })
+        (alone-before-all (m .root) (m .parties) (m .waiting) q (a .inv .row-ok) (λ j n. idle-asks-none (m .root) (partyAt (m .parties) j) (a .others j n)))
+
     x : At (suc k) (sceneOf m (a .inv .ghost) b) q p
     x = at-alone m b q p f out a k e
 
     outcome-is : stepOf (partyAt (m .parties) q .step) (viewOf m q) ≡ g (viewing (m .root) p q (m .locks) (m .pages))
     outcome-is =
-        rw (a .mine)
-        (ap (λ (n : ℕ). stepOf n (viewing (m .root) p q (m .locks) (m .pages))) e ∙ ap (λ (h : View → Outcome). h (viewing (m .root) p q (m .locks) (m .pages))) s)
+        ap (stepOf (partyAt (m .parties) q .step)) view-is ∙ ap (λ (u : Party). stepOf (u .step) (viewing (m .root) p q (m .locks) (m .pages))) (a .mine)
+        ∙ (ap (λ (n : ℕ). stepOf n (viewing (m .root) p q (m .locks) (m .pages))) e ∙ ap (λ (h : View → Outcome). h (viewing (m .root) p q (m .locks) (m .pages))) s)
 
 -- A step that is not refused passed its tests.
 pub guarded-open : (v : View) (t : Bool) (o : Outcome) → refusalNumber (guarded v t o .answer) ≡ 0 → guarded v t o ≡ o
@@ -271,7 +282,7 @@ module _ (m : Memory) (b : Book) (q : ℕ) (p : Party) (f : File) (out : ℕ) (a
     unfolding afterReply
     alone-moves k d e h w =
         alone-after (bookOn b q p)
-        (subst (λ (y : Party). Inv (leftAt m q t x ls ps) (bookOn b q y)) (a .mine) (k .kept .inv)) e
+        (subst (λ (y : Party). Inv (leftAt m q t x ls ps) (bookOn b q y)) (a .mine) (k .kept .inv _ (k .row))) e
         (subst (λ (y : List Entry). Holding (m .root .originals) g y) (sym (contents-kept b q (b .entries q) (p .step) d)) h) w
 
   -- The same where the root stays too, and with it the file.
@@ -341,13 +352,13 @@ module _ (m : Memory) (b : Book) (q : ℕ) (p : Party) (f : File) (out : ℕ) (a
       })
     where
       m-then : Memory
-      m-then = afterStep m (done y s (viewing t x q ls ps) .after)
+      m-then = calledBy m q (done y s (viewing t x q ls ps)) .memory
 
       b-then : Book
       b-then = withEntry (bookOn b q p) q none
 
       inv-then : Inv m-then b-then
-      inv-then = subst (λ (u : Party). Inv m-then (withEntry (bookOn b q u) q none)) (a .mine) (k .kept .inv)
+      inv-then = subst (λ (u : Party). Inv m-then (withEntry (bookOn b q u) q none)) (a .mine) (k .kept .inv _ (k .row))
 
       idles : (j : ℕ) → Cmp j q → partyAt (set (m .parties) q idle) j ≡ idle
       idles j (same u) = rw u (mine-then m b q p f out a idle)

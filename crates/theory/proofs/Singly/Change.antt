@@ -270,7 +270,7 @@ module _ (steps : StepsKept) (m : Memory) (b : Book) (q : ℕ) (p : Party) (f : 
       goes-on m (leftAt m q r x (m .locks) pages-then) q (onwardFile r g (answerOf (p .answer)) (p .owed)) (w₁ .call)
       (from-12 steps q xs (leftAt m q r x (m .locks) pages-then) (bookOn b q p) x g
       (alone-after m b q p f out a r x (m .locks) pages-then g (length xs) (same-limits r) (bookOn b q p)
-      (subst (λ (z : Party). Inv (leftAt m q r x (m .locks) pages-then) (bookOn b q z)) (a .mine) (w₁ .kept .inv))
+      (subst (λ (z : Party). Inv (leftAt m q r x (m .locks) pages-then) (bookOn b q z)) (a .mine) (w₁ .kept .inv _ (w₁ .row)))
       (root-extent m b q p f out a 11 is-11 refl ∙ sym (live-plain r x 12 refl refl)) holding-then whole-then) refl is-change (at-11 .facts .keeps-link) linked-then)
 
 -- ---- 10

@@ -12,10 +12,11 @@ use Rattle.model.specs.declared.StepAnswer.{StepAnswer}
 use Rattle.model.specs.declared.StepAnswer.the-variants as StepAnswer
 use Rattle.model.specs.Pages.{pageOf, linkOf, primaryPage}
 use Rattle.model.specs.FreeList.{isAmong}
-use Rattle.model.specs.Outcome.{View, Outcome, withPages}
-use Rattle.model.specs.Memory.{Memory, partyAt, viewOf, afterStep}
+use Rattle.model.specs.Outcome.{View, withPages, outcome}
+use Rattle.model.specs.Memory.{Memory, partyAt, viewOf}
 use Rattle.model.specs.Refusals.{firstCause, lengthsFit, stepRows}
-use Rattle.model.specs.Calls.{Called, called, stepped, stepCall}
+use Rattle.model.specs.WaitingRow.{rowAfter}
+use Rattle.model.specs.Calls.{Called, stepped, stepCall, calledBy}
 use Rattle.theory.specs.Links.{Trace, chainPages, listPages, traceNine, traceFourteen, traceTwentyNine, traceOf, Clock, clockStart, traceOfStep}
 use Rattle.model.specs.Answers.{isMoved, performs}
 use Rattle.theory.specs.Reads.{isAccepted, pagesFollowed, followedBy, takenBy, readBy, isOverflowPage, isOpen, DiffersOutside, stepAfter, StepAlike}
@@ -111,12 +112,12 @@ module _ (m m′ : Memory) (q : ℕ) (d : DiffersOutside (readBy m q) m m′) wh
   -- The rows of the refusal table go by the root, the records and the lengths.
   same-rows : stepRows m′ q ≡ stepRows m q
   unfolding stepRows lengthsFit
-  same-rows = rw (d .root=, d .parties=, d .locks=, d .length=)
+  same-rows = rw (d .root=, d .parties=, d .locks=, d .length=, d .waiting=)
 
   -- The step is lent the same view but for the pages.
-  stepped-beside : stepped m′ q ≡ called (stepOf number (withPages (m′ .pages) view) .answer) (afterStep m (stepOf number (withPages (m′ .pages) view) .after))
+  stepped-beside : stepped m′ q ≡ calledBy m q (stepOf number (withPages (m′ .pages) view))
   unfolding stepped
-  stepped-beside = rw (d .parties=, d .root=, d .locks=)
+  stepped-beside = rw (d .parties=, d .root=, d .locks=, d .waiting=)
 
   module _ (none : firstCause (stepRows m q) ≡ 0) where
     beside : Beside view (m′ .pages) opens
@@ -128,7 +129,7 @@ module _ (m m′ : Memory) (q : ℕ) (d : DiffersOutside (readBy m q) m m′) wh
       scratch-open = scratch-open (m .root) (readBy m q);
     }
 
-    now : stepCall m q ≡ called (stepOf number view .answer) (afterStep m (stepOf number view .after))
+    now : stepCall m q ≡ calledBy m q (stepOf number view)
     unfolding stepped
     now = step-accepted m q none
 
@@ -151,19 +152,20 @@ module _ (m m′ : Memory) (q : ℕ) (d : DiffersOutside (readBy m q) m m′) wh
       reads-same : Same view (m′ .pages) opens (stepOf number view) (stepOf number (withPages (m′ .pages) view))
       reads-same = step-reads number view (m′ .pages) opens beside .go step-performs licence
 
-      beside-call : stepCall m′ q ≡ called (stepOf number view .answer) (afterStep m (withPages (reads-same .pages′) (stepOf number view .after)))
-      beside-call = step-accepted m′ q (ap firstCause same-rows ∙ none) ∙ stepped-beside ∙ ap (λ (o : Outcome). called (o .answer) (afterStep m (o .after))) (reads-same .out)
+      beside-call : stepCall m′ q ≡ calledBy m q (outcome (stepOf number view .answer) (withPages (reads-same .pages′) (stepOf number view .after)))
+      beside-call = step-accepted m′ q (ap firstCause same-rows ∙ none) ∙ stepped-beside ∙ ap (calledBy m q) (reads-same .out)
 
       call-alike : StepAlike m m′ q
       call-alike =
           let k = reads-same .alike in
-          let e : stepAfter m q ≡ afterStep m (stepOf number view .after) = ap (λ (c : Called StepAnswer). c .memory) now in
-          let e′ : stepAfter m′ q ≡ afterStep m (withPages (reads-same .pages′) (stepOf number view .after)) = ap (λ (c : Called StepAnswer). c .memory) beside-call in
+          let e : stepAfter m q ≡ calledBy m q (stepOf number view) .memory = ap (λ (c : Called StepAnswer). c .memory) now in
+          let e′ : stepAfter m′ q ≡ calledBy m q (outcome (stepOf number view .answer) (withPages (reads-same .pages′) (stepOf number view .after))) .memory = ap (λ (c : Called StepAnswer). c .memory) beside-call in
           record {
             answer= = rw (beside-call, now);
             root= = rw (e′, e);
             parties= = rw (e′, e);
             locks= = rw (e′, e);
+            waiting= = rw (e′, e);
             length= = rw (e′, e) (k .long′ ∙ sym (k .long));
             open= = λ x h. rw (e′, e) (k .agree x h);
             shut-kept = λ x h. rw e (k .kept x h);
@@ -189,6 +191,8 @@ module _ (m m′ : Memory) (q : ℕ) (d : DiffersOutside (readBy m q) m m′) wh
             root= = rw (e′, e) (d .root=);
             parties= = rw (e′, e) (d .parties=);
             locks= = rw (e′, e) (d .locks=);
+            waiting= = ap (λ (u : Memory). u .waiting) e′ ∙ ap (λ (row : List ℕ). rowAfter q row (stepCall m′ q .answer)) (d .waiting=)
+                ∙ ap (rowAfter q (m .waiting)) (waits-too ∙ sym waiting) ∙ sym (ap (λ (u : Memory). u .waiting) e);
             length= = rw (e′, e) (d .length=);
             open= = λ x h. rw (e′, e) (d .open= x h);
             shut-kept = λ x h. rw e refl;

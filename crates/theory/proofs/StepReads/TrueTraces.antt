@@ -2,16 +2,16 @@
 -- So the times by which the link rule (specs/Links.antt) compares are those at which links were read and pages given back.
 -- Main statement: true-trace.
 use mathlib.Core.Path.{_≡_, sym, ap, _∙_}
-use mathlib.Core.Bool.{true, false, false≢true}
-use Prim.Native.Nat.{ℕ, _+_, _-_}
+use mathlib.Core.Bool.{true, false≢true}
+use Prim.Native.Nat.{ℕ, _+_}
 use native.Mathlib.Omega.{arith}
 use lib.ListN.{set}
 use Rattle.model.specs.declared.Party.{Party}
 use Rattle.model.specs.declared.StepAnswer.{StepAnswer}
 use Rattle.model.specs.Outcome.{View, Outcome}
-use Rattle.model.specs.Memory.{Memory, partyAt, viewOf, afterStep}
+use Rattle.model.specs.Memory.{Memory, partyAt, viewOf}
 use Rattle.model.specs.Refusals.{firstCause, stepRows}
-use Rattle.model.specs.Calls.{Called, called, stepped, stepCall}
+use Rattle.model.specs.Calls.{Called, stepped, stepCall, calledBy}
 use Rattle.theory.specs.Links.{Trace, traceOf, Clock, traceOfStep}
 use Rattle.model.specs.Answers.{performs}
 use Rattle.model.specs.Effects.{recordAfter}
@@ -36,14 +36,14 @@ module _ (k : Clock) (m : Memory) (q : ℕ) (performed : performs (stepCall m q 
   abbrev out : Outcome
   out = stepOf number view
 
-  now : stepCall m q ≡ called (out .answer) (afterStep m (out .after))
+  now : stepCall m q ≡ calledBy m q out
   unfolding stepped
   now = accepted
 
   step-performs : performs (out .answer) ≡ true
   step-performs = sym (ap (λ (c : Called StepAnswer). performs (c .answer)) now) ∙ performed
 
-  memory-then : stepAfter m q ≡ afterStep m (out .after)
+  memory-then : stepAfter m q ≡ calledBy m q out .memory
   memory-then = ap (λ (c : Called StepAnswer). c .memory) now
 
   -- The party's own record.

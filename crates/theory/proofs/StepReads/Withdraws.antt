@@ -8,6 +8,7 @@ use Prim.Native.Nat.{ℕ, _+_, _-_}
 use native.Mathlib.Omega.{arith}
 use lib.ListN.{length, length-reverse}
 use lib.Dec.{eqb}
+use Rattle.model.specs.WaitingRow.{rowLeft, rowWithout}
 use Rattle.model.specs.declared.WithdrawAnswer.{WithdrawAnswer}
 use Rattle.model.specs.declared.WithdrawAnswer.the-variants as WithdrawAnswer
 use Rattle.model.specs.Pages.{pageOf, linkOf, pageSound, scratchPage, zeroPage}
@@ -18,7 +19,7 @@ use Rattle.model.specs.LockRequests.{heldAll}
 use Rattle.model.specs.ScratchPages.{scratchOf}
 use Rattle.model.specs.Claims.{claims}
 use Rattle.model.specs.Withdraw.{builtPages, takenBackSoundly, withdrawn}
-use Rattle.model.specs.Memory.{Memory, partyAt, viewOf, afterStep}
+use Rattle.model.specs.Memory.{Memory, partyAt, viewOf, afterStep, withWaiting}
 use Rattle.model.specs.Refusals.{firstCause, lengthsFit, withdrawRows}
 use Rattle.model.specs.Calls.{Called, called, withdrawnFrom, withdrawCall}
 use Rattle.model.specs.Effects.{withdrawAfter}
@@ -78,7 +79,7 @@ module _ (v : View) where
 -- Accepted, with the pages xs built.
 module _ (m : Memory) (q : ℕ) (xs : List ℕ) (none : firstCause (withdrawRows m q) ≡ 0) (built : builtPages (viewOf m q) ≡ sound xs)
     (held : heldAll (viewOf m q) (claims (m .root) (partyAt (m .parties) q)) ≡ true) (room : roomToGiveBack (m .root) (length xs) ≡ true)
-    (call : withdrawCall m q ≡ called WithdrawAnswer.Withdrawn (afterStep m (leftBy (viewOf m q) xs))) where
+    (call : withdrawCall m q ≡ called WithdrawAnswer.Withdrawn (withWaiting (rowWithout q (m .waiting)) (afterStep m (leftBy (viewOf m q) xs)))) where
   abbrev view : View
   view = viewOf m q
 
@@ -100,7 +101,7 @@ module _ (m : Memory) (q : ℕ) (xs : List ℕ) (none : firstCause (withdrawRows
 
   module _ (ps′ : List ℕ) (long : length ps′ ≡ length (m .pages)) (agree : (x : ℕ) → isOpen (m .root) (walkedBack m q) x ≡ true → pageOf ps′ x ≡ pageOf (m .pages) x) where
     abbrev m′ : Memory
-    m′ = record { root = m .root; parties = m .parties; locks = m .locks; pages = ps′ }
+    m′ = record { root = m .root; parties = m .parties; locks = m .locks; pages = ps′; waiting = m .waiting }
 
     abbrev opens : ℕ → Bool
     opens = isOpen (m .root) (walkedBack m q)
@@ -129,8 +130,8 @@ module _ (m : Memory) (q : ℕ) (xs : List ℕ) (none : firstCause (withdrawRows
     unfolding withdrawRows lengthsFit
     same-rows = rw long
 
-    call′ : withdrawCall m′ q ≡ called WithdrawAnswer.Withdrawn (afterStep m′ (leftBy (viewOf m′ q) xs))
-    unfolding withdrawnFrom withdrawn takenBackSoundly
+    call′ : withdrawCall m′ q ≡ called WithdrawAnswer.Withdrawn (withWaiting (rowWithout q (m .waiting)) (afterStep m′ (leftBy (viewOf m′ q) xs)))
+    unfolding withdrawnFrom withdrawn takenBackSoundly rowLeft
     call′ =
         withdraw-accepted m′ q (ap firstCause same-rows ∙ none)
         ∙ rw (built′, held-beside (claims (m .root) (partyAt (m .parties) q)) ps′ view, held, room, taken-back-is (viewOf m′ q) xs) refl
@@ -150,6 +151,7 @@ module _ (m : Memory) (q : ℕ) (xs : List ℕ) (none : firstCause (withdrawRows
           root= = rw (call′, call, head);
           parties= = rw (call′, call);
           locks= = rw (call′, call) (given-up-alike (claims (m .root) (partyAt (m .parties) q)) view (viewOf m′ q) refl refl);
+          waiting= = rw (call′, call);
           length= = rw (call′, call) (k .long′ ∙ sym (k .long));
           open= = λ x h. rw (call′, call) (k .agree x h);
           shut-kept = λ x h. rw call (k .kept x h);
@@ -158,7 +160,7 @@ module _ (m : Memory) (q : ℕ) (xs : List ℕ) (none : firstCause (withdrawRows
 
   -- ---- Its trace
 
-  then-is : withdrawAfter m q ≡ afterStep m (leftBy view xs)
+  then-is : withdrawAfter m q ≡ withWaiting (rowWithout q (m .waiting)) (afterStep m (leftBy view xs))
   then-is = ap (λ (c : Called WithdrawAnswer). c .memory) call
 
   trace-true : (k : Clock) → WithdrawTrue k m q
@@ -187,8 +189,8 @@ pub withdraw-reads : (m m′ : Memory) (q : ℕ) → withdrawCall m q .answer �
     → ReadAlike (walkedBack m q) m m′ (withdrawCall m q) (withdrawCall m′ q)
 withdraw-reads m m′ q accepted d = go (withdraw-tested m q)
   where
-    same : record { root = m .root; parties = m .parties; locks = m .locks; pages = m′ .pages } ≡ m′
-    same = sym (λ i. record { root = d .root= i; parties = d .parties= i; locks = d .locks= i; pages = m′ .pages })
+    same : record { root = m .root; parties = m .parties; locks = m .locks; pages = m′ .pages; waiting = m .waiting } ≡ m′
+    same = sym (λ i. record { root = d .root= i; parties = d .parties= i; locks = d .locks= i; pages = m′ .pages; waiting = d .waiting= i })
 
     go : WithdrawTested m q → ReadAlike (walkedBack m q) m m′ (withdrawCall m q) (withdrawCall m′ q)
     go (turned-away n e) = absurd (withdrawn-not-refused n (sym accepted ∙ ap (λ (c : Called WithdrawAnswer). c .answer) e))

@@ -34,25 +34,25 @@ same-length-3 c = search needs
 same-length-4 : tie.Need-same-length-4
 same-length-4 c = search needs
 
-returns : tie.Need-returns
-returns c =
-    let start = c .before .before .before .before .before .before .before .before .before .before .before .before .before .before .before .before .before .before .before .before in
-    let a = start .args in
-    let made = c .before .before .before .before .before .before .before .before .before .before .answer-lines in (
-      (start .pre .0, made .ensures .0 .1),
-      ((λ w. made .ensures .1 .1 (c .if1 .taken) (start .pre .2)), none-answered (part (a .input .now) (a .from) (a .to)) (made .result .from) (heldIn (a .root) (a .row .now) (a .locks .now) (a .pages .now)) (heldIn (made .result .root) (made .last .1 .1 .0) (made .last .1 .1 .1 .0) (made .last .1 .1 .1 .1 .0)) (take (made .result .end) (made .last .1 .1 .1 .1 .1 .0)) (c .if1 .taken) (made .ensures .1 .0)),
-    )
-
-add-t13 : tie.Need-add-t13
-add-t13 c =
-    let start = c .before .before .before .before .before .before .before .before .before .before .before .before .before .before .before .before .before .before .before .before .before in
-    let a = start .args in
-    let made = c .before .before .before .before .before .before .before .before .before .before .before .answer-lines in
-    let long = part-length (a .input .now) (a .from) (a .to) (start .pre .0) (start .pre .1) in
-    record { fits = omega (arith, made .ensures .0 .0, long, start .pre .0, start .pre .1, start .good, start .fits) }
-
 same-length-5 : tie.Need-same-length-5
 same-length-5 c = search needs
+
+returns : tie.Need-returns
+returns c =
+    let start = c .before .before .before .before .before .before .before .before .before .before .before .before .before .before .before .before .before .before .before .before .before .before .before .before in
+    let a = start .args in
+    let made = c .before .before .before .before .before .before .before .before .before .before .before .before .answer-lines in (
+      (start .pre .0, made .ensures .0 .1),
+      ((λ w. made .ensures .1 .1 (c .if1 .taken) (start .pre .2)), none-answered (part (a .input .now) (a .from) (a .to)) (made .result .from) (heldIn (a .root) (a .row .now) (a .locks .now) (a .pages .now) (a .waiting .now)) (heldIn (made .result .root) (made .last .1 .1 .0) (made .last .1 .1 .1 .0) (made .last .1 .1 .1 .1 .0) (made .last .1 .1 .1 .1 .1 .0)) (take (made .result .end) (made .last .1 .1 .1 .1 .1 .1 .0)) (c .if1 .taken) (made .ensures .1 .0)),
+    )
+
+add-t14 : tie.Need-add-t14
+add-t14 c =
+    let start = c .before .before .before .before .before .before .before .before .before .before .before .before .before .before .before .before .before .before .before .before .before .before .before .before .before in
+    let a = start .args in
+    let made = c .before .before .before .before .before .before .before .before .before .before .before .before .before .answer-lines in
+    let long = part-length (a .input .now) (a .from) (a .to) (start .pre .0) (start .pre .1) in
+    record { fits = omega (arith, made .ensures .0 .0, long, start .pre .0, start .pre .1, start .good, start .fits) }
 
 same-length-6 : tie.Need-same-length-6
 same-length-6 c = search needs
@@ -63,14 +63,20 @@ same-length-7 c = search needs
 same-length-8 : tie.Need-same-length-8
 same-length-8 c = search needs
 
+same-length-9 : tie.Need-same-length-9
+same-length-9 c = search needs
+
+same-length-10 : tie.Need-same-length-10
+same-length-10 c = search needs
+
 returns-2 : tie.Need-returns-2
 returns-2 c =
-    let start = c .before .before .before .before .before .before .before .before .before .before .before .before .before .before .before .before .before .before .before .before .before in
+    let start = c .before .before .before .before .before .before .before .before .before .before .before .before .before .before .before .before .before .before .before .before .before .before .before .before .before in
     let a = start .args in
-    let made = c .before .before .before .before .before .before .before .before .before .before .before .answer-lines in
+    let made = c .before .before .before .before .before .before .before .before .before .before .before .before .before .answer-lines in
     let long = part-length (a .input .now) (a .from) (a .to) (start .pre .0) (start .pre .1) in (
       (omega (arith, made .ensures .0 .0, long, start .pre .0), made .ensures .0 .1),
-      ((λ w. absurd (true≢false w)), rest-answered (a .input .now) (a .from) (a .to) (made .result .from) (heldIn (a .root) (a .row .now) (a .locks .now) (a .pages .now)) (heldIn (made .result .root) (made .last .1 .1 .0) (made .last .1 .1 .1 .0) (made .last .1 .1 .1 .1 .0)) (take (made .result .end) (made .last .1 .1 .1 .1 .1 .0)) (made .ensures .1 .0)),
+      ((λ w. absurd (true≢false w)), rest-answered (a .input .now) (a .from) (a .to) (made .result .from) (heldIn (a .root) (a .row .now) (a .locks .now) (a .pages .now) (a .waiting .now)) (heldIn (made .result .root) (made .last .1 .1 .0) (made .last .1 .1 .1 .0) (made .last .1 .1 .1 .1 .0) (made .last .1 .1 .1 .1 .1 .0)) (take (made .result .end) (made .last .1 .1 .1 .1 .1 .1 .0)) (made .ensures .1 .0)),
     )
 
 pub answer-rest-spec : {M : Type 1} → statement M
@@ -85,10 +91,12 @@ answer-rest-spec =
     same-length-2
     same-length-3
     same-length-4
-    returns
-    add-t13
     same-length-5
+    returns
+    add-t14
     same-length-6
     same-length-7
     same-length-8
+    same-length-9
+    same-length-10
     returns-2)

@@ -18,9 +18,7 @@ enum-told-2 : tie.Need-enum-told-2
 enum-told-2 c = search needs
 
 leave-requires : tie.Need-leave-requires
-leave-requires c κs =
-    let a = c .before .before .before .before .before .args in
-    number-fits (a .q) (a .row .now) (a .waits) (a .waits) (c .before .if2 .taken)
+leave-requires c κs = search needs
 
 enum-told-3 : tie.Need-enum-told-3
 enum-told-3 c = search needs

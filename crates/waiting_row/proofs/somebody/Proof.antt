@@ -5,11 +5,11 @@ use borrow.Author.Needs.{needs}
 use Rattle.waiting_row.proofs.somebody.Statement.{statement}
 use Rattle.waiting_row.proofs.somebody.Tie as tie
 
-gapless-requires : tie.Need-gapless-requires
-gapless-requires c κs = search needs
+clear-requires : tie.Need-clear-requires
+clear-requires c κs = search needs
 
 returns : tie.Need-returns
-returns c = ap not (c .gapless .ensures)
+returns c = ap not (c .clear .ensures)
 
 pub somebody-spec : {M : Type 1} → statement M
-somebody-spec = tie.close (tie.spec gapless-requires returns)
+somebody-spec = tie.close (tie.spec clear-requires returns)

@@ -1,12 +1,14 @@
 //! Random schedules of up to sixteen parties against the book: every answer is the book's note, calls are refused where
-//! they must be and nowhere else, some operation under way can always move, none takes more calls than the sizes allow,
-//! take-up passes exactly where none is under way, and at rest the records in the chains are the book's map.
+//! they must be and nowhere else, some operation under way can always move, nobody is overtaken at a lock, none takes
+//! more calls than the sizes allow, take-up passes exactly where none is under way, and at rest the records in the
+//! chains are the book's map.
 
 mod book;
 mod counted;
 mod pace;
 mod replaced;
 mod restored;
+mod waits;
 
 use crate::at_rest;
 use crate::callee::{Call, Callee, Reply, REQUESTING};
@@ -22,6 +24,7 @@ use book::Book;
 use counted::LONGEST;
 use pace::Pace;
 use restored::{RESTORED, RESTORED_PAGES};
+use waits::{request_of, Waits};
 
 /// One session in so many has the largest sizes.
 const LARGE_EVERY: u64 = 40;
@@ -39,6 +42,8 @@ pub struct Schedules {
     trial: Image,
     sizes: [u32; 5],
     book: Book,
+    /// Who waits.
+    waits: Waits,
     /// The calls that each party's operation has taken.
     taken: Vec<u32>,
     calls: u64,
@@ -95,10 +100,11 @@ impl Schedules {
         let names = waits.into_iter().chain(NAMES.map(String::from));
         Schedules {
             library,
-            image: Image::zero(0, 0, 0),
-            trial: Image::zero(0, 0, 0),
+            image: Image::zero(0, 0, 0, 0),
+            trial: Image::zero(0, 0, 0, 0),
             sizes: [0; 5],
             book: Book::new(0),
+            waits: Waits::default(),
             taken: Vec::new(),
             calls: 0,
             operations: 0,
@@ -135,20 +141,31 @@ impl Schedules {
         if let Call::Begin(..) = call {
             self.test_progress()?;
         }
+        let request = match call {
+            Call::Step(party) => request_of(&self.image, party),
+            _ => None,
+        };
         match (call, self.call(call)) {
             (Call::Format(sizes), [0, 0, 0, 0, 0]) => self.formatted(sizes[4]),
             (Call::Begin(party, operation, key, setting), [0, 0, 0, 0, 0]) => {
                 self.begun(party, operation, key, setting)
             }
-            (Call::Step(_), [0, 0, 0, 0, 0]) => return self.waited(number),
+            (Call::Step(party), [0, 0, 0, 0, 0]) => {
+                self.waited(number)?;
+                self.waits.waited(party, request)?;
+            }
             (Call::Step(party), [0, 1, 0, 0, 0]) => {
+                self.waits.performed(party, request)?;
                 self.count(party, true)?;
                 self.book.performed(party, number)
             }
-            (Call::Step(party), reply @ [0, 2, ..]) => return self.ended(party, number, reply),
+            (Call::Step(party), reply @ [0, 2, ..]) => {
+                self.waits.performed(party, request)?;
+                self.ended(party, number, reply)?;
+            }
             (_, reply) => return Err(format!("{call:?}: {reply:?} at step {number}")),
         }
-        Ok(())
+        self.waits.test_row(&self.image.row)
     }
 
     /// A withdraw of an operation under way is refused 7 once its decisive step is taken, and else accepted.
@@ -162,6 +179,8 @@ impl Schedules {
             [0, 0, 0, 0, 0] => {
                 self.met.add(WITHDRAWN);
                 self.book.withdrawn(party);
+                self.waits.left(party);
+                self.waits.test_row(&self.image.row)?;
                 self.test_progress()
             }
             reply => Err(format!("{call:?}: {reply:?} at step {step}")),
@@ -196,6 +215,7 @@ impl Schedules {
 
     fn formatted(&mut self, parties: u32) {
         self.book = Book::new(parties);
+        self.waits = Waits::default();
         self.taken = vec![0; parties as usize];
     }
 
@@ -242,6 +262,7 @@ impl Schedules {
         self.trial.copy_from(&self.image);
         for &party in &under_way {
             self.trials += 1;
+            self.trial.row.copy_from(&self.image.row);
             if let [0, 1 | 2, ..] = self.library.call(&mut self.trial, Call::Step(party)) {
                 return Ok(());
             }

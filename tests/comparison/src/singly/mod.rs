@@ -28,7 +28,7 @@ impl Singly {
     pub fn new(library: Box<dyn Callee>) -> Singly {
         Singly {
             library,
-            image: Image::zero(0, 0, 0),
+            image: Image::zero(0, 0, 0, 0),
             calls: 0,
             met: Met::new(),
         }

@@ -48,7 +48,7 @@ fn load(path: &Path) -> Result<Vec<u8>, String> {
 fn replay_transcript(script: &Path, callee: &mut dyn Callee) -> Result<usize, String> {
     let (given, expected) = (load(script)?, load(&script.with_extension("out"))?);
     let mut turns = Turns {
-        image: Image::zero(0, 0, 0),
+        image: Image::zero(0, 0, 0, 0),
         callee,
     };
     let lines: Vec<String> = given
@@ -142,6 +142,7 @@ fn image_of(value: &Value) -> Result<Image, String> {
         parties: part("parties")?,
         locks: part("locks")?,
         pages: part("pages")?,
+        row: part("row")?,
     })
 }
 

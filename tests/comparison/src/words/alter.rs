@@ -6,7 +6,8 @@ use bead_port::memory::{Root, FIRST_RECORD, LINK, LOCAL_LEVEL, PARTY_WORDS, RECO
 
 /// Alters one word; the root record's sizes are allowed and the lengths fit.
 pub fn alter(image: &mut Image, party: u32, random: &mut Random) {
-    match random.below(16) {
+    match random.below(18) {
+        16..=17 => alter_row(image, random),
         0..=1 => alter_root(image, random),
         2..=4 => alter_record(image, party, random),
         5..=7 => alter_lock(image, party, random),
@@ -152,10 +153,23 @@ fn alter_free_list(image: &mut Image, random: &mut Random) {
     image.page_mut(page)[LINK] = link;
 }
 
+/// Alters a word of who waits: nobody, somebody mostly, one above Q.
+fn alter_row(image: &mut Image, random: &mut Random) {
+    let (parties, length) = (image.root_record().parties, image.row.len() as u32);
+    let below = random.pick(&[1, 3, length]).min(length);
+    let place = random.below(below) as usize;
+    image.row[place] = match random.below(8) {
+        0 => 0,
+        1 => parties + 1,
+        2 => random.word(),
+        _ => random.between(1, parties),
+    };
+}
+
 /// Alters any word but the sizes.
 fn alter_anything(image: &mut Image, random: &mut Random) {
-    let part = random.below(4) as usize;
-    let words: &mut [u32] = image.parts_mut().into_iter().nth(part).expect("four parts");
+    let part = random.below(5) as usize;
+    let words: &mut [u32] = image.parts_mut().into_iter().nth(part).expect("five parts");
     let first = if part == 0 { 5 } else { 0 };
     let place = random.between(first, words.len() as u32 - 1) as usize;
     words[place] = if random.one_in(2) {

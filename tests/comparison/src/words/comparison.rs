@@ -4,7 +4,9 @@ use super::coverage::Coverage;
 use crate::callee::{failing, Call, Callee, Port, Reply};
 use crate::image::{Image, PART_NAMES};
 use crate::part::Outcome;
+use bead_port::locks;
 use bead_port::memory::PARTY_WORDS;
+use bead_port::waiting::{requested, Request};
 
 /// One that is held to the port: its name, what answers its calls, and its memory.
 struct Side {
@@ -31,6 +33,23 @@ impl Side {
     }
 }
 
+/// Whether the locks held permit what a party's next step requests.
+fn is_permitted(image: &Image, party: u32) -> bool {
+    let request = requested(&image.root_record(), &image.party(party));
+    request.map_or(false, |Request { word, mode }| {
+        let mut word = image.locks[word as usize];
+        locks::request(&mut word, mode, party)
+    })
+}
+
+/// Puts a party behind those who wait, unless it is there.
+fn join(row: &mut [u32], party: u32) {
+    let place = row.iter().position(|word| [0, party + 1].contains(word));
+    if let Some(place) = place {
+        row[place] = party + 1;
+    }
+}
+
 /// The port with its memory, those held to it, and what was met.
 pub struct Comparison {
     sides: Vec<Side>,
@@ -43,7 +62,7 @@ pub struct Comparison {
 
 impl Comparison {
     pub fn new(sides: Vec<(&'static str, Box<dyn Callee>)>) -> Comparison {
-        let empty = Image::zero(0, 0, 0);
+        let empty = Image::zero(0, 0, 0, 0);
         let side = |(name, callee)| Side {
             name,
             callee,
@@ -94,6 +113,12 @@ impl Comparison {
                 .situations
                 .count(&self.before, &self.ours, party);
         }
+        if let (Call::Step(party), [0, 0, ..]) = (call, reply) {
+            if is_permitted(&self.before, party) {
+                let step = self.before.party(party).step;
+                self.coverage.count_behind(step);
+            }
+        }
         if let (Call::TakeUp, [8, ..]) = (call, reply) {
             self.coverage.count_unsaved(&failing(&self.before));
         }
@@ -111,11 +136,15 @@ impl Comparison {
         }
     }
 
-    /// "Left as it was: all lent memory" where refused; "waiting (no word changes)"; by take-up "nothing altered".
-    fn test_unchanged(&self, call: Call, reply: Reply) -> Outcome<Reply> {
-        let waiting = matches!(call, Call::Step(_)) && reply == [0, 0, 0, 0, 0];
-        let looks = waiting || call == Call::TakeUp;
-        if (reply[0] != 0 || looks) && self.ours != self.before {
+    /// "Left as it was: all lent memory" where refused; by take-up "nothing altered"; "only the first waiting call alters
+    /// memory, and only this row".
+    fn test_unchanged(&mut self, call: Call, reply: Reply) -> Outcome<Reply> {
+        match call {
+            Call::Step(party) if reply == [0; 5] => join(&mut self.before.row, party),
+            _ if reply[0] == 0 && call != Call::TakeUp => return Ok(reply),
+            _ => {}
+        }
+        if self.ours != self.before {
             return Err(format!(
                 "{call:?}: memory changed by a call refused, waiting or looking{}",
                 self.told()
@@ -128,8 +157,9 @@ impl Comparison {
     fn told(&self) -> String {
         let records: Vec<&[u32]> = self.before.parties.chunks(PARTY_WORDS).collect();
         format!(
-            "\n  before: root {:?}, parties {records:?}",
-            &self.before.root[..]
+            "\n  before: root {:?}, parties {records:?}, who waits {:?}",
+            &self.before.root[..],
+            &self.before.row[..]
         )
     }
 }

@@ -29,6 +29,8 @@ const RESTRUCTURINGS: [(&str, usize); 5] = [
 pub struct Coverage {
     performed: [u64; STEPS],
     waited: [u64; STEPS],
+    /// Of these the ones that Table I would have granted: the party stood behind an earlier request.
+    behind: [u64; STEPS],
     ended: [u64; STEPS],
     answers: [u64; 7],
     restructurings: [u64; 5],
@@ -51,6 +53,7 @@ impl Coverage {
         Coverage {
             performed: [0; STEPS],
             waited: [0; STEPS],
+            behind: [0; STEPS],
             ended: [0; STEPS],
             answers: [0; 7],
             restructurings: [0; 5],
@@ -90,6 +93,11 @@ impl Coverage {
         }
     }
 
+    /// Counts a step that waits behind an earlier request and for no lock held.
+    pub fn count_behind(&mut self, step: u32) {
+        self.behind[(step as usize).min(STEPS - 1)] += 1;
+    }
+
     /// Counts a take-up refused 8 by the conditions that fail.
     pub fn count_unsaved(&mut self, failing: &[Condition]) {
         if let [condition] = failing {
@@ -119,12 +127,13 @@ impl Coverage {
     pub fn told(&self) -> String {
         let sum = |counts: &[u64]| counts.iter().sum::<u64>();
         format!(
-            "{} steps performed ({}), {} waits ({}), {} refused 6 ({} causes); {} taken up, {} refused 8, for one \
-             condition alone: {}",
+            "{} steps performed ({}), {} waits ({}), {} of them behind another alone, {} refused 6 ({} causes); \
+             {} taken up, {} refused 8, for one condition alone: {}",
             sum(&self.performed),
             STEPS - 1,
             sum(&self.waited),
             REQUESTING.len(),
+            sum(&self.behind),
             self.refusals[2][6],
             CAUSES.len(),
             self.refusals[4][0],
@@ -159,6 +168,7 @@ impl Coverage {
     pub fn rows(&self) -> Vec<Row> {
         let steps = (1..STEPS).map(|step| (format!("step {step} performed"), self.performed[step]));
         let waits = REQUESTING.map(|step| (format!("step {step} waiting"), self.waited[step]));
+        let behind = REQUESTING.map(|step| (format!("step {step} behind"), self.behind[step]));
         let ends = ENDING.map(|step| (format!("step {step} done"), self.ended[step]));
         let answers =
             ANSWERS.map(|(words, place)| (format!("answer {words}"), self.answers[place]));
@@ -172,6 +182,7 @@ impl Coverage {
             .iter()
             .flat_map(|(cause, words)| self.cause_rows(*cause, words));
         let ends = ends.into_iter().chain(answers).chain(made);
+        let waits = waits.into_iter().chain(behind);
         let all = steps.chain(waits).chain(ends).chain(refusals).chain(causes);
         all.chain(self.withdraw_rows())
             .chain(self.take_up_rows())

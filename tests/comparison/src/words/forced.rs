@@ -9,6 +9,7 @@ use crate::random::Random;
 use bead_port::memory::{
     Party, Root, DELETE, FIND, FIRST_RECORD, INSERT, LINK, LOCAL_LEVEL, RECORD_COUNT, RECORD_WORDS,
 };
+use bead_port::waiting::requested;
 
 /// Forces a step on a copy of the memory, alters some words, makes some calls, and puts the memory back.
 pub fn trial(comparison: &mut Comparison, random: &mut Random) -> Outcome<()> {
@@ -17,6 +18,9 @@ pub fn trial(comparison: &mut Comparison, random: &mut Random) -> Outcome<()> {
     let party = random.below(image.party_count() as u32);
     if image.party(party).operation == 0 || random.one_in(2) {
         force(&mut image, party, random);
+    }
+    if random.one_in(2) {
+        line_up(&mut image, random);
     }
     (0..random.pick(&[0, 1, 1, 2])).for_each(|_| alter(&mut image, party, random));
     comparison.lend(&image);
@@ -32,6 +36,21 @@ pub fn trial(comparison: &mut Comparison, random: &mut Random) -> Outcome<()> {
     comparison.call(Call::Step(random.below(image.party_count() as u32)))?;
     comparison.lend(&kept);
     Ok(())
+}
+
+/// Who waits: some of those whose next step requests a lock, in any order.
+fn line_up(image: &mut Image, random: &mut Random) {
+    let root = image.root_record();
+    let records = image.party_records();
+    let mut waiting: Vec<u32> = (1..)
+        .zip(&records)
+        .filter(|(_, record)| requested(&root, record).is_some())
+        .map(|(number, _)| number)
+        .collect();
+    random.shuffle(&mut waiting);
+    waiting.truncate(random.below(waiting.len() as u32 + 1) as usize);
+    image.row.fill(0);
+    image.row[..waiting.len()].copy_from_slice(&waiting);
 }
 
 /// The steps, those that read chains and lists more often.
@@ -99,12 +118,7 @@ fn fitting_chains(root: &Root, step: u32, random: &mut Random) -> (u32, u32) {
         return (root.next, chains);
     }
     if step >= 25 && chains > root.first_chains && !random.one_in(6) {
-        let after_target = if root.next == 0 {
-            root.level_chains() / 2
-        } else {
-            root.next
-        };
-        return (after_target - 1, chains - 1);
+        return (root.merge_target(), chains - 1);
     }
     (
         random.below(root.most_chains),

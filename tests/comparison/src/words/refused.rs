@@ -32,9 +32,9 @@ fn any(random: &mut Random) -> [u32; 5] {
 /// Lengths for sizes, which need not be allowed; one or more may be wrong by a little.
 fn memory(sizes: [u32; 5], random: &mut Random) -> Image {
     let [_, _, p, v, q] = sizes.map(|size| size.min(800) as usize);
-    let mut lengths = [q, p + 1, 16 * (p + v + q)];
+    let mut lengths = [q, p + 1, 16 * (p + v + q), q];
     if random.one_in(2) {
-        let place = random.below(3) as usize;
+        let place = random.below(4) as usize;
         let wrong = [
             lengths[place] + 1,
             lengths[place].saturating_sub(1),
@@ -43,7 +43,8 @@ fn memory(sizes: [u32; 5], random: &mut Random) -> Image {
         ];
         lengths[place] = random.pick(&wrong);
     }
-    Image::zero(lengths[0], lengths[1], lengths[2])
+    let [parties, locks, pages, row] = lengths;
+    Image::zero(parties, locks, pages, row)
 }
 
 /// Calls on memory whose sizes and lengths are as likely wrong as right.

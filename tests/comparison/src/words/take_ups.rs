@@ -131,7 +131,7 @@ fn first_free_lost(image: &mut Image) -> bool {
 
 /// Alters one word, of each part and of each kind of page now and then.
 fn alter(image: &mut Image, random: &mut Random) {
-    match random.below(12) {
+    match random.below(13) {
         0..=1 => {
             let place = random.below(ROOT_WORDS as u32) as usize;
             image.root[place] = another(image.root[place], random);
@@ -139,6 +139,7 @@ fn alter(image: &mut Image, random: &mut Random) {
         2 => alter_any(&mut image.parties, random),
         3 => alter_any(&mut image.locks, random),
         4 => alter_any(&mut image.pages, random),
+        5 => alter_any(&mut image.row, random),
         _ => alter_page(image, random),
     }
 }
@@ -155,8 +156,10 @@ fn alter_page(image: &mut Image, random: &mut Random) {
     let below = random.pick(&[1, 4, pages]).min(pages);
     let first = random.below(below);
     let links = random.pick(&[0, 0, 1, 2]);
-    let fits = root.sizes_allowed()
-        && root.lengths_fit(image.party_count(), image.locks.len(), image.pages.len());
+    let lengths = [&image.locks, &image.pages, &image.row].map(|part| part.len());
+    let [locks, page_words, row] = lengths;
+    let fits =
+        root.sizes_allowed() && root.lengths_fit(image.party_count(), locks, page_words, row);
     let number = image.follow(first, if fits { links } else { 0 });
     let records = FIRST_RECORD as u32;
     let choices = [

@@ -18,17 +18,8 @@ pub(super) fn request_target<D: Damage>(lent: &mut Lent<D>) -> Result<D> {
         lent.give_up(ROOT_LOCK, Mode::Exclusive);
         return lent.done_changed(Restructuring::MergeSkipped);
     }
-    let after_target = if lent.root.next == 0 {
-        lent.root.level_chains() / 2
-    } else {
-        lent.root.next
-    };
-    let target = after_target - 1;
-    if !locks::request(
-        &mut lent.locks[chain_lock(target)],
-        Mode::Exclusive,
-        lent.number,
-    ) {
+    let target = lent.root.merge_target();
+    if !lent.is_granted(chain_lock(target), Mode::Exclusive) {
         return Ok(Outcome::Waiting);
     }
     lent.party.chain = target;

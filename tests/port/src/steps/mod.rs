@@ -63,6 +63,7 @@ impl<D: Damage> Lent<'_, D> {
             locks: self.locks,
             pages: self.pages,
             number: self.number,
+            behind: self.behind,
             damage: self.damage,
         }
     }
@@ -140,11 +141,18 @@ impl<D: Damage> Lent<'_, D> {
 
     #[inline(always)]
     fn request(&mut self, lock: usize, mode: Mode, step: u32) -> Result<D> {
-        if locks::request(&mut self.locks[lock], mode, self.number) {
+        if self.is_granted(lock, mode) {
             self.move_to(step)
         } else {
             Ok(Outcome::Waiting)
         }
+    }
+
+    /// "Granted if the locks held permit it and if no earlier waiting request for the same lock conflicts with it"; then
+    /// the word names the party.
+    #[inline(always)]
+    fn is_granted(&mut self, lock: usize, mode: Mode) -> bool {
+        !self.behind && locks::request(&mut self.locks[lock], mode, self.number)
     }
 
     #[inline(always)]

@@ -4,7 +4,7 @@ use super::{chain_lock, Result, ROOT_LOCK};
 use crate::calls::Lent;
 use crate::chains::overflow_needed;
 use crate::damage::{Cause, Damage};
-use crate::locks::{self, Mode};
+use crate::locks::Mode;
 use crate::memory::{Record, LINK, SPLIT_MADE};
 use crate::mixing::mixed;
 use crate::reply::{Outcome, Restructuring};
@@ -18,11 +18,7 @@ pub(super) fn request_chain<D: Damage>(lent: &mut Lent<D>) -> Result<D> {
         lent.give_up(ROOT_LOCK, Mode::Selective);
         return lent.done_changed(Restructuring::SplitSkipped);
     }
-    if !locks::request(
-        &mut lent.locks[chain_lock(next)],
-        Mode::Selective,
-        lent.number,
-    ) {
+    if !lent.is_granted(chain_lock(next), Mode::Selective) {
         return Ok(Outcome::Waiting);
     }
     lent.party.chain = next;

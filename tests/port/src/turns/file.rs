@@ -1,4 +1,4 @@
-//! The file that turns holds: records, lock words and pages for the largest sizes, lent to each call as the sizes ask.
+//! The file that turns holds: records, lock words, pages and who waits, for the largest sizes, lent to each call as the sizes ask.
 
 use crate::forms::Form;
 use bead_port::calls;
@@ -18,6 +18,7 @@ pub struct File {
     parties: Vec<Party>,
     locks: Vec<u32>,
     pages: Vec<Page>,
+    row: Vec<u32>,
 }
 
 impl Default for File {
@@ -27,6 +28,7 @@ impl Default for File {
             parties: vec![Party::default(); MOST_PARTIES],
             locks: vec![0; MOST_LOCKS],
             pages: vec![EMPTY_PAGE; MOST_PAGES],
+            row: vec![0; MOST_PARTIES],
         }
     }
 }
@@ -85,18 +87,19 @@ impl File {
         };
         let (parties, locks, pages) = lengths(sizes);
         let words = pages * PAGE_WORDS;
+        let row = &mut self.row[..parties];
         let (root, parties) = (&mut self.root, &mut self.parties[..parties]);
         let (locks, pages) = (&mut self.locks[..locks], &mut self.pages[..pages]);
         match form {
             Form::Format(sizes) => {
-                match calls::format::<Unnamed>(root, parties, locks, pages, words, sizes) {
+                match calls::format::<Unnamed>(root, parties, locks, pages, words, row, sizes) {
                     Ok(()) => out.write_all(b"(format ok)\n"),
                     Err(cause) => writeln!(out, "(format (refused {}))", cause.number()),
                 }
             }
             Form::Begin(party, operation, key, setting) => {
                 let result = calls::begin::<Unnamed>(
-                    root, parties, locks, words, party, operation, key, setting,
+                    root, parties, locks, words, row, party, operation, key, setting,
                 );
                 match result {
                     Ok(()) => writeln!(out, "(begin {party} ok)"),
@@ -104,19 +107,21 @@ impl File {
                 }
             }
             Form::Step(party) => {
-                let result = calls::step::<Unnamed>(root, parties, locks, pages, words, party);
+                let result = calls::step::<Unnamed>(root, parties, locks, pages, words, row, party);
                 print_step(party, result, out)
             }
             Form::Withdraw(party) => {
-                match calls::withdraw::<Unnamed>(root, parties, locks, pages, words, party) {
+                match calls::withdraw::<Unnamed>(root, parties, locks, pages, words, row, party) {
                     Ok(()) => writeln!(out, "(withdraw {party} ok)"),
                     Err(cause) => writeln!(out, "(withdraw {party} (refused {}))", cause.number()),
                 }
             }
-            Form::TakeUp => match calls::take_up::<Unnamed>(root, parties, locks, pages, words) {
-                Ok(()) => out.write_all(b"(take-up ok)\n"),
-                Err(cause) => writeln!(out, "(take-up (refused {}))", cause.number()),
-            },
+            Form::TakeUp => {
+                match calls::take_up::<Unnamed>(root, parties, locks, pages, words, row) {
+                    Ok(()) => out.write_all(b"(take-up ok)\n"),
+                    Err(cause) => writeln!(out, "(take-up (refused {}))", cause.number()),
+                }
+            }
         }
     }
 }

@@ -6,6 +6,7 @@ mod locks;
 mod parties;
 mod root;
 mod scratch;
+mod waiting;
 
 pub use locks::held_by;
 pub use parties::operation;
@@ -22,6 +23,7 @@ pub fn of(memory: &Memory, requests: &[Request], words: &StepWords) -> View {
         section("File", root::rows(memory)),
         section("Parties", parties::rows(memory, requests, words)),
         section("Locks", locks::rows(memory, requests)),
+        section("Who waits", waiting::rows(memory, requests)),
         section("Chains", chains::rows(memory)),
         section("Free list", free_list::rows(memory)),
         section("Scratch pages", scratch::rows(memory)),

@@ -1,4 +1,4 @@
-//! The parties: what each has under way, its step, its locks, and for whom it waits.
+//! The parties: what each has under way, its step, its locks, for whom it waits, and behind whom.
 
 use crate::cells::{Cell, Row};
 use crate::memory::{linked, Memory, Request};
@@ -34,13 +34,15 @@ pub fn operation(record: &PartyRecord) -> String {
     }
 }
 
-/// The locks held and wanted, and who keeps the wanted one from being granted.
+/// The locks held and wanted, who keeps the wanted one from being granted, and behind whom the party stands.
 fn lock_cells(memory: &Memory, party: u32, request: &Request) -> Vec<Cell> {
     let holders = request.wait.iter().flat_map(|wait| &wait.holders);
+    let behind = request.wait.iter().flat_map(|wait| &wait.behind);
     vec![
         Cell::unless_empty("holds", locks::held_by(memory, party)),
         Cell::unless_empty("wants", request.wanted.map(locks::claim)),
         Cell::unless_empty("waits for", holders.map(|holder| format!("→{holder}"))),
+        Cell::unless_empty("behind", behind),
     ]
 }
 

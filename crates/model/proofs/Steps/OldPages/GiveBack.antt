@@ -2,7 +2,7 @@
 -- Main statement: step14-kept.
 use mathlib.Core.Path.{_≡_, refl, ap, _∙_}
 use mathlib.Core.Logic.{_≢_}
-use mathlib.Core.Bool.{true, false}
+use mathlib.Core.Bool.{true, false, true≢false}
 use mathlib.Core.List.{List, []}
 use mathlib.Core.Option.{none}
 use Prim.Native.Nat.{ℕ, _+_}
@@ -23,7 +23,7 @@ use Rattle.model.specs.Steps.OldPages.{step14, oldGivenBack}
 use Rattle.model.specs.FreeList.{roomToGiveBack, pagesGivenBack}
 use Rattle.model.specs.Endings.{onward, finished}
 use Rattle.model.specs.Steps.Dispatch.{hasStep}
-use Rattle.model.specs.Answers.{answerOf, refusalNumber}
+use Rattle.model.specs.Answers.{answerOf, refusalNumber, performs}
 use Rattle.model.specs.Outcome.{moved}
 use Rattle.model.proofs.Laws.Lists.{cond-ind, count-nil, eqb-true, eqb-same, eqb-diff, All}
 use Rattle.model.proofs.Laws.Pages.{Has, length-withPage, page-same, page-other, length-zeroPage}
@@ -34,7 +34,8 @@ use Rattle.model.proofs.Invariant.LockMoves.{locks-root}
 use Rattle.model.proofs.Invariant.Statement.{restructures, Scene, NoPages, PartyOk, resting, working, Settled, factsAt, Inv}
 use Rattle.model.proofs.Invariant.Turn.{Turn, claimsAt, me, note-still, uses-none, restructuresAt}
 use Rattle.model.proofs.Invariant.Frame.{restructures-at}
-use Rattle.model.proofs.Effects.Kept.{Kept, assemble, ahead-stays, Parts, moved-kept}
+use Rattle.model.proofs.Effects.Kept.{Kept, assemble, ahead-stays, asks-stay, Parts, moved-kept}
+use Rattle.model.proofs.Laws.WaitingRow.{RowOk}
 use Rattle.model.proofs.Effects.Moves.{busy-onto, names-old, split-owed, merge-owed, extents-rest}
 use Rattle.model.proofs.Effects.Touch.{own-scratch}
 use Rattle.model.proofs.Effects.Releases.{release-locks, Holds, holds-it, held-one}
@@ -117,7 +118,7 @@ module _ {m : Memory} {b : Book} {q : ℕ} (t : Turn m b q 14) where
   -- On to step 15 or 23, with the old link zeroed.
   goes-on : (n : ℕ) → hasStep (me t .operation) n ≡ true → claimsAt n (atStep n (withOld 0 (me t))) ≡ [] → restructuresAt n ≡ false
       → ((s : Scene) → Settled s q (atStep n (withOld 0 (me t))) (t .entered) → factsAt n s q (atStep n (withOld 0 (me t))) (t .entered))
-      → Kept m b q (moved (record { root = root-then; party = atStep n (withOld 0 (me t)); number = q; locks = locks-then; pages = given }))
+      → Kept m b q (moved (record { root = root-then; party = atStep n (withOld 0 (me t)); number = q; locks = locks-then; pages = given; behind = viewOf m q .behind }))
   goes-on n has no-claims rests settles =
       moved-kept t (note-still t refl)
       (given-parts given (atStep n (withOld 0 (me t))) b
@@ -150,12 +151,13 @@ module _ {m : Memory} {b : Book} {q : ℕ} (t : Turn m b q 14) where
       has-scratch : Has given (scratchPage (m .root) q)
       has-scratch = record { fits = omega (arith, given-long t oldKinds olds all-mine, t .inv .pages-many) }
 
-  finishes : Inv (record { root = root-then; parties = set (m .parties) q idle; locks = locks-then; pages = withPage given (scratchPage (m .root) q) zeroPage }) (withEntry b q none)
+  finishes : (row : List ℕ) → RowOk root-then (set (m .parties) q idle) row
+      → Inv (record { root = root-then; parties = set (m .parties) q idle; locks = locks-then; pages = withPage given (scratchPage (m .root) q) zeroPage; waiting = row }) (withEntry b q none)
   finishes =
       assemble m b (t .inv) q (t .in-row) root-then locks-then (withPage given (scratchPage (m .root) q) zeroPage) idle (withEntry b q none) ghost-then last-parts
 
   pub step14-kept : Kept m b q (step14 (viewOf m q))
-  unfolding step14 oldGivenBack roomToGiveBack pagesGivenBack givenUp withoutHold onward finished refusalNumber agreesWith afterReply isNoteOf isNote hasStep
+  unfolding step14 oldGivenBack roomToGiveBack pagesGivenBack givenUp withoutHold onward finished refusalNumber agreesWith afterReply isNoteOf isNote hasStep performs
   step14-kept =
       rw (named, listed, given-room t oldKinds olds all-mine, held-one t holds-chain)
       (cond-ind (Kept m b q) (eqb (me t .owed) 1) _ _
@@ -167,4 +169,6 @@ module _ {m : Memory} {b : Book} {q : ℕ} (t : Turn m b q 14) where
         right = rw (note-still t refl, t .busy .entry, t .facts .leaving .noted, same-answer (answerOf (me t .answer))) refl;
         inv = rw (note-still t refl) finishes;
         framed = ahead-stays m b (t .inv) q (t .in-row) root-then locks-then (withPage given (scratchPage (m .root) q) zeroPage) idle (withEntry b q none) ghost-then last-parts;
+        asks = asks-stay m b (t .inv) q (t .in-row) root-then locks-then (withPage given (scratchPage (m .root) q) zeroPage) idle (withEntry b q none) ghost-then last-parts;
+        stays = λ e. absurd (true≢false (ap performs e));
       })))
