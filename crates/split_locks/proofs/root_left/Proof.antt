@@ -1,11 +1,11 @@
 -- `split_locks::root_left` meets its contract.
 use mathlib.Core.Path.{ap, _∙_}
-use lib.ListN.{length-set}
+use lib.ListN.{set, length-set}
 use Rattle.model.specs.declared.Party.{Party}
 use Rattle.model.specs.Records.{atStep}
 use Rattle.model.specs.Outcome.{withParty}
 use Rattle.model.specs.Endings.{finished}
-use Rattle.records.specs.Words.{seen}
+use Rattle.records.specs.Words.{partyIn, seen}
 use Rattle.records.proofs.Words.{owed-written}
 use Rattle.split_locks.proofs.Splits.{done-where-no-old, old-first}
 use borrow.Author.Needs.{needs}
@@ -55,7 +55,8 @@ returns-2 c = λ ls.
     let a = start .args in
     let v = seen (a .root) (a .party .now) (a .q) ls (a .pages .now) in
     let owed = owed-written (a .party .now) 3 (start .pre .0) in
-    old-first v (at-if1 .if1 .left) (at-at-step .at-step .ensures ∙ ap (λ (p : Party). atStep 13 p) owed)
+    let stored = atStep 13 (partyIn (set (a .party .now) 7 3)) in
+    old-first v (at-if1 .if1 .left) (_∙_ {b = stored} (at-at-step .at-step .ensures) (ap (λ (p : Party). atStep 13 p) owed))
 
 pub root-left-spec : {M : Type 1} → statement M
 root-left-spec =
