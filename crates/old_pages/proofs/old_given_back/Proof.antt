@@ -2,7 +2,7 @@
 use mathlib.Core.Path.{sym, ap, subst, _∙_}
 use Prim.Native.Nat.{_+_, _≤_, _<_}
 use native.Mathlib.Omega.{arith}
-use lib.ListN.{length, length-set}
+use lib.ListN.{length, set, length-set}
 use borrow.Author.Tests.{not-true, not-false}
 use Rattle.model.specs.declared.Root.{Root}
 use Rattle.model.specs.Chains.{listFrom}
@@ -137,7 +137,9 @@ same-length-4 c = search needs
 same-length-5 : tie.Need-same-length-5
 same-length-5 c =
     let at-onward = c .before .before .before .before in
-    at-onward .onward .kept .1 .0 ∙ simp length-set
+    let start = at-onward .before .before .before .before .before .before .before .before .before .before .before .before .before .before .before .before .before .before .before .before .before .before .before .before in
+    let zeroed = set (start .args .party .now) 6 0 in
+    _∙_ {b = length zeroed} (at-onward .onward .kept .1 .0) (simp length-set)
 
 same-length-6 : tie.Need-same-length-6
 same-length-6 c = search needs
