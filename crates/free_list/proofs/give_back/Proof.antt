@@ -5,7 +5,7 @@ use Prim.Native.Nat.{ℕ, _+_, _-_, _*_, _≤_}
 use lib.ListN.{length}
 use mathlib.Core.List.{List}
 use Rattle.model.specs.Sizes.{pageWords}
-use Rattle.model.specs.Pages.{withPage}
+use Rattle.model.specs.Pages.{withPage, linkOf}
 use Rattle.model.specs.Chains.{listFrom}
 use Rattle.model.specs.FreeList.{givenBack}
 use Rattle.free_list.specs.Giving.{listed}
@@ -65,12 +65,14 @@ loop-again c =
     let l = c .before .before .before .before .before .before .before .before .before .loop in
     let more = c .before .before .before .before .before .before .before .before .loop-test .taken in
     let stored = c .before .before .before .store in
+    let loaded = c .before .before .before .before .before .before .load in
+    let next : c .link-of .result ≡ linkOf (loaded .result) = c .link-of .ensures in
     let fits : pageWords * (a .root .primaries + a .root .overflow) ≤ length (l .pages) = omega arith in (
       stored .kept .0 ∙ l .inv .0,
       one-given (a .root) _ (l .pages) (l .head) (l .l) (l .left) more fits (l .inv .1)
           (stored .ensures ∙ ap (λ (w : List ℕ). withPage (l .pages) (l .l - 1) w) (c .before .before .before .before .before .free-page .ensures))
           (search needs)
-          (cc)
+          (next ∙ ap linkOf (loaded .ensures))
           (omega arith),
     )
 
