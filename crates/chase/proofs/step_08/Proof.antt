@@ -1,6 +1,11 @@
 -- `chase::step_08` meets its contract: what release_step ensures, at the word and the mode worked out.
-use mathlib.Core.Path.{refl}
+use mathlib.Core.Path.{refl, _∙_}
+use mathlib.Core.List.{[], _∷_}
+use Rattle.model.specs.Records.{atStep}
+use Rattle.model.specs.LockWords.{claim}
+use Rattle.model.specs.LockRequests.{release}
 use Rattle.model.specs.Steps.Chase.{step08}
+use Rattle.records.specs.Words.{seen}
 use Rattle.lock_requests.proofs.Releases.{release-on-equals}
 use borrow.Author.Needs.{needs}
 use Rattle.chase.proofs.step_08.Statement.{statement}
@@ -30,7 +35,10 @@ returns c = λ r ps.
     let at-release-step = c .before .before .before .before in
     let at-mode-of = at-release-step .before .before .before in
     let at-chain-word = at-mode-of .before .before in
-    release-on-equals _ (at-chain-word .chain-word .ensures) (at-mode-of .mode-of .ensures) refl (at-release-step .release-step .ensures r ps)
+    let a = at-chain-word .before .before .before .before .args in
+    let v = seen r (a .party .now) (a .q) (a .locks .now) ps in
+    let released = release v (claim (at-chain-word .chain-word .result) (at-mode-of .mode-of .result) ∷ []) (atStep 6 (v .party)) in
+    _∙_ {b = released} (at-release-step .release-step .ensures r ps) (release-on-equals v (at-chain-word .chain-word .ensures) (at-mode-of .mode-of .ensures) refl refl)
 
 pub step-08-spec : {M : Type 1} → statement M
 step-08-spec =
