@@ -1,5 +1,6 @@
 -- `split_write::step_20` meets its contract.
 use mathlib.Core.Path.{sym, subst, _∙_}
+use lib.ListN.{length-set}
 use Rattle.model.specs.declared.Root.{Root}
 use Rattle.addresses.specs.Fits.{RootFits}
 use Rattle.addresses.proofs.Limits.{ready-root-fits}
@@ -24,8 +25,12 @@ slice-write-root c = search needs
 at-step-requires : tie.Need-at-step-requires
 at-step-requires c κs = search needs
 
+-- The root's word 6 is written, next.
 same-length : tie.Need-same-length
-same-length c = search needs
+same-length c =
+    let at-split-next = c .before .before .before .before in
+    let start = at-split-next .before .before .before .before .before .before .before in
+    length-set (start .args .root .now) 6 (at-split-next .split-next .result)
 
 same-length-2 : tie.Need-same-length-2
 same-length-2 c = search needs
