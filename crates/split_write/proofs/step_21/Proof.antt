@@ -1,7 +1,8 @@
 -- `split_write::step_21` meets its contract.
 use mathlib.Core.Path.{sym, subst, _∙_}
-use Rattle.model.specs.declared.Root.{Root}
 use Prim.Native.Nat.{_≤_}
+use lib.ListN.{length-set}
+use Rattle.model.specs.declared.Root.{Root}
 use Rattle.records.specs.Words.{rootIn, seen}
 use Rattle.records.proofs.Words.{level-written, root-is}
 use Rattle.split_write.proofs.Splits.{level-moved}
@@ -23,8 +24,12 @@ slice-write-root c = search needs
 at-step-requires : tie.Need-at-step-requires
 at-step-requires c κs = search needs
 
+-- The root's word 5 is written, level.
 same-length : tie.Need-same-length
-same-length c = search needs
+same-length c =
+    let at-split-level = c .before .before .before .before in
+    let start = at-split-level .before .before .before .before .before .before .before in
+    length-set (start .args .root .now) 5 (at-split-level .split-level .result)
 
 same-length-2 : tie.Need-same-length-2
 same-length-2 c = search needs
