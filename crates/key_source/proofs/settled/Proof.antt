@@ -45,7 +45,7 @@ loop-again : tie.Need-loop-again Inv-loop μ-loop
 loop-again c =
     let l = c .before .before .before .before .before .before .before in
     let a = l .before .before .args in
-    let none = c .before .before .before .before .before .if1 .taken in
+    let none : l .loop .q .left ≡ 0 = omega (arith, c .before .before .before .before .before .if1 .taken) in
     let over = page-over (a .pages .now) (l .loop .q) (l .loop .inv .0) none (omega (arith, c .before .before .before .if2 .left)) in
     (c .first-place .ensures .0, c .first-place .ensures .2 ∙ sym over ∙ l .loop .inv .1)
 
