@@ -18,7 +18,8 @@ returns c =
     let at-hash = c .before .before .before in
     let at-mixed = at-hash .before in
     let h = at-mixed .before .args .h in
-    ap (λ (n : ℕ). eqb n (h .chain .0)) (at-hash .hash .ensures ∙ ap (hashOf (h .originals) (h .level)) (at-mixed .mixed .ensures))
+    let home = hashOf (h .originals) (h .level) (at-mixed .mixed .result) in
+    ap (λ (n : ℕ). eqb n (h .chain .0)) (_∙_ {b = home} (at-hash .hash .ensures) (ap (hashOf (h .originals) (h .level)) (at-mixed .mixed .ensures)))
 
 pub stays-spec : {M : Type 1} → statement M
 stays-spec = tie.close (tie.spec mixed-requires hash-requires returns)
