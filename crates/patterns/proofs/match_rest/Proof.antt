@@ -27,7 +27,8 @@ returns c =
     let l = a .line .now in
     let m = matchFrom p [] (drop (a .at) l) in
     let answer = c .before .before .match-at .ensures in
-    answer ∙ matched-to-end (length l) m (shorter p l (a .at)) (sym (ap (λ (x : Match). x .next) answer) ∙ c .if1 .taken)
+    let at-end : c .before .before .match-at .result .next ≡ length l = omega (arith, c .if1 .taken) in
+    answer ∙ matched-to-end (length l) m (shorter p l (a .at)) (sym (ap (λ (x : Match). x .next) answer) ∙ at-end)
 
 returns-2 : tie.Need-returns-2
 returns-2 c =
