@@ -1,5 +1,5 @@
 -- `merge_build::combine` meets its contract: Cases has its ends, Combines what was read of both chains.
-use mathlib.Core.Path.{sym, ap, ap₂, _∙_}
+use mathlib.Core.Path.{_≡_, sym, ap, ap₂, _∙_}
 use Prim.Native.Nat.{_+_, _≤_}
 use native.Mathlib.Omega.{arith}
 use lib.ListN.{length-set}
@@ -205,7 +205,8 @@ returns-3 c =
     let many = many-joined (a .root) p (a .q) (a .t) (a .u) (a .locks .now) ps can (f .result) (s .result) (f .ensures .0) (f .ensures .2) (s .ensures .0) (s .ensures .2) in
     let page = at-load .load .ensures in
     let level = at-level-of .level-of .ensures ∙ ap levelOf page ∙ t .level in
-    let link = at-link-of .link-of .ensures ∙ ap linkOf page ∙ t .link in
+    let of-target : at-link-of .link-of .result ≡ linkOf (at-load .load .result) = at-link-of .link-of .ensures in
+    let link = of-target ∙ ap linkOf page ∙ t .link in
     let fits : a .t .count + a .u .count ≤ a .root .capacity = omega (arith, at-if2 .if2 .left) in
     let filled = page-filled (a .root) p (a .q) (a .t) (a .u) (a .locks .now) ps can (f .result) (s .result) (f .ensures .0) (f .ensures .2) (s .ensures .0) (s .ensures .2) level fits (at-joined-page .joined-page .ensures) in
     let party = at-at-step .at-step .ensures ∙ ap (atStep 27) (old-written p (at-link-of .link-of .result) (can .at-hand .words) ∙ ap (λ l. withOld l (partyIn p)) link) in
