@@ -1,5 +1,5 @@
 -- `last_locks::ended_with_merge` meets its contract: the three locks are tested and given up one after the other.
-use mathlib.Core.Path.{ap₂, _∙_}
+use mathlib.Core.Path.{_≡_, ap₂, _∙_}
 use mathlib.Core.List.{List, [], _∷_}
 use Prim.Native.Nat.{ℕ}
 use Rattle.model.specs.declared.Mode.the-variants.{Exclusive}
@@ -7,7 +7,7 @@ use Rattle.model.specs.LockWords.{Claim, claim, rootWord}
 use Rattle.model.specs.Endings.{endedWith}
 use Rattle.records.specs.Words.{partyIn, seen}
 use Rattle.endings.proofs.Scratching.{ready-has-scratch}
-use Rattle.last_locks.proofs.Ended.{unheld-refused, held-ends, first-unheld, first-held, none-unheld, none-left, first-left}
+use Rattle.last_locks.proofs.Ended.{releasedFrom, unheld-refused, held-ends, first-unheld, first-held, none-unheld, none-left, first-left}
 use borrow.Author.Needs.{needs}
 use Rattle.last_locks.proofs.ended_with_merge.Statement.{statement}
 use Rattle.last_locks.proofs.ended_with_merge.Tie as tie
@@ -165,7 +165,10 @@ returns-4 c =
     let named = ap₂ (λ (x y : ℕ). endedWith v (locks x y) (a .made)) (at-chain-word .chain-word .ensures) (at-chain-word2 .chain-word2 .ensures) in
     let held = first-held v root (chain ∷ (other ∷ [])) (at-held .held .ensures) (at-if1 .if1 .left) ∙ first-held v chain (other ∷ []) (at-held2 .held2 .ensures) (at-if2 .if2 .left) ∙ first-held v other [] (at-held3 .held3 .ensures) (at-if3 .if3 .left) ∙ none-unheld v in
     let none = none-left (a .root) p (a .q) (a .pages .now) _ in
-    let last = first-left (a .root) p (a .q) (a .pages .now) other [] _ (at-release3 .release3 .ensures) none in
+    let second = at-release2 .release2 .last .0 in
+    let third = at-release3 .release3 .last .0 in
+    let partner : third ≡ releasedFrom (a .q) second other = at-release3 .release3 .ensures in
+    let last = first-left (a .root) p (a .q) (a .pages .now) other [] second partner none in
     let left = first-left (a .root) p (a .q) (a .pages .now) root (chain ∷ (other ∷ [])) (a .locks .now) (at-release .release .ensures) (first-left (a .root) p (a .q) (a .pages .now) chain (other ∷ []) _ (at-release2 .release2 .ensures) last) in
     held-ends v (root ∷ (chain ∷ (other ∷ []))) (a .made) held (at-answer-of .answer-of .ensures) left (at-done .done .ensures p _) ∙ named
 
