@@ -1,13 +1,15 @@
 -- `forms::put_step_reply` meets its contract.
-use mathlib.Core.Path.{sym, ap, _∙_}
+use mathlib.Core.Path.{_≡_, refl, sym, ap, _∙_}
 use mathlib.Core.List.{[], _∷_, _++_}
+use Prim.Native.Nat.{ℕ, _+_}
 use native.Mathlib.Omega.{arith}
 use lib.ListN.{length}
 use lib.Seq.{length-sets}
 use Rattle.model.specs.declared.StepAnswer.{StepAnswer}
+use Rattle.model.specs.declared.StepAnswer.the-variants as StepAnswer
 use Rattle.forms.specs.declared.Reply.the-variants as Reply
 use Rattle.patterns.specs.Patterns.{filled, symbolText, numbersAfter}
-use Rattle.forms.specs.Replies.{replyPattern, replyNumbers, stepPattern, stepNumbers, replyText, stepDone, answerText, restructuringText}
+use Rattle.forms.specs.Replies.{replyPattern, replyNumbers, stepPattern, stepNumbers, replyText, stepDone, stepRefused, answerText, restructuringText}
 use Rattle.patterns.proofs.Theorems.{longest, filled-short}
 use Rattle.forms.proofs.Puts.{room, put-as, put-then}
 use Rattle.forms.proofs.Words.{answer-short, done-text}
@@ -88,11 +90,20 @@ returns-2 c =
 same-length-3 : tie.Need-same-length-3
 same-length-3 c = search needs
 
-returns-3 : tie.Need-returns-3
+-- A refusal's two numbers, the party's first, in the pattern are the reply's text.
+refused-text : (q n : ℕ) → filled stepRefused (q ∷ (n ∷ (0 ∷ (0 ∷ (0 ∷ []))))) ≡ replyText (Reply.Step q (StepAnswer.Refused n))
 unfolding replyText replyPattern replyNumbers stepPattern stepNumbers filled symbolText numbersAfter
+refused-text q n = refl
+
+returns-3 : tie.Need-returns-3
 returns-3 c =
     let a = c .before .before .before .before .before .before .before .before .before .args in
-    put-as _ _ _ _ (sym (ap (λ (x : StepAnswer). replyText (Reply.Step (a .q) x)) (c .before .before .before .before .before .before .answer .given .1))) (c .before .before .fill .ensures)
+    let bound = c .before .before .before .before .before .before .answer .given in
+    let n = bound .0 .0 in
+    let text = filled stepRefused (a .q ∷ (n ∷ (0 ∷ (0 ∷ (0 ∷ []))))) in
+    let put = c .before .before .fill in
+    let end : put .result ≡ a .at + length text = put .ensures .0 in
+    put-as (a .at) (a .out .now) text _ (refused-text (a .q) n ∙ sym (ap (λ (x : StepAnswer). replyText (Reply.Step (a .q) x)) (bound .1))) (end, put .ensures .1)
 
 same-length-4 : tie.Need-same-length-4
 same-length-4 c = search needs
