@@ -26,8 +26,10 @@ returns c =
     let k = start .before .args .k in
     let word = word-given (start .table .ensures) in
     let lowest = ap (λ (x : ℕ). tableWord 0 (x % 256)) (div-one k) in
+    let first = c .before .before .before .before .before .before .word-0 in
+    let picked : first .result ≡ inRow (getD (start .table .result) 0 []) (k % 256) = first .ensures in
     rw (
-      c .before .before .before .before .before .before .word-0 .ensures ∙ word 0 (k % 256) (omega arith) ∙ sym lowest,
+      picked ∙ word 0 (k % 256) (omega arith) ∙ sym lowest,
       c .before .before .before .before .word-1 .ensures ∙ word 1 (byteOf 1 k) (omega arith),
       c .before .before .word-2 .ensures ∙ word 2 (byteOf 2 k) (omega arith),
       c .word-3 .ensures ∙ word 3 (byteOf 3 k) (omega arith),
