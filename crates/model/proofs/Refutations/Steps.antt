@@ -1,6 +1,7 @@
 -- Single steps, run on one small file: damage that a step tests for itself is refused 6, beside the words that differ
 -- in one place and pass; and what some steps leave.
 -- Main statements: old-at-13, old-at-14, old-at-29, full-at-17, few-at-26, few-at-27, bottom-at-28 (damage);
+-- skipped-at-17 (too few free pages);
 -- halves-at-17, joined-at-26, turned-at-27, lowered-at-28, taken-back-head (what is left); words-listed, locks-listed
 -- (the table of the steps); below-next (addresses); entered (the book).
 use mathlib.Core.Path.{_≡_, refl}
@@ -83,6 +84,21 @@ old-at-29 = refl
 full-at-17 : stepOf 17 (seen all 1 1 (at 17 2 0) 2) .answer ∷ ran all 17 2 0 .answer ∷ [] ≡ harm ∷ StepAnswer.Moved ∷ []
 unfolding opened
 full-at-17 = refl
+
+-- The same file with b = 1 and n free pages: both records of chain 0 are in one half, which needs an overflow page.
+abbrev short : ℕ → View
+short n = record {
+  root = rootOf 1 1 3 3 1 1 0 6 n;
+  party = at 17 2 0;
+  number = 0;
+  locks = replicate 4 all;
+  pages = seen all 1 0 (at 17 2 0) 2 .pages;
+  behind = false;
+}
+
+skipped-at-17 : stepOf 17 (short 0) .answer ∷ stepOf 17 (short 1) .answer ∷ [] ≡ StepAnswer.Done OperationAnswer.Deleted Restructuring.SplitSkipped ∷ StepAnswer.Moved ∷ []
+unfolding opened
+skipped-at-17 = refl
 
 -- n = N: one chain.
 few-at-26 : stepOf 26 (seen all 0 0 (at 26 1 0) 2) .answer ∷ ran all 26 1 0 .answer ∷ [] ≡ harm ∷ StepAnswer.Moved ∷ []
