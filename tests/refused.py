@@ -1,4 +1,4 @@
-"""How a must-fail edit was refused, from what the check said.
+"""Must-fail edits: what one changes, and how it was refused, from what the check said.
 
 - values: an arithmetic fails, with the numbers at which it does, or two sides compute to different numbers or constructors;
 - terms: two sides, computed as far as they go, are different terms, and a definition that stays shut is not all in which they differ;
@@ -112,6 +112,22 @@ def judged(log, name):
         return next((fact for fact in found if fact[0] == 'values'), found[0])
     place = by_text(log, name)
     return ('text', place) if place else ('no fact', 'see its log')
+
+
+def changed(edit, crate):
+    """The new texts of the files of a crate's folder that an edit changes; None where an old text does not stand in its file once."""
+    texts, place, old = {}, None, None
+    for line in edit.read_text(encoding='utf-8').split('\n'):
+        if line.startswith('file: '):
+            place = crate / line[6:]
+            texts.setdefault(place, place.read_text(encoding='utf-8'))
+        elif line.startswith('old: '):
+            old = line[5:]
+        elif line.startswith('new:'):
+            if texts[place].count(old) != 1:
+                return None
+            texts[place] = texts[place].replace(old, line[5:])
+    return texts
 
 
 CONSTRUCTORS = constructors()
