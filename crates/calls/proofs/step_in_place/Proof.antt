@@ -64,8 +64,9 @@ returns-2 c = λ row ws many long here right.
     let p = partyIn (a .party .now) in
     let causing : Root → Party → ℕ = λ x y. stepCause x y (a .parties) (length (a .locks .now)) (length (a .pages .now)) (a .waiting) (a .q) true in
     let first = at-step-cause .step-cause .ensures ∙ ap₂ causing (at-root-of .root-of .ensures) (at-party-of .party-of .ensures) in
+    let unsound = not-true (a .place .sound) (c .if2 .taken) in
     let cause = row-refused r p (a .parties) (length (a .locks .now)) (length (a .pages .now)) (a .waiting) (a .q) (sym first ∙ at-if1 .if1 .left)
-    ∙ ap (stepCause r p (a .parties) (length (a .locks .now)) (length (a .pages .now)) (a .waiting) (a .q)) (sym (not-true _ (c .if2 .taken))) in
+    ∙ ap (stepCause r p (a .parties) (length (a .locks .now)) (length (a .pages .now)) (a .waiting) (a .q)) (sym unsound) in
     step-refused r row (a .locks .now) (a .pages .now) ws (a .parties) (a .waiting) many long (a .q) _ p (a .place) here right cause (omega arith)
 
 held-back-requires : tie.Need-held-back-requires
