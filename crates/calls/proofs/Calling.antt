@@ -2,13 +2,13 @@
 -- party stands behind another, and where not.
 use mathlib.Core.Path.{_≡_, refl, sym, ap, _∙_}
 use mathlib.Core.Logic.{_≢_}
-use mathlib.Core.Bool.{Bool, true, false, cond, not, _&&_}
+use mathlib.Core.Bool.{Bool, true, false, cond, not, _&&_, _||_}
 use mathlib.Core.List.{List, [], _∷_, reverse}
 use Prim.Native.Nat.{ℕ, zero, suc, _<_, _≤_}
 use native.Mathlib.Omega.{arith}
 use lib.ListN.{length, set, replicate}
 use lib.Dec.{eqb, ltb}
-use borrow.Author.Tests.{ne-eqb, ltb-true, ltb-false}
+use borrow.Author.Tests.{ne-eqb, ltb-true, ltb-false, not-false}
 use Rattle.model.specs.declared.Root.{Root}
 use Rattle.model.specs.declared.Party.{Party}
 use Rattle.model.specs.declared.StepAnswer.{StepAnswer}
@@ -37,9 +37,9 @@ use Rattle.model.specs.Calls.{called, formatCall, beginCall, stepCall, withdraw
 use Rattle.model.specs.Withdraw.{Withdrawal, withdrawal, withdrawnTo, takenBack, takenBackSoundly, builtPages, withdrawn}
 use Rattle.model.proofs.Withdrawing.Undone.{withBehind}
 use Rattle.model.proofs.Laws.Booleans.{and-left, and-right}
-use Rattle.model.proofs.Laws.Lists.{leb-true}
+use Rattle.model.proofs.Laws.Lists.{leb-true, or-neither}
 use Rattle.refusals.specs.Causes.{placeRows, soundRow, formatCause, placeCause, beginCause, stepCause, withdrawCause}
-use Rattle.refusals.proofs.Accepted.{format-cause-is, begin-cause-is, step-cause-is, withdraw-cause-is, past-row-refused, number-below, row-length, within-limits, place-of-step, place-of-withdraw, same-step-cause, same-withdraw-cause, root-of-step}
+use Rattle.refusals.proofs.Accepted.{format-cause-is, begin-cause-is, step-cause-is, withdraw-cause-is, past-row-refused, number-below, row-length, within-limits, place-of-step, place-of-withdraw, same-step-cause, same-withdraw-cause, root-of-step, sound-of-step}
 use Rattle.refusals.proofs.Causes.{earlier-stands, place-stands-at-step, place-stands-at-withdraw}
 use Rattle.waiting_row.specs.declared.Place.{Place}
 use Rattle.waiting_row.specs.Entry.{placeOf}
@@ -198,6 +198,13 @@ module _ (r : Root) (row : List Party) (ls ps ws : List ℕ) (parties waiting : 
     row-told : placeCause r parties (length ls) (length ps) waiting q ≡ 0 → rootSound r ≡ true → rowSound r row ws ≡ at .sound
     row-told passed whole = sym (ap (λ (x : Place). x .sound) (place-is passed whole))
 
+    -- A step that meets no cause before the row's, and does not go apart, has a sound row.
+    pub goes-sound : stepCause r p parties (length ls) (length ps) waiting q true ≡ 0 → at .apart ≡ false → at .sound ≡ true
+    goes-sound none goes =
+        let place = place-is (place-of-step r p parties (length ls) (length ps) waiting q true none) (root-of-step r p parties (length ls) (length ps) waiting q true none) in
+        let told : (not (rowSound r row ws) || standsBehind r row ws q) ≡ false = sym (ap (λ (x : Place). x .apart) place) ∙ goes in
+        ap (λ (x : Place). x .sound) place ∙ not-false (rowSound r row ws) (or-neither (not (rowSound r row ws)) (standsBehind r row ws q) told .0)
+
     module _ (cause : c ≡ stepCause r p parties (length ls) (length ps) waiting q (at .sound)) where
       first-of-step : firstCause (stepRows m q) ≡ c
       first-of-step =
@@ -218,10 +225,15 @@ module _ (r : Root) (row : List Party) (ls ps ws : List ℕ) (parties waiting : 
         in-row : partyAt row q ≡ p
         in-row = here (number-below r parties (length ls) (length ps) waiting q passes)
 
-        behind-is : at .behind ≡ standsBehind r row ws q
-        behind-is = ap (λ (x : Place). x .behind) (place-is passes (root-of-step r p parties (length ls) (length ps) waiting q (at .sound) (sym cause ∙ none)))
+        -- A step that meets no cause has a sound row, so that it goes apart only where its party stands behind another.
+        behind-is : at .apart ≡ standsBehind r row ws q
+        behind-is =
+            let first = sym cause ∙ none in
+            let place = place-is passes (root-of-step r p parties (length ls) (length ps) waiting q (at .sound) first) in
+            let whole : rowSound r row ws ≡ true = sym (ap (λ (x : Place). x .sound) place) ∙ sound-of-step r p parties (length ls) (length ps) waiting q (at .sound) first in
+            ap (λ (x : Place). x .apart) place ∙ ap (λ (b : Bool). not b || standsBehind r row ws q) whole
 
-        pub step-stepped : at .behind ≡ false → {a : StepAnswer} {r′ : Root} {p′ : Party} {ls′ ps′ : List ℕ}
+        pub step-stepped : at .apart ≡ false → {a : StepAnswer} {r′ : Root} {p′ : Party} {ls′ ps′ : List ℕ}
             → outcome a (viewing r′ p′ q ls′ ps′) ≡ stepOf (p .step) (viewing r p q ls ps)
             → called a (lent r′ (set row q p′) ls′ ps′ (rowAfter q ws a)) ≡ stepCall (lent r row ls ps ws) q
         unfolding stepCall stepped
@@ -229,7 +241,7 @@ module _ (r : Root) (row : List Party) (ls ps ws : List ℕ) (parties waiting : 
             ap (λ (o : Outcome). called (o .answer) (withWaiting (rowAfter q ws (o .answer)) (afterStep m (o .after)))) e
             ∙ rw (first-of-step, none, in-row, sym behind-is ∙ free) refl
 
-        pub step-held : at .behind ≡ true → (a : StepAnswer) → a ≡ heldAnswer r p
+        pub step-held : at .apart ≡ true → (a : StepAnswer) → a ≡ heldAnswer r p
             → called a (lent r (set row q p) ls ps (rowAfter q ws a)) ≡ stepCall (lent r row ls ps ws) q
         unfolding stepCall stepped
         step-held held a e =

@@ -144,10 +144,10 @@ fn step_in_place(
     if cause != NO_CAUSE {
         return StepAnswer::Refused(cause);
     }
-    if !place.sound {
-        return StepAnswer::Refused(DAMAGE);
-    }
-    if place.behind {
+    if place.apart {
+        if !place.sound {
+            return StepAnswer::Refused(DAMAGE);
+        }
         return held_back(r, p);
     }
     dispatch::step_by_number(root, party, q, locks, pages)

@@ -257,6 +257,6 @@ pub fn take_up(
     ensures { λ r. ⌜ called r (heldIn root (now (row .entry)) (now (locks .entry)) (now (pages .entry)) (now (waiting .entry))) ≡ heldTakeUp (heldIn root (now (row .entry)) (now (locks .entry)) (now (pages .entry)) (now (waiting .entry))) ⌝ }
 {
     let n = records_lent(root.parties, row.len());
-    let idle = all_idle(row, n) & waiting_row::clear(waiting);
+    let idle = waiting_row::at_rest(all_idle(row, n), waiting);
     calls::take_up(root, idle, n, locks, pages, waiting.len())
 }

@@ -166,6 +166,6 @@ TakenSaid r t parties ls gs waiting x =
     (row : List Party) (ws : List ℕ) → length row ≡ parties → length ws ≡ waiting → (allIdle row && allZero ws) ≡ t
     → called x (lent r row ls gs ws) ≡ takeUpCall (lent r row ls gs ws)
 
-pub taken-up : (r : Root) (ps : List Party) (ls gs ws : List ℕ) (t u : Bool) (x : TakeUpAnswer) → t ≡ allIdle ps → u ≡ allZero ws
-    → TakenSaid r (t && u) (length ps) ls gs (length ws) x → called x (lent r ps ls gs ws) ≡ takeUpCall (lent r ps ls gs ws)
-taken-up r ps ls gs ws t u x told clear said = said ps ws refl refl (ap₂ _&&_ (sym told) (sym clear))
+pub taken-up : (r : Root) (ps : List Party) (ls gs ws : List ℕ) (t u : Bool) (x : TakeUpAnswer) → t ≡ allIdle ps → u ≡ (t && allZero ws)
+    → TakenSaid r u (length ps) ls gs (length ws) x → called x (lent r ps ls gs ws) ≡ takeUpCall (lent r ps ls gs ws)
+taken-up r ps ls gs ws t u x told rest said = said ps ws refl refl (sym (rest ∙ ap (λ (b : Bool). b && allZero ws) told))

@@ -216,6 +216,6 @@ pub fn take_up(
     ensures { λ r. ⌜ called r (lent (now (root .entry)) (now (parties .entry)) (now (locks .entry)) (now (pages .entry)) (now (waiting .entry))) ≡ takeUpCall (lent (now (root .entry)) (now (parties .entry)) (now (locks .entry)) (now (pages .entry)) (now (waiting .entry))) ⌝ }
 {
     let former = *root;
-    let idle = all_idle(parties) & waiting_row::clear(waiting);
+    let idle = waiting_row::at_rest(all_idle(parties), waiting);
     calls::take_up(former, idle, parties.len(), locks, pages, waiting.len())
 }

@@ -96,19 +96,19 @@ module _ (v u : View) (k : ℕ) (kept : keptBy k u ≡ keptBy k v) where
 
   moved-marked : Marked v k (moved u)
   unfolding writesTable isAmong
-  moved-marked = record { number= = ap (λ (x : Kept). x .number) kept; leaves = go (locates k) refl (advances k) refl }
+  moved-marked = record { number= = ap (λ (x : Kept). x .number) kept; leaves = go (advances k) refl (locates k) refl }
     where
-      go : (b : Bool) → locates k ≡ b → (c : Bool) → advances k ≡ c → Leaves (v .root) (v .party) k StepAnswer.Moved (u .root) (u .party)
+      go : (b : Bool) → advances k ≡ b → (c : Bool) → locates k ≡ c → Leaves (v .root) (v .party) k StepAnswer.Moved (u .root) (u .party)
       go true e c f =
-          let root = same-root (λ j. not (locates j)) (ap not e) refl refl refl in
-          let party = located-party (λ j. not (locates j)) (ap not e) refl refl refl in
+          let root = same-root (λ j. not (advances j)) (ap not e) refl refl refl in
+          let located = located-party (λ j. not (advances j)) (ap not e) refl refl refl in
+          let party = advanced-party (λ j. not (advances j)) (ap not e) refl refl located in
           record { root= = rw e root; party= = rw e party }
       go false e true f =
-          let root = same-root (λ j. not (advances j)) (ap not f) refl refl refl in
-          let located = located-party (λ j. not (advances j)) (ap not f) refl refl refl in
-          let party = advanced-party (λ j. not (advances j)) (ap not f) refl refl located in
+          let root = same-root (λ j. not (locates j)) (ap not f) refl refl refl in
+          let party = located-party (λ j. not (locates j)) (ap not f) refl refl refl in
           record { root= = rw (e, f) root; party= = rw (e, f) party }
-      go false e false f = record { root= = rw (e, f) moved-root; party= = rw (e, f) (changed-party locates e refl) }
+      go false e false f = record { root= = rw (e, f) moved-root; party= = rw (e, f) (changed-party locates f refl) }
 
 -- ---- Every step
 

@@ -18,18 +18,19 @@ use Rattle.marks.specs.declared.Mark.the-variants as Mark
 abbrev pub locates : ℕ → Bool
 locates k = ltb k 10
 
--- Whether a step from 10 on changes the step number alone.
+-- Whether a step that moves changes the step number alone.
 abbrev pub advances : ℕ → Bool
 advances k =
+    let locate = (((eqb k 1 || eqb k 4) || eqb k 5) || eqb k 7) || eqb k 8 in
     let change = (eqb k 11 || eqb k 12) || eqb k 13 in
     let split = (eqb k 15 || eqb k 18) || eqb k 19 in
     let merge = (eqb k 23 || eqb k 25) || eqb k 28 in
-    (change || split) || merge
+    ((locate || change) || split) || merge
 
 -- The mark of step k that answered so.
 abbrev pub markOf : ℕ → StepAnswer → Mark
 markOf k StepAnswer.Waiting = Mark.Advanced
-markOf k StepAnswer.Moved = cond (locates k) Mark.Located (cond (advances k) Mark.Advanced Mark.Changed)
+markOf k StepAnswer.Moved = cond (advances k) Mark.Advanced (cond (locates k) Mark.Located Mark.Changed)
 markOf k (StepAnswer.Done a s) = Mark.Ended
 markOf k (StepAnswer.Refused n) = Mark.Advanced
 

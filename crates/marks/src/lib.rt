@@ -42,27 +42,28 @@ pub enum Mark {
     Changed,
 }
 
-// Whether a step from 10 on changes the step number alone.
+// Whether a step that moves changes the step number alone.
 fn advances(k: u32) -> bool
     ensures { λ r. ⌜ r ≡ advances k ⌝ }
 {
+    let locate = (k == 1) | (k == 4) | (k == 5) | (k == 7) | (k == 8);
     let change = (k == 11) | (k == 12) | (k == 13);
     let split = (k == 15) | (k == 18) | (k == 19);
     let merge = (k == 23) | (k == 25) | (k == 28);
-    change | split | merge
+    locate | change | split | merge
 }
 
-// The mark of a step with this number that answered so. Steps 1 to 9 locate.
+// The mark of a step with this number that answered so. The others of 1 to 9 locate.
 pub fn marked(k: u32, answer: StepAnswer) -> Mark
     ensures { λ r. ⌜ r ≡ markOf k answer ⌝ }
 {
     match answer {
         StepAnswer::Waiting => Mark::Advanced,
         StepAnswer::Moved => {
-            if k < 10 {
-                Mark::Located
-            } else if advances(k) {
+            if advances(k) {
                 Mark::Advanced
+            } else if k < 10 {
+                Mark::Located
             } else {
                 Mark::Changed
             }

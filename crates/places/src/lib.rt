@@ -44,12 +44,12 @@ pub fn standing(root: &Root, parties: &[Party], row: &[u32], q: u32) -> Place
     }
 }
 
-// The same, quicker where nobody waits.
+// The same, quicker where nobody waits: only else are the slices' places in memory made, for a call out of line.
 pub fn placing(root: &Root, parties: &[Party], row: &[u32], q: u32) -> Place
     ensures { λ r. ⌜ (q < length (now (parties .entry)) → now (root .entry) .parties ≤ 16 → length (now (parties .entry)) ≡ now (root .entry) .parties → now (root .entry) .level ≤ 8 → r ≡ placeOf (now (root .entry)) (now (parties .entry)) (now (row .entry)) q) ⌝ }
 {
     if waiting_row::somebody(row) {
-        return standing(root, parties, row, q);
+        return standing(root, &parties[..], &row[..], q);
     } else {
         return waiting_row::nobody();
     }

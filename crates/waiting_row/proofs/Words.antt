@@ -62,14 +62,10 @@ or-test a b = go (cmp a 0)
     go (same e) = rw e refl
     go (diff n) = rw (eqb-diff a 0 n) (or-some a b n)
 
-pub zero-next : (all : ℕ) (row : List ℕ) (i : ℕ) → i < length row
-    → (eqb all 0 && allZero (drop i row)) ≡ (eqb (bitOr all (getD row i 0)) 0 && allZero (drop (i + 1) row))
+pub zero-next : (all : Bool) (row : List ℕ) (i : ℕ) → i < length row
+    → (all && allZero (drop i row)) ≡ ((all && eqb (getD row i 0) 0) && allZero (drop (i + 1) row))
 unfolding allZero
-zero-next all row i h = rw (next-word row i h, or-test all (getD row i 0)) (go (eqb all 0))
-  where
-    go : (t : Bool) → (t && (eqb (getD row i 0) 0 && allZero (drop (i + 1) row))) ≡ ((t && eqb (getD row i 0) 0) && allZero (drop (i + 1) row))
-    go true = refl
-    go false = refl
+zero-next all row i h = rw (next-word row i h) (sym (and-assoc all (eqb (getD row i 0) 0) (allZero (drop (i + 1) row))))
 
 -- Eight words.
 pub eight-zero : (row : List ℕ) (at : ℕ) → at + 8 ≤ length row
@@ -96,6 +92,9 @@ eight-or-more n e = ltb-false n 8 (or-neither (ltb n 8) (ltb 16 n) e .0)
 
 pub sixteen-or-less : (n : ℕ) → (ltb n 8 || ltb 16 n) ≡ false → n ≤ 16
 sixteen-or-less n e = ltb-false 16 n (or-neither (ltb n 8) (ltb 16 n) e .1)
+
+pub nine-or-more : (n : ℕ) → (ltb n 9 || ltb 16 n) ≡ false → (9 ≤ n) × (n ≤ 16)
+nine-or-more n e = (ltb-false n 9 (or-neither (ltb n 9) (ltb 16 n) e .0), ltb-false 16 n (or-neither (ltb n 9) (ltb 16 n) e .1))
 
 -- A look at eight words from each end of 8 to 16.
 pub ends-meet : (row : List ℕ) (from : ℕ) → length row ≤ 16 → from + 8 ≤ length row
@@ -126,9 +125,9 @@ ends-meet row from l h = eq-of-iff both one
         both-and (and-both (allZero (take 8 rest)) (allZero (drop 8 rest)) (sym (zero-split 8 rest) ∙ e) .0)
         (ap allZero (last ∙ far) ∙ zero-after (length row - 8 - from) rest e)
 
-pub zero-end : (all : ℕ) (row : List ℕ) (i : ℕ) → length row ≤ i → (eqb all 0 && allZero (drop i row)) ≡ eqb all 0
+pub zero-end : (all : Bool) (row : List ℕ) (i : ℕ) → length row ≤ i → (all && allZero (drop i row)) ≡ all
 unfolding allZero
-zero-end all row i h = rw (drop-of-length-le row h) (go (eqb all 0))
+zero-end all row i h = rw (drop-of-length-le row h) (go all)
   where
     go : (t : Bool) → (t && true) ≡ t
     go true = refl
@@ -139,6 +138,12 @@ pub first-waits : (row : List ℕ) → 0 < length row → getD row 0 0 ≢ 0 →
 unfolding allZero
 first-waits [] h n = absurd (omega arith)
 first-waits (w ∷ ws) h n = rw (eqb-diff w 0 n) refl
+
+-- A first word that is 0.
+pub others-wait : (row : List ℕ) → 0 < length row → getD row 0 0 ≡ 0 → allZero (drop 1 row) ≡ allZero row
+unfolding allZero
+others-wait [] h e = absurd (omega arith)
+others-wait (w ∷ ws) h e = rw e refl
 
 -- Two looks or-ed.
 pub both-zero : (a b : ℕ) (x y : Bool) → eqb a 0 ≡ x → eqb b 0 ≡ y → eqb (bitOr a b) 0 ≡ (x && y)

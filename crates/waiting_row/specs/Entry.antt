@@ -22,14 +22,15 @@ use Rattle.waiting_row.specs.Requested.{strengthIn, wordIn, asks, clash}
 -- Where party q stands, of these records and this row.
 abbrev pub placeOf : Root → List Party → List ℕ → ℕ → Place
 placeOf r ps row q = record {
-  sound = rowSound r ps row;
   waits = isAmong q (waitersIn row);
+  apart = not (rowSound r ps row) || standsBehind r ps row q;
+  sound = rowSound r ps row;
   behind = standsBehind r ps row q;
 }
 
 -- Where nobody waits.
 abbrev pub alone : Place
-alone = record { sound = true; waits = false; behind = false }
+alone = record { waits = false; apart = false; sound = true; behind = false }
 
 -- Before the first entry.
 unfoldable pub firstSeen : Root → Party → Bool → Looking
@@ -43,7 +44,7 @@ firstSeen r p gapless = record {
 }
 
 abbrev pub placedBy : Looking → Place
-placedBy s = record { sound = s .sound; waits = s .waits; behind = s .behind }
+placedBy s = record { waits = s .waits; apart = not (s .sound) || s .behind; sound = s .sound; behind = s .behind }
 
 -- ---- One entry
 

@@ -6,7 +6,7 @@
 // (proofs/Words.antt, after-right), after_withdraw what a withdraw does.
 
 ghost use mathlib.Core.Path.{_≡_};
-ghost use mathlib.Core.Bool.{false, not};
+ghost use mathlib.Core.Bool.{false, not, _&&_};
 ghost use mathlib.Core.List.{[], _∷_, _++_};
 ghost use mathlib.Core.Option.{some};
 ghost use Prim.Native.Nat.{_+_, _<_, _≤_};
@@ -124,10 +124,12 @@ pub fn word_of(root: Root, party: Party) -> u64
 
 // ---- The row, looked at
 
-// Where a party stands: whether the row is sound, whether the party is in it, and whether it stands behind another.
+// Where a party stands: whether it is in the row; whether its step is not the one that its record names, since the row
+// is damaged or the party stands behind another, and which of the two.
 pub struct Place {
-    pub sound: bool,
     pub waits: bool,
+    pub apart: bool,
+    pub sound: bool,
     pub behind: bool,
 }
 
@@ -225,8 +227,9 @@ pub fn placed(seen: Looking) -> Place
     ensures { λ r. ⌜ r ≡ placedBy seen ⌝ }
 {
     Place {
-        sound: seen.sound,
         waits: seen.waits,
+        apart: !seen.sound | seen.behind,
+        sound: seen.sound,
         behind: seen.behind,
     }
 }
@@ -236,8 +239,9 @@ pub fn nobody() -> Place
     ensures { λ r. ⌜ r ≡ alone ⌝ }
 {
     Place {
-        sound: true,
         waits: false,
+        apart: false,
+        sound: true,
         behind: false,
     }
 }
@@ -265,13 +269,13 @@ fn eight(row: &[u32], at: usize) -> u32
 fn zero_from(row: &[u32], from: usize) -> bool
     ensures { λ r. ⌜ r ≡ allZero (drop from (now (row .entry))) ⌝ }
 {
-    let mut all: u32 = 0;
+    let mut all = true;
     let mut i: usize = from;
     while i < row.len() {
-        all |= row[i];
+        all = all & (row[i] == 0);
         i += 1;
     }
-    all == 0
+    all
 }
 
 // The same, of 8 to 16 words by a look from each end.
@@ -288,18 +292,29 @@ pub fn gapless(row: &[u32], from: usize) -> bool
     eight(row, from) | eight(row, n - 8) == 0
 }
 
-// Whether nobody waits: every word is 0. Where somebody does, the first word says so.
+// Whether nobody waits: every word is 0. Where somebody does, the first word says so; the others of 9 to 16 are seen by
+// a look from each end.
 pub fn clear(row: &[u32]) -> bool
     ensures { λ r. ⌜ r ≡ allZero (now (row .entry)) ⌝ }
 {
     let n = row.len();
-    if (n < 8) | (16 < n) {
+    if (n < 9) | (16 < n) {
         return zero_from(row, 0);
     }
     if row[0] != 0 {
         return false;
     }
-    eight(row, 0) | eight(row, n - 8) == 0
+    eight(row, 1) | eight(row, n - 8) == 0
+}
+
+// Whether nobody waits either, where all are idle or not as `idle` says.
+pub fn at_rest(idle: bool, row: &[u32]) -> bool
+    ensures { λ r. ⌜ r ≡ (idle && allZero (now (row .entry))) ⌝ }
+{
+    if idle {
+        return clear(row);
+    }
+    false
 }
 
 // Whether anybody waits.

@@ -18,7 +18,7 @@ use ghost.Atoms.{Atoms, sem}
 use contract.Monad.{Fun, fact}
 use contract.Running.{givenOf, tables, tablesOf}
 use types.Kit.{Given, ‵, raw, some, later, _⊛_, ⋆, _$_, _∵_, !, qed, by, move, keep, drop, use1, use2, split, join, pick, rewrite, fsplit, fsplit3, fjoin, suffices, frame, await, done}
-use types.Run.{look, look-raw, init, stop, hop, fld, from, load, of-opd, bin, and-then, no-more, assigns, land, returns, enter, alloc1, alloc0, params1, pass1, pass0}
+use types.Run.{look, look-raw, init, stop, hop, fld, from, load, of-opd, and-then, no-more, assigns, land, returns, enter, alloc1, alloc0, params1, pass1, pass0}
 use Rattle.walks.proofs.Leaving.{occupied, freed}
 use types.Part.{whole, sub, look-in}
 use sound.WpLaws.{FmC, fmOf, WpFn-mono}
@@ -59,10 +59,10 @@ use Rattle.index.proofs.all_idle as idle
 use Rattle.index.proofs.all_idle.Symbol as idle-def
 use Rattle.index.proofs.all_idle.Symbol.{name as #index·all-idle}
 use Rattle.index.proofs.all_idle.Met as idle-thm
-use Rattle.waiting_row.proofs.clear as clear
-use Rattle.waiting_row.proofs.clear.Symbol as clear-def
-use Rattle.waiting_row.proofs.clear.Symbol.{name as #waiting-row·clear}
-use Rattle.waiting_row.proofs.clear.Met as clear-thm
+use Rattle.waiting_row.proofs.at_rest as rest
+use Rattle.waiting_row.proofs.at_rest.Symbol as rest-def
+use Rattle.waiting_row.proofs.at_rest.Symbol.{name as #waiting-row·at-rest}
+use Rattle.waiting_row.proofs.at_rest.Met as rest-thm
 use Rattle.calls.proofs.take_up as core
 use Rattle.calls.proofs.take_up.Symbol as core-def
 use Rattle.calls.proofs.take_up.Symbol.{name as #calls·take-up}
@@ -83,8 +83,8 @@ module _ {M : Type 1} (𝓤 : URA M) (H : Heap 𝓤) (A : Atoms 𝓤) (mem′ : 
   abbrev IdleC : Contract 𝓤
   IdleC = tripleOf 𝓤 H A idle.signature (idle.spec 𝓤 H A mem′ run)
 
-  abbrev ClearC : Contract 𝓤
-  ClearC = tripleOf 𝓤 H A clear.signature (clear.spec 𝓤 H A mem′ run)
+  abbrev RestC : Contract 𝓤
+  RestC = tripleOf 𝓤 H A rest.signature (rest.spec 𝓤 H A mem′ run)
 
   abbrev CoreC : Contract 𝓤
   CoreC = tripleOf 𝓤 H A core.signature (core.spec 𝓤 H A mem′ run)
@@ -139,16 +139,16 @@ module _ {M : Type 1} (𝓤 : URA M) (H : Heap 𝓤) (A : Atoms 𝓤) (W : Given
   goes-idle =
       qed W ((‵ (flft κ₁ q₁)) ∷ (‵ (ShrSlice (named 1) κ₁ P.the-row .own x₁ (s₁ ∷ []))) ∷ []) ∵ nothing ! $ move ! (1 ∷ 0 ∷ []) $ join ! $ nothing ! $ move ! (2 ∷ 0 ∷ []) $ fjoin ! $ move ! (1 ∷ 0 ∷ []) $ join ! $ frame ! $ done !
 
-  -- the call of `waiting_row::clear`: what it is passed, and that it may be entered
-  abbrev clear-args : RefT (List ℕ) × Unit {0}
-  clear-args = (x₄, tt)
+  -- the call of `waiting_row::at_rest`: what it is passed, and that it may be entered
+  abbrev rest-args : Bool → Bool × (RefT (List ℕ) × Unit {0})
+  rest-args t = (t, (x₄, tt))
 
-  abbrev to-clear : ClearC 𝓤 H A mem′ run .Ghost
-  to-clear = (((κ₄, tt), (q₄, tt), tt, clear-args, (s₄ ∷ [], tt)), tt)
+  abbrev to-rest : Bool → RestC 𝓤 H A mem′ run .Ghost
+  to-rest t = (((κ₄, tt), (q₄, tt), tt, (rest-args t), (vbool t ∷ [], (s₄ ∷ [], tt))), tt)
 
-  goes-clear : ent 𝓤 (sep 𝓤 (A .lft κ₄ q₄) (sem 𝓤 H A (ShrSlice (named 4) κ₄ u32 .own x₄ (s₄ ∷ [])))) (ClearC 𝓤 H A mem′ run .pre to-clear)
-  goes-clear =
-      qed W ((‵ (flft κ₄ q₄)) ∷ (‵ (ShrSlice (named 4) κ₄ u32 .own x₄ (s₄ ∷ []))) ∷ []) ∵ nothing ! $ move ! (1 ∷ 0 ∷ []) $ join ! $ nothing ! $ move ! (2 ∷ 0 ∷ []) $ fjoin ! $ move ! (1 ∷ 0 ∷ []) $ join ! $ frame ! $ done !
+  goes-rest : (t : Bool) → ent 𝓤 (sep 𝓤 (A .lft κ₄ q₄) (sem 𝓤 H A (ShrSlice (named 4) κ₄ u32 .own x₄ (s₄ ∷ [])))) (RestC 𝓤 H A mem′ run .pre (to-rest t))
+  goes-rest t =
+      qed W ((‵ (flft κ₄ q₄)) ∷ (‵ (ShrSlice (named 4) κ₄ u32 .own x₄ (s₄ ∷ []))) ∷ []) ∵ nothing ! $ move ! (1 ∷ 0 ∷ []) $ join ! $ nothing ! $ move ! (2 ∷ 0 ∷ []) $ fjoin ! $ owned ! bool (Is bool) (bool-makes 𝓤 H A W) t _ refl $ fjoin ! $ move ! (1 ∷ 0 ∷ []) $ join ! $ frame ! $ done !
 
   -- the call of `calls::take_up`: what it is passed, and that it may be entered
   abbrev core-args : Bool → Root × (Bool × (ℕ × (RefT (List ℕ) × (RefT (List ℕ) × (ℕ × Unit {0})))))
@@ -169,19 +169,19 @@ module _ {M : Type 1} (𝓤 : URA M) (H : Heap 𝓤) (A : Atoms 𝓤) (W : Given
       suffices ! _ (ends-at 𝓤 H A it.ended stayed (it.clauses 𝓤 H A mem′ run) W (((κ₀, (κ₁, (κ₂, (κ₃, (κ₄, tt))))), (q₀, (q₁, (q₂, (q₃, (q₄, tt))))), tt, a, vals), tt) (U′.lowered answer) answer (tt, (tt, (tt, (tt, (tt, tt))))) (tt, (tt, (tt, (tt, (tt, tt)))))) $ says ! ends $
       nothing ! $ move ! (5 ∷ 0 ∷ []) $ join ! $ move ! (4 ∷ 0 ∷ []) $ join ! $ move ! (3 ∷ 0 ∷ []) $ join ! $ move ! (2 ∷ 0 ∷ []) $ join ! $ move ! (1 ∷ 0 ∷ []) $ join ! $ frame ! $ nothing ! $ move ! (5 ∷ 0 ∷ []) $ fjoin ! $ move ! (4 ∷ 0 ∷ []) $ fjoin ! $ move ! (3 ∷ 0 ∷ []) $ fjoin ! $ move ! (2 ∷ 0 ∷ []) $ fjoin ! $ move ! (1 ∷ 0 ∷ []) $ fjoin ! $ owned ! U.the-row (Is U.the-row) (EL.makes U.the-type U′.the-plain 𝓤 H A) answer _ is $ move ! (1 ∷ 0 ∷ []) $ done !
 
-  module _ (C : Calls 𝓤 H) (Λ : Loops 𝓤 H) (fm : FmC 𝓤 H (W .laws) C) (known-idle : Triple 𝓤 (C #index·all-idle) (IdleC 𝓤 H A mem′ run)) (known-clear : Triple 𝓤 (C #waiting-row·clear) (ClearC 𝓤 H A mem′ run)) (known-core : Triple 𝓤 (C #calls·take-up) (CoreC 𝓤 H A mem′ run)) where
+  module _ (C : Calls 𝓤 H) (Λ : Loops 𝓤 H) (fm : FmC 𝓤 H (W .laws) C) (known-idle : Triple 𝓤 (C #index·all-idle) (IdleC 𝓤 H A mem′ run)) (known-rest : Triple 𝓤 (C #waiting-row·at-rest) (RestC 𝓤 H A mem′ run)) (known-core : Triple 𝓤 (C #calls·take-up) (CoreC 𝓤 H A mem′ run)) where
     walk : ent 𝓤 (onEntry 𝓤 H A it.signature (κ₀, (κ₁, (κ₂, (κ₃, (κ₄, tt))))) (q₀, (q₁, (q₂, (q₃, (q₄, tt))))) a vals) (WpFn 𝓤 H C Λ code.function (vptr b₀ o₀ ∷ s₁ ∷ s₂ ∷ s₃ ∷ s₄ ∷ []) Post)
     walk =
         qed W ((‵ (flft κ₀ q₀) ⊛ ‵ (flft κ₁ q₁) ⊛ ‵ (flft κ₂ q₂) ⊛ ‵ (flft κ₃ q₃) ⊛ ‵ (flft κ₄ q₄) ⊛ ‵ ftrue) ∷ ‵ (owns (ShrRef (named 0) κ₀ R.the-row ∷ ShrSlice (named 1) κ₁ P.the-row ∷ ShrSlice (named 2) κ₂ u32 ∷ ShrSlice (named 3) κ₃ u32 ∷ ShrSlice (named 4) κ₄ u32 ∷ []) a vals) ∷ []) ∵
         enter ! C Λ code.function (vptr b₀ o₀ ∷ s₁ ∷ s₂ ∷ s₃ ∷ s₄ ∷ []) _ $
-        alloc1 ! (λ l₀. alloc1 ! (λ l₁. alloc1 ! (λ l₂. alloc1 ! (λ l₃. alloc1 ! (λ l₄. alloc1 ! (λ l₅. alloc1 ! (λ l₆. alloc1 ! (λ l₇. alloc1 ! (λ l₈. alloc1 ! (λ l₉. alloc1 ! (λ l₁₀. alloc1 ! (λ l₁₁. alloc0 ! $ params1 ! $
-        pass1 ! (init ! 20 refl (tt, tt)) $
-        pass1 ! (init ! 18 refl (tt, (tt, (record { fits = room₁ .0 }, tt)))) $
-        pass1 ! (init ! 16 refl (tt, (tt, (record { fits = room₂ .0 }, tt)))) $
-        pass1 ! (init ! 14 refl (tt, (tt, (record { fits = room₃ .0 }, tt)))) $
-        pass1 ! (init ! 12 refl (tt, (tt, (record { fits = room₄ .0 }, tt)))) $
+        alloc1 ! (λ l₀. alloc1 ! (λ l₁. alloc1 ! (λ l₂. alloc1 ! (λ l₃. alloc1 ! (λ l₄. alloc1 ! (λ l₅. alloc1 ! (λ l₆. alloc1 ! (λ l₇. alloc1 ! (λ l₈. alloc1 ! (λ l₉. alloc1 ! (λ l₁₀. alloc0 ! $ params1 ! $
+        pass1 ! (init ! 18 refl (tt, tt)) $
+        pass1 ! (init ! 16 refl (tt, (tt, (record { fits = room₁ .0 }, tt)))) $
+        pass1 ! (init ! 14 refl (tt, (tt, (record { fits = room₂ .0 }, tt)))) $
+        pass1 ! (init ! 12 refl (tt, (tt, (record { fits = room₃ .0 }, tt)))) $
+        pass1 ! (init ! 10 refl (tt, (tt, (record { fits = room₄ .0 }, tt)))) $
         pass0 ! $
-        move ! (24 ∷ []) $
+        move ! (22 ∷ []) $
         split ! $
         move ! (1 ∷ []) $
         split ! $
@@ -191,7 +191,7 @@ module _ {M : Type 1} (𝓤 : URA M) (H : Heap 𝓤) (A : Atoms 𝓤) (W : Given
         split ! $
         move ! (1 ∷ []) $
         split ! $
-        move ! (30 ∷ []) $
+        move ! (28 ∷ []) $
         fsplit ! $
         move ! (1 ∷ []) $
         fsplit ! $
@@ -211,7 +211,7 @@ module _ {M : Type 1} (𝓤 : URA M) (H : Heap 𝓤) (A : Atoms 𝓤) (W : Given
         spelt ! R.the-row (Is R.the-row) (shows 𝓤 H A R.the-row) (λ d. R′.lowered d ∷ []) (R′.lowers .val-is) share h vs b₀ o₀ $
         move ! (1 ∷ []) $
         peeks ! R.the-row (Is R.the-row) (shows 𝓤 H A R.the-row) h (R′.lowered h ∷ []) (λ is.
-        assigns ! (of-opd ! (load ! (from ! (hop ! (look ! 36 refl) (stop !))) (look-raw ! 1 refl))) (from ! (stop !)) (init ! 26 refl (LL.lawful R.the-type R′.the-laws 𝓤 H A W .typed h _ is .0)) $
+        assigns ! (of-opd ! (load ! (from ! (hop ! (look ! 34 refl) (stop !))) (look-raw ! 1 refl))) (from ! (stop !)) (init ! 24 refl (LL.lawful R.the-type R′.the-laws 𝓤 H A W .typed h _ is .0)) $
         move ! (1 ∷ 0 ∷ 2 ∷ []) $
         shuts ! tt R.the-row share h (R′.lowered h ∷ []) b₀ o₀ $
         -- `index::all_idle`
@@ -220,7 +220,7 @@ module _ {M : Type 1} (𝓤 : URA M) (H : Heap 𝓤) (A : Atoms 𝓤) (W : Given
         split ! $
         move ! (14 ∷ 0 ∷ []) $
         use2 W (raw (IdleC 𝓤 H A mem′ run .pre to-idle)) goes-idle $
-        calls-at ! fm (IdleC 𝓤 H A mem′ run) known-idle to-idle (and-then ! (load ! (from ! (stop !)) (look ! 32 refl)) (no-more !)) (λ ret.
+        calls-at ! fm (IdleC 𝓤 H A mem′ run) known-idle to-idle (and-then ! (load ! (from ! (stop !)) (look ! 30 refl)) (no-more !)) (λ ret.
         use1 W (later (some (λ (t : Bool). ((‵ (flft κ₁ q₁) ⊛ ‵ ftrue) ⊛ ‵ (bool .own t (ret ∷ []))) ⊛ raw (ensured 𝓤 H A idle.ended (idle.clauses 𝓤 H A mem′ run) (κ₁, tt) idle-args tt t)))) (id⊢ 𝓤 _) $ await ! tt $ pick ! (λ t.
         split ! $
         move ! (1 ∷ []) $
@@ -233,34 +233,33 @@ module _ {M : Type 1} (𝓤 : URA M) (H : Heap 𝓤) (A : Atoms 𝓤) (W : Given
         split ! $
         move ! (2 ∷ []) $
         peeks ! bool (Is bool) (shows 𝓤 H A bool) t (ret ∷ []) (λ it.
-        land ! (from ! (stop !)) (init ! 23 refl (bool-lawful 𝓤 H A W .typed t _ it .0)) $
-        rewrite ! 23 (λ (u : Val). ‵ (fat fullShare tyBool l₈ 0 u)) (ap only (bool-tells t _ it)) refl $
+        land ! (from ! (stop !)) (init ! 21 refl (bool-lawful 𝓤 H A W .typed t _ it .0)) $
+        rewrite ! 21 (λ (u : Val). ‵ (fat fullShare tyBool l₈ 0 u)) (ap only (bool-tells t _ it)) refl $
         drop ! $
-        -- `waiting_row::clear`
+        -- `waiting_row::at_rest`
         move ! (8 ∷ []) $
         use1 W (‵ (ShrSlice (named 4) κ₄ u32 .own x₄ (s₄ ∷ [])) ⊛ ‵ (ShrSlice (named 4) κ₄ u32 .own x₄ (s₄ ∷ []))) (shr-slice-copy 𝓤 H A W (named 4) κ₄ u32 .twice x₄ (s₄ ∷ [])) $
         split ! $
         move ! (13 ∷ 0 ∷ []) $
-        use2 W (raw (ClearC 𝓤 H A mem′ run .pre to-clear)) goes-clear $
-        calls-at ! fm (ClearC 𝓤 H A mem′ run) known-clear to-clear (and-then ! (load ! (from ! (stop !)) (look ! 28 refl)) (no-more !)) (λ ret″.
-        use1 W (later (some (λ (u : Bool). ((‵ (flft κ₄ q₄) ⊛ ‵ ftrue) ⊛ ‵ (bool .own u (ret″ ∷ []))) ⊛ raw (ensured 𝓤 H A clear.ended (clear.clauses 𝓤 H A mem′ run) (κ₄, tt) clear-args tt u)))) (id⊢ 𝓤 _) $ await ! tt $ pick ! (λ u.
+        use2 W (raw (RestC 𝓤 H A mem′ run .pre (to-rest t))) (goes-rest t) $
+        calls-at ! fm (RestC 𝓤 H A mem′ run) known-rest (to-rest t) (and-then ! (load ! (from ! (stop !)) (look ! 20 refl)) (and-then ! (load ! (from ! (stop !)) (look ! 26 refl)) (no-more !))) (λ ret″.
+        use1 W (later (some (λ (u : Bool). ((‵ (flft κ₄ q₄) ⊛ ‵ ftrue) ⊛ ‵ (bool .own u (ret″ ∷ []))) ⊛ raw (ensured 𝓤 H A rest.ended (rest.clauses 𝓤 H A mem′ run) (κ₄, tt) (rest-args t) tt u)))) (id⊢ 𝓤 _) $ await ! tt $ pick ! (λ u.
         split ! $
         move ! (1 ∷ []) $
-        use1 W (some (λ (us : Unit {0} × Unit {0}). ‵ (lasts clear.ended (κ₄, tt) clear-args us) ⊛ raw (fact 𝓤 (u ≡ allZero ws)))) (id⊢ 𝓤 _) $ pick ! (λ us.
+        use1 W (some (λ (us : Unit {0} × (Unit {0} × Unit {0})). ‵ (lasts rest.ended (κ₄, tt) (rest-args t) us) ⊛ raw (fact 𝓤 (u ≡ (t && allZero ws))))) (id⊢ 𝓤 _) $ pick ! (λ us.
         split ! $
         move ! (1 ∷ []) $
-        heard ! (u ≡ allZero ws) (λ clear-said.
+        heard ! (u ≡ (t && allZero ws)) (λ rest-said.
         move ! (1 ∷ []) $
         split ! $
         split ! $
         move ! (2 ∷ []) $
         peeks ! bool (Is bool) (shows 𝓤 H A bool) u (ret″ ∷ []) (λ iu.
-        land ! (from ! (stop !)) (init ! 23 refl (bool-lawful 𝓤 H A W .typed u _ iu .0)) $
-        rewrite ! 23 (λ (u : Val). ‵ (fat fullShare tyBool l₉ 0 u)) (ap only (bool-tells u _ iu)) refl $
+        land ! (from ! (stop !)) (init ! 25 refl (bool-lawful 𝓤 H A W .typed u _ iu .0)) $
+        rewrite ! 25 (λ (u : Val). ‵ (fat fullShare tyBool l₇ 0 u)) (ap only (bool-tells u _ iu)) refl $
         drop ! $
-        assigns ! (bin ! (load ! (from ! (stop !)) (look ! 24 refl)) (load ! (from ! (stop !)) (look ! 22 refl)) tt) (from ! (stop !)) (init ! 26 refl (tt, tt)) $
-        assigns ! (of-opd ! (load ! (from ! (fld ! refl (stop !))) (look-in ! 36 (sub ! 1 refl (whole !))))) (from ! (stop !)) (init ! 20 refl (tt, record { fits = room₁ .0 })) $
-        assigns ! (of-opd ! (load ! (from ! (fld ! refl (stop !))) (look-in ! 30 (sub ! 1 refl (whole !))))) (from ! (stop !)) (init ! 18 refl (tt, record { fits = room₄ .0 })) $
+        assigns ! (of-opd ! (load ! (from ! (fld ! refl (stop !))) (look-in ! 34 (sub ! 1 refl (whole !))))) (from ! (stop !)) (init ! 20 refl (tt, record { fits = room₁ .0 })) $
+        assigns ! (of-opd ! (load ! (from ! (fld ! refl (stop !))) (look-in ! 28 (sub ! 1 refl (whole !))))) (from ! (stop !)) (init ! 18 refl (tt, record { fits = room₄ .0 })) $
         -- `calls::take_up`
         move ! (14 ∷ []) $
         use1 W (‵ (ShrSlice (named 2) κ₂ u32 .own x₂ (s₂ ∷ [])) ⊛ ‵ (ShrSlice (named 2) κ₂ u32 .own x₂ (s₂ ∷ []))) (shr-slice-copy 𝓤 H A W (named 2) κ₂ u32 .twice x₂ (s₂ ∷ [])) $
@@ -273,15 +272,15 @@ module _ {M : Type 1} (𝓤 : URA M) (H : Heap 𝓤) (A : Atoms 𝓤) (W : Given
         move ! (3 ∷ 1 ∷ []) $
         join ! $
         move ! (1 ∷ 0 ∷ []) $
-        use2 W (raw (CoreC 𝓤 H A mem′ run .pre (to-core (t && u)))) (goes-core (t && u) is) $
-        calls-at ! fm (CoreC 𝓤 H A mem′ run) known-core (to-core (t && u)) (and-then ! (load ! (from ! (stop !)) (look ! 27 refl)) (and-then ! (load ! (from ! (stop !)) (look ! 25 refl)) (and-then ! (load ! (from ! (stop !)) (look ! 19 refl)) (and-then ! (load ! (from ! (stop !)) (look ! 33 refl)) (and-then ! (load ! (from ! (stop !)) (look ! 31 refl)) (and-then ! (load ! (from ! (stop !)) (look ! 17 refl)) (no-more !))))))) (λ ret′.
-        use1 W (later (some (λ (x : TakeUpAnswer). ((‵ (flft κ₂ q₂) ⊛ ‵ (flft κ₃ q₃) ⊛ ‵ ftrue) ⊛ ‵ (U.the-row .own x (ret′ ∷ []))) ⊛ raw (ensured 𝓤 H A core.ended (core.clauses 𝓤 H A mem′ run) (κ₂, (κ₃, tt)) (core-args (t && u)) tt x)))) (id⊢ 𝓤 _) $ await ! tt $ pick ! (λ x.
+        use2 W (raw (CoreC 𝓤 H A mem′ run .pre (to-core u))) (goes-core u is) $
+        calls-at ! fm (CoreC 𝓤 H A mem′ run) known-core (to-core u) (and-then ! (load ! (from ! (stop !)) (look ! 25 refl)) (and-then ! (load ! (from ! (stop !)) (look ! 23 refl)) (and-then ! (load ! (from ! (stop !)) (look ! 19 refl)) (and-then ! (load ! (from ! (stop !)) (look ! 31 refl)) (and-then ! (load ! (from ! (stop !)) (look ! 29 refl)) (and-then ! (load ! (from ! (stop !)) (look ! 17 refl)) (no-more !))))))) (λ ret′.
+        use1 W (later (some (λ (x : TakeUpAnswer). ((‵ (flft κ₂ q₂) ⊛ ‵ (flft κ₃ q₃) ⊛ ‵ ftrue) ⊛ ‵ (U.the-row .own x (ret′ ∷ []))) ⊛ raw (ensured 𝓤 H A core.ended (core.clauses 𝓤 H A mem′ run) (κ₂, (κ₃, tt)) (core-args u) tt x)))) (id⊢ 𝓤 _) $ await ! tt $ pick ! (λ x.
         split ! $
         move ! (1 ∷ []) $
-        use1 W (some (λ (zs : Unit {0} × (Unit {0} × (Unit {0} × (Unit {0} × (Unit {0} × (Unit {0} × Unit {0})))))). ‵ (lasts core.ended (κ₂, (κ₃, tt)) (core-args (t && u)) zs) ⊛ raw (fact 𝓤 (TakenSaid h (t && u) (length ps) ls gs (length ws) x)))) (id⊢ 𝓤 _) $ pick ! (λ zs.
+        use1 W (some (λ (zs : Unit {0} × (Unit {0} × (Unit {0} × (Unit {0} × (Unit {0} × (Unit {0} × Unit {0})))))). ‵ (lasts core.ended (κ₂, (κ₃, tt)) (core-args u) zs) ⊛ raw (fact 𝓤 (TakenSaid h u (length ps) ls gs (length ws) x)))) (id⊢ 𝓤 _) $ pick ! (λ zs.
         split ! $
         move ! (1 ∷ []) $
-        heard ! (TakenSaid h (t && u) (length ps) ls gs (length ws) x) (λ said.
+        heard ! (TakenSaid h u (length ps) ls gs (length ws) x) (λ said.
         move ! (1 ∷ []) $
         split ! $
         split ! $
@@ -289,30 +288,30 @@ module _ {M : Type 1} (𝓤 : URA M) (H : Heap 𝓤) (A : Atoms 𝓤) (W : Given
         split ! $
         move ! (3 ∷ []) $
         peeks ! U.the-row (Is U.the-row) (shows 𝓤 H A U.the-row) x (ret′ ∷ []) (λ ix.
-        land ! (from ! (stop !)) (init ! 43 refl (EL.lawful U.the-type U′.the-laws 𝓤 H A W tt .typed x _ ix .0)) $
-        rewrite ! 43 (λ (u : Val). ‵ (fat fullShare U′.mir l₀ 0 u)) (ap only ((U′.lowers .val-is) x _ ix)) refl $
+        land ! (from ! (stop !)) (init ! 41 refl (EL.lawful U.the-type U′.the-laws 𝓤 H A W tt .typed x _ ix .0)) $
+        rewrite ! 41 (λ (u : Val). ‵ (fat fullShare U′.mir l₀ 0 u)) (ap only ((U′.lowers .val-is) x _ ix)) refl $
         drop ! $
-        returns ! (look ! 42 refl) $
-        freed ! 20 (occupied _ ∷ occupied _ ∷ occupied _ ∷ occupied _ ∷ occupied _ ∷ occupied _ ∷ occupied _ ∷ occupied _ ∷ occupied _ ∷ occupied _ ∷ occupied _ ∷ occupied _ ∷ []) tt refl $
+        returns ! (look ! 40 refl) $
+        freed ! 20 (occupied _ ∷ occupied _ ∷ occupied _ ∷ occupied _ ∷ occupied _ ∷ occupied _ ∷ occupied _ ∷ occupied _ ∷ occupied _ ∷ occupied _ ∷ occupied _ ∷ []) tt refl $
         keep ! (14 ∷ 10 ∷ 2 ∷ 0 ∷ 6 ∷ 17 ∷ 13 ∷ 5 ∷ 4 ∷ 9 ∷ []) $
-        by ! (exits x (subst (Is U.the-row x) (U′.lowers .val-is x _ ix) ix) (taken-up h ps ls gs ws t u x told clear-said said)))))))))))))))))))))))))))))))
+        by ! (exits x (subst (Is U.the-row x) (U′.lowers .val-is x _ ix) ix) (taken-up h ps ls gs ws t u x told rest-said said))))))))))))))))))))))))))))))
 
 module _ {M : Type 1} (𝓤 : URA M) (H : Heap 𝓤) (A : Atoms 𝓤) (W : Given 𝓤 H A) (mem′ : Memory → SProp 𝓤) (run : Routine → Fun 𝓤) where
-  walks : (C : Calls 𝓤 H) (Λ : Loops 𝓤 H) → FmC 𝓤 H (W .laws) C → Triple 𝓤 (C #index·all-idle) (IdleC 𝓤 H A mem′ run) → Triple 𝓤 (C #waiting-row·clear) (ClearC 𝓤 H A mem′ run) → Triple 𝓤 (C #calls·take-up) (CoreC 𝓤 H A mem′ run)
+  walks : (C : Calls 𝓤 H) (Λ : Loops 𝓤 H) → FmC 𝓤 H (W .laws) C → Triple 𝓤 (C #index·all-idle) (IdleC 𝓤 H A mem′ run) → Triple 𝓤 (C #waiting-row·at-rest) (RestC 𝓤 H A mem′ run) → Triple 𝓤 (C #calls·take-up) (CoreC 𝓤 H A mem′ run)
       → Walks 𝓤 H A it.ended stayed (WpFn 𝓤 H C Λ code.function) (it.clauses 𝓤 H A mem′ run)
-  walks C Λ fm known-idle known-clear known-core = walked 𝓤 H A it.ended stayed (it.clauses 𝓤 H A mem′ run) (WpFn 𝓤 H C Λ code.function)
+  walks C Λ fm known-idle known-rest known-core = walked 𝓤 H A it.ended stayed (it.clauses 𝓤 H A mem′ run) (WpFn 𝓤 H C Λ code.function)
       (λ κs. (ptr-vals, (slice-vals, (slice-vals, (slice-vals, (slice-vals, tt))))))
       (λ κs. (shr-tells (named 0) (κs .0) R.the-row, (shr-slice-tells (named 1) (κs .1 .0) P.the-row, (shr-slice-tells (named 2) (κs .1 .1 .0) u32, (shr-slice-tells (named 3) (κs .1 .1 .1 .0) u32, (shr-slice-tells (named 4) (κs .1 .1 .1 .1 .0) u32, tt))))))
-      (λ κs qs bounds a _ are. via 𝓤 _ (fst∗ 𝓤 _ (emp 𝓤)) (walk 𝓤 H A W mem′ run (κs .0) (κs .1 .0) (κs .1 .1 .0) (κs .1 .1 .1 .0) (κs .1 .1 .1 .1 .0) (qs .0) (qs .1 .0) (qs .1 .1 .0) (qs .1 .1 .1 .0) (qs .1 .1 .1 .1 .0) (a .0 .ptr .0) (a .0 .ptr .1) (a .1 .0 .ptr .0) (a .1 .0 .ptr .1) (a .1 .1 .0 .ptr .0) (a .1 .1 .0 .ptr .1) (a .1 .1 .1 .0 .ptr .0) (a .1 .1 .1 .0 .ptr .1) (a .1 .1 .1 .1 .0 .ptr .0) (a .1 .1 .1 .1 .0 .ptr .1) (a .0 .name) (a .1 .0 .name) (a .1 .1 .0 .name) (a .1 .1 .1 .0 .name) (a .1 .1 .1 .1 .0 .name) (a .0 .now) (a .1 .0 .now) (a .1 .1 .0 .now) (a .1 .1 .1 .0 .now) (a .1 .1 .1 .1 .0 .now) (are .1 .0 .0 .1) (are .1 .1 .0 .0 .1) (are .1 .1 .1 .0 .0 .1) (are .1 .1 .1 .1 .0 .0 .1) C Λ fm known-idle known-clear known-core))
+      (λ κs qs bounds a _ are. via 𝓤 _ (fst∗ 𝓤 _ (emp 𝓤)) (walk 𝓤 H A W mem′ run (κs .0) (κs .1 .0) (κs .1 .1 .0) (κs .1 .1 .1 .0) (κs .1 .1 .1 .1 .0) (qs .0) (qs .1 .0) (qs .1 .1 .0) (qs .1 .1 .1 .0) (qs .1 .1 .1 .1 .0) (a .0 .ptr .0) (a .0 .ptr .1) (a .1 .0 .ptr .0) (a .1 .0 .ptr .1) (a .1 .1 .0 .ptr .0) (a .1 .1 .0 .ptr .1) (a .1 .1 .1 .0 .ptr .0) (a .1 .1 .1 .0 .ptr .1) (a .1 .1 .1 .1 .0 .ptr .0) (a .1 .1 .1 .1 .0 .ptr .1) (a .0 .name) (a .1 .0 .name) (a .1 .1 .0 .name) (a .1 .1 .1 .0 .name) (a .1 .1 .1 .1 .0 .name) (a .0 .now) (a .1 .0 .now) (a .1 .1 .0 .now) (a .1 .1 .1 .0 .now) (a .1 .1 .1 .1 .0 .now) (are .1 .0 .0 .1) (are .1 .1 .0 .0 .1) (are .1 .1 .1 .0 .0 .1) (are .1 .1 .1 .1 .0 .0 .1) C Λ fm known-idle known-rest known-core))
 
   goes : AllGo 𝓤 H A W 5 (it.signature .params) (it.ended .kept) stayed
   goes = (goes-none-ref 𝓤 H A W 5 (0 ∷ []) tt (plain (λ _. R.the-row)) yes, (goes-none-slice 𝓤 H A W 5 (1 ∷ []) tt (plain (λ _. P.the-row)) yes, (goes-none-slice 𝓤 H A W 5 (2 ∷ []) tt (plain (λ _. u32)) yes, (goes-none-slice 𝓤 H A W 5 (3 ∷ []) tt (plain (λ _. u32)) yes, (goes-none-slice 𝓤 H A W 5 (4 ∷ []) tt (plain (λ _. u32)) yes, tt)))))
 
 meets : {M : Type 1} (𝓤 : URA M) (H : Heap 𝓤) (A : Atoms 𝓤) → Given 𝓤 H A → (mem′ : Memory → SProp 𝓤) (run : Routine → Fun 𝓤) (𝓣 : Tables 𝓤 H)
-    → Triple 𝓤 (𝓣 .C #index·all-idle) (IdleC 𝓤 H A mem′ run) → Triple 𝓤 (𝓣 .C #waiting-row·clear) (ClearC 𝓤 H A mem′ run) → Triple 𝓤 (𝓣 .C #calls·take-up) (CoreC 𝓤 H A mem′ run) → Meets 𝓤 H A it.signature (WpFn 𝓤 H (𝓣 .C) (𝓣 .Λ) code.function) (it.spec 𝓤 H A mem′ run)
-meets 𝓤 H A W mem′ run 𝓣 known-idle known-clear known-core =
+    → Triple 𝓤 (𝓣 .C #index·all-idle) (IdleC 𝓤 H A mem′ run) → Triple 𝓤 (𝓣 .C #waiting-row·at-rest) (RestC 𝓤 H A mem′ run) → Triple 𝓤 (𝓣 .C #calls·take-up) (CoreC 𝓤 H A mem′ run) → Meets 𝓤 H A it.signature (WpFn 𝓤 H (𝓣 .C) (𝓣 .Λ) code.function) (it.spec 𝓤 H A mem′ run)
+meets 𝓤 H A W mem′ run 𝓣 known-idle known-rest known-core =
     walk-meets 𝓤 H A it.ended stayed W (goes 𝓤 H A W mem′ run) (it.clauses 𝓤 H A mem′ run) (WpFn 𝓤 H (𝓣 .C) (𝓣 .Λ) code.function) (WpFn-mono 𝓤 H (W .laws) 𝓣 code.function)
-    (walks 𝓤 H A W mem′ run (𝓣 .C) (𝓣 .Λ) (fmOf 𝓤 H (W .laws) 𝓣) known-idle known-clear known-core)
+    (walks 𝓤 H A W mem′ run (𝓣 .C) (𝓣 .Λ) (fmOf 𝓤 H (W .laws) 𝓣) known-idle known-rest known-core)
 
 pub take-up-spec : {M : Type 1} → stated.statement M
 unfolding code.routine tablesOf
@@ -321,5 +320,5 @@ take-up-spec 𝓤 H 𝓜 𝓖 𝓡 =
     (tables 𝓤 H 𝓜 𝓡 code.env .C) (tables 𝓤 H 𝓜 𝓡 code.env .Λ) #index·take-up code.function (code.unfolded 𝓤 H 𝓜 𝓡)
     (meets 𝓤 H (𝓖 .A) (givenOf 𝓤 H 𝓜 𝓖) (𝓜 .mem) (𝓡 .run) (tablesOf 𝓤 H 𝓜 (tables 𝓤 H 𝓜 𝓡 code.env))
     (cited 𝓤 H (IdleC 𝓤 H (𝓖 .A) (𝓜 .mem) (𝓡 .run)) 𝓜 𝓡 code.env #index·all-idle idle-def.routine code.calls-index·all-idle (idle-thm.met 𝓤 H 𝓜 𝓖 𝓡))
-    (cited 𝓤 H (ClearC 𝓤 H (𝓖 .A) (𝓜 .mem) (𝓡 .run)) 𝓜 𝓡 code.env #waiting-row·clear clear-def.routine code.calls-waiting-row·clear (clear-thm.met 𝓤 H 𝓜 𝓖 𝓡))
+    (cited 𝓤 H (RestC 𝓤 H (𝓖 .A) (𝓜 .mem) (𝓡 .run)) 𝓜 𝓡 code.env #waiting-row·at-rest rest-def.routine code.calls-waiting-row·at-rest (rest-thm.met 𝓤 H 𝓜 𝓖 𝓡))
     (cited 𝓤 H (CoreC 𝓤 H (𝓖 .A) (𝓜 .mem) (𝓡 .run)) 𝓜 𝓡 code.env #calls·take-up core-def.routine code.calls-calls·take-up (core-thm.met 𝓤 H 𝓜 𝓖 𝓡)))

@@ -24,19 +24,21 @@ returns : tie.Need-returns
 returns c = search needs
 
 returns-2 : tie.Need-returns-2
-returns-2 c = rw (c .before .enum-told2 .given .1, lt-ltb _ _ (c .if1 .taken)) refl
+returns-2 c =
+    let at-advances = c .before in
+    rw (at-advances .before .enum-told2 .given .1, sym (at-advances .advances .ensures) ∙ c .if1 .taken) refl
 
 returns-3 : tie.Need-returns-3
 returns-3 c =
-    let at-advances = c .before in
-    let at-if1 = at-advances .before in
-    rw (at-if1 .before .enum-told2 .given .1, le-ltb _ _ (at-if1 .if1 .left), sym (at-advances .advances .ensures) ∙ c .if2 .taken) refl
+    let at-if1 = c .before in
+    let at-advances = at-if1 .before in
+    rw (at-advances .before .enum-told2 .given .1, sym (at-advances .advances .ensures) ∙ at-if1 .if1 .left, lt-ltb _ _ (c .if2 .taken)) refl
 
 returns-4 : tie.Need-returns-4
 returns-4 c =
-    let at-advances = c .before in
-    let at-if1 = at-advances .before in
-    rw (at-if1 .before .enum-told2 .given .1, le-ltb _ _ (at-if1 .if1 .left), sym (at-advances .advances .ensures) ∙ c .if2 .left) refl
+    let at-if1 = c .before in
+    let at-advances = at-if1 .before in
+    rw (at-advances .before .enum-told2 .given .1, sym (at-advances .advances .ensures) ∙ at-if1 .if1 .left, le-ltb _ _ (c .if2 .left)) refl
 
 returns-5 : tie.Need-returns-5
 returns-5 c = search needs

@@ -18,8 +18,9 @@ use ghost.Atoms.{Atoms, sem}
 use contract.Monad.{Fun, fact}
 use contract.Running.{givenOf, tables, tablesOf}
 use types.Kit.{Given, ‵, raw, some, later, _⊛_, ⋆, _$_, _∵_, !, qed, by, move, keep, drop, use0, use1, use2, split, join, pick, rewrite, fsplit, fjoin, suffices, frame, await, done}
-use types.Run.{look, init, stop, from, load, and-then, no-more, land, first, branches, returns-within, enter, alloc1, alloc0, params1, pass1, pass0}
-use Rattle.walks.proofs.Leaving.{occupied, freed}
+use types.Run.{look, init, stop, hop, fld, from, load, addr, and-then, no-more, assigns, land, first, branches, returns-within, enter, alloc1, alloc0, params1, pass1, pass0}
+use Rattle.walks.proofs.Leaving.{vacant, occupied, freed}
+use types.Part.{agg, whole, sub, look-in}
 use sound.WpLaws.{FmC, fmOf, WpFn-mono}
 use denote.RattleType.{owns}
 use denote.Memory.{mem}
@@ -153,19 +154,19 @@ module _ {M : Type 1} (𝓤 : URA M) (H : Heap 𝓤) (A : Atoms 𝓤) (W : Given
     walk =
         qed W ((‵ (flft κ₀ q₀) ⊛ ‵ (flft κ₁ q₁) ⊛ ‵ (flft κ₂ q₂) ⊛ ‵ ftrue) ∷ ‵ (owns (ShrRef (named 0) κ₀ R.the-row ∷ ShrSlice (named 1) κ₁ P.the-row ∷ ShrSlice (named 2) κ₂ u32 ∷ u32 ∷ []) a vals) ∷ []) ∵
         enter ! C Λ code.function (vptr b₀ o₀ ∷ s₁ ∷ s₂ ∷ vint w32 me ∷ []) _ $
-        alloc1 ! (λ l₀. alloc1 ! (λ l₁. alloc1 ! (λ l₂. alloc1 ! (λ l₃. alloc1 ! (λ l₄. alloc1 ! (λ l₅. alloc0 ! $ params1 ! $
-        pass1 ! (init ! 8 refl (tt, tt)) $
-        pass1 ! (init ! 6 refl (tt, (tt, (record { fits = room₁ .0 }, tt)))) $
-        pass1 ! (init ! 4 refl (tt, (tt, (record { fits = room₂ .0 }, tt)))) $
-        pass1 ! (init ! 2 refl (tt, record { fits = me-fits })) $
+        alloc1 ! (λ l₀. alloc1 ! (λ l₁. alloc1 ! (λ l₂. alloc1 ! (λ l₃. alloc1 ! (λ l₄. alloc1 ! (λ l₅. alloc1 ! (λ l₆. alloc1 ! (λ l₇. alloc1 ! (λ l₈. alloc1 ! (λ l₉. alloc0 ! $ params1 ! $
+        pass1 ! (init ! 16 refl (tt, tt)) $
+        pass1 ! (init ! 14 refl (tt, (tt, (record { fits = room₁ .0 }, tt)))) $
+        pass1 ! (init ! 12 refl (tt, (tt, (record { fits = room₂ .0 }, tt)))) $
+        pass1 ! (init ! 10 refl (tt, record { fits = me-fits })) $
         pass0 ! $
-        move ! (12 ∷ []) $
+        move ! (20 ∷ []) $
         split ! $
         move ! (1 ∷ []) $
         split ! $
         move ! (1 ∷ []) $
         split ! $
-        move ! (16 ∷ []) $
+        move ! (24 ∷ []) $
         fsplit ! $
         move ! (1 ∷ []) $
         fsplit ! $
@@ -176,7 +177,7 @@ module _ {M : Type 1} (𝓤 : URA M) (H : Heap 𝓤) (A : Atoms 𝓤) (W : Given
         split ! $
         move ! (5 ∷ 0 ∷ []) $
         use2 W (raw (SomebodyC 𝓤 H A mem′ run .pre to-somebody)) goes-somebody $
-        calls-at ! fm (SomebodyC 𝓤 H A mem′ run) known-somebody to-somebody (and-then ! (load ! (from ! (stop !)) (look ! 12 refl)) (no-more !)) (λ ret′.
+        calls-at ! fm (SomebodyC 𝓤 H A mem′ run) known-somebody to-somebody (and-then ! (load ! (from ! (stop !)) (look ! 20 refl)) (no-more !)) (λ ret′.
         use1 W (later (some (λ (b : Bool). ((‵ (flft κ₂ q₂) ⊛ ‵ ftrue) ⊛ ‵ (bool .own b (ret′ ∷ []))) ⊛ raw (ensured 𝓤 H A somebody.ended (somebody.clauses 𝓤 H A mem′ run) (κ₂, tt) somebody-args tt b)))) (id⊢ 𝓤 _) $ await ! tt $ pick ! (λ b.
         split ! $
         move ! (1 ∷ []) $
@@ -189,11 +190,15 @@ module _ {M : Type 1} (𝓤 : URA M) (H : Heap 𝓤) (A : Atoms 𝓤) (W : Given
         split ! $
         move ! (2 ∷ []) $
         peeks ! bool (Is bool) (shows 𝓤 H A bool) b (ret′ ∷ []) (λ ib.
-        land ! (from ! (stop !)) (init ! 11 refl (bool-lawful 𝓤 H A W .typed b _ ib .0)) $
-        rewrite ! 11 (λ (u : Val). ‵ (fat fullShare tyBool l₅ 0 u)) (ap only (bool-tells b _ ib)) refl $
+        land ! (from ! (stop !)) (init ! 19 refl (bool-lawful 𝓤 H A W .typed b _ ib .0)) $
+        rewrite ! 19 (λ (u : Val). ‵ (fat fullShare tyBool l₅ 0 u)) (ap only (bool-tells b _ ib)) refl $
         drop ! $
-        first ! $ branches ! (load ! (from ! (stop !)) (look ! 10 refl))
+        first ! $ branches ! (load ! (from ! (stop !)) (look ! 18 refl))
         (λ may.
+        assigns ! (addr ! (from ! (fld ! refl (hop ! (look-in ! 24 (sub ! 0 refl (whole !))) (stop !))))) (from ! (stop !)) (init ! 16 refl (tt, tt)) $
+        assigns ! (agg ! (and-then ! (load ! (from ! (stop !)) (look ! 16 refl)) (and-then ! (load ! (from ! (fld ! refl (stop !))) (look-in ! 24 (sub ! 1 refl (whole !)))) (no-more !)))) (from ! (stop !)) (init ! 14 refl (tt, (tt, (record { fits = room₁ .0 }, tt)))) $
+        assigns ! (addr ! (from ! (fld ! refl (hop ! (look-in ! 22 (sub ! 0 refl (whole !))) (stop !))))) (from ! (stop !)) (init ! 12 refl (tt, tt)) $
+        assigns ! (agg ! (and-then ! (load ! (from ! (stop !)) (look ! 12 refl)) (and-then ! (load ! (from ! (fld ! refl (stop !))) (look-in ! 22 (sub ! 1 refl (whole !)))) (no-more !)))) (from ! (stop !)) (init ! 10 refl (tt, (tt, (record { fits = room₂ .0 }, tt)))) $
         -- `places::standing`
         move ! (6 ∷ []) $
         use1 W (‵ (ShrRef (named 0) κ₀ R.the-row .own x₀ (vptr b₀ o₀ ∷ [])) ⊛ ‵ (ShrRef (named 0) κ₀ R.the-row .own x₀ (vptr b₀ o₀ ∷ []))) (shr-copy 𝓤 H A W (named 0) κ₀ R.the-row .twice x₀ (vptr b₀ o₀ ∷ [])) $
@@ -214,7 +219,7 @@ module _ {M : Type 1} (𝓤 : URA M) (H : Heap 𝓤) (A : Atoms 𝓤) (W : Given
         join ! $
         move ! (1 ∷ 0 ∷ []) $
         use2 W (raw (StandingC 𝓤 H A mem′ run .pre to-standing)) goes-standing $
-        calls-at ! fm (StandingC 𝓤 H A mem′ run) known-standing to-standing (and-then ! (load ! (from ! (stop !)) (look ! 16 refl)) (and-then ! (load ! (from ! (stop !)) (look ! 14 refl)) (and-then ! (load ! (from ! (stop !)) (look ! 12 refl)) (and-then ! (load ! (from ! (stop !)) (look ! 10 refl)) (no-more !))))) (λ ret.
+        calls-at ! fm (StandingC 𝓤 H A mem′ run) known-standing to-standing (and-then ! (load ! (from ! (stop !)) (look ! 24 refl)) (and-then ! (load ! (from ! (stop !)) (look ! 12 refl)) (and-then ! (load ! (from ! (stop !)) (look ! 8 refl)) (and-then ! (load ! (from ! (stop !)) (look ! 18 refl)) (no-more !))))) (λ ret.
         use1 W (later (some (λ (x : Place). ((‵ (flft κ₀ q₀) ⊛ ‵ (flft κ₁ q₁) ⊛ ‵ (flft κ₂ q₂) ⊛ ‵ ftrue) ⊛ ‵ (X.the-row .own x (ret ∷ []))) ⊛ raw (ensured 𝓤 H A standing.ended (standing.clauses 𝓤 H A mem′ run) (κ₀, (κ₁, (κ₂, tt))) standing-args tt x)))) (id⊢ 𝓤 _) $ await ! tt $ pick ! (λ x.
         split ! $
         move ! (1 ∷ []) $
@@ -231,11 +236,11 @@ module _ {M : Type 1} (𝓤 : URA M) (H : Heap 𝓤) (A : Atoms 𝓤) (W : Given
         split ! $
         move ! (4 ∷ []) $
         peeks ! X.the-row (Is X.the-row) (shows 𝓤 H A X.the-row) x (ret ∷ []) (λ ix.
-        land ! (from ! (stop !)) (init ! 23 refl (LL.lawful X.the-type X′.the-laws 𝓤 H A W .typed x _ ix .0)) $
-        rewrite ! 23 (λ (u : Val). ‵ (fat fullShare X′.mir l₀ 0 u)) (ap only ((X′.lowers .val-is) x _ ix)) refl $
+        land ! (from ! (stop !)) (init ! 31 refl (LL.lawful X.the-type X′.the-laws 𝓤 H A W .typed x _ ix .0)) $
+        rewrite ! 31 (λ (u : Val). ‵ (fat fullShare X′.mir l₀ 0 u)) (ap only ((X′.lowers .val-is) x _ ix)) refl $
         drop ! $
-        returns-within ! Post refl (look ! 22 refl) $
-        freed ! 12 (occupied _ ∷ occupied _ ∷ occupied _ ∷ occupied _ ∷ occupied _ ∷ occupied _ ∷ []) tt refl $
+        returns-within ! Post refl (look ! 30 refl) $
+        freed ! 12 (occupied _ ∷ occupied _ ∷ occupied _ ∷ occupied _ ∷ occupied _ ∷ occupied _ ∷ occupied _ ∷ occupied _ ∷ occupied _ ∷ occupied _ ∷ []) tt refl $
         keep ! (3 ∷ 2 ∷ 0 ∷ 7 ∷ 6 ∷ 5 ∷ []) $
         by ! (exits x (subst (Is X.the-row x) (X′.lowers .val-is x _ ix) ix) said)))))))
         (λ past.
@@ -253,13 +258,13 @@ module _ {M : Type 1} (𝓤 : URA M) (H : Heap 𝓤) (A : Atoms 𝓤) (W : Given
         split ! $
         move ! (1 ∷ []) $
         peeks ! X.the-row (Is X.the-row) (shows 𝓤 H A X.the-row) x (ret ∷ []) (λ ix.
-        land ! (from ! (stop !)) (init ! 23 refl (LL.lawful X.the-type X′.the-laws 𝓤 H A W .typed x _ ix .0)) $
-        rewrite ! 23 (λ (u : Val). ‵ (fat fullShare X′.mir l₀ 0 u)) (ap only ((X′.lowers .val-is) x _ ix)) refl $
+        land ! (from ! (stop !)) (init ! 31 refl (LL.lawful X.the-type X′.the-laws 𝓤 H A W .typed x _ ix .0)) $
+        rewrite ! 31 (λ (u : Val). ‵ (fat fullShare X′.mir l₀ 0 u)) (ap only ((X′.lowers .val-is) x _ ix)) refl $
         drop ! $
-        returns-within ! Post refl (look ! 22 refl) $
-        freed ! 12 (occupied _ ∷ occupied _ ∷ occupied _ ∷ occupied _ ∷ occupied _ ∷ occupied _ ∷ []) tt refl $
+        returns-within ! Post refl (look ! 30 refl) $
+        freed ! 12 (occupied _ ∷ occupied _ ∷ occupied _ ∷ occupied _ ∷ occupied _ ∷ occupied _ ∷ vacant ∷ vacant ∷ vacant ∷ vacant ∷ []) tt refl $
         keep ! (11 ∷ 10 ∷ 2 ∷ 8 ∷ 7 ∷ 5 ∷ []) $
-        by ! (exits x (subst (Is X.the-row x) (X′.lowers .val-is x _ ix) ix) (λ inside small long level. said ∙ alone-right h ps me ws (nobody-waits b (allZero ws) said-b past))))))))))))))))))))
+        by ! (exits x (subst (Is X.the-row x) (X′.lowers .val-is x _ ix) ix) (λ inside small long level. said ∙ alone-right h ps me ws (nobody-waits b (allZero ws) said-b past))))))))))))))))))))))))
 
 module _ {M : Type 1} (𝓤 : URA M) (H : Heap 𝓤) (A : Atoms 𝓤) (W : Given 𝓤 H A) (mem′ : Memory → SProp 𝓤) (run : Routine → Fun 𝓤) where
   walks : (C : Calls 𝓤 H) (Λ : Loops 𝓤 H) → FmC 𝓤 H (W .laws) C → Triple 𝓤 (C #waiting-row·somebody) (SomebodyC 𝓤 H A mem′ run) → Triple 𝓤 (C #places·standing) (StandingC 𝓤 H A mem′ run) → Triple 𝓤 (C #waiting-row·nobody) (NobodyC 𝓤 H A mem′ run)

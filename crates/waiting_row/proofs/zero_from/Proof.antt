@@ -11,7 +11,7 @@ use Rattle.waiting_row.proofs.zero_from.Statement.{statement}
 use Rattle.waiting_row.proofs.zero_from.Tie as tie
 
 abbrev Inv-loop : tie.InvT-loop
-Inv-loop row from all₀ i₀ all i = allZero (drop from row) ≡ (eqb all 0 && allZero (drop i row))
+Inv-loop row from all₀ i₀ all i = allZero (drop from row) ≡ (all && allZero (drop i row))
 
 abbrev μ-loop : tie.MeasureT-loop
 μ-loop row from all₀ i₀ all i = length row - i
