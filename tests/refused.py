@@ -1,7 +1,7 @@
 """Must-fail edits: what one changes, and how it was refused, from what the check said.
 
 - values: an arithmetic fails, with the numbers at which it does, or two sides compute to different numbers or constructors;
-- terms: two sides, computed as far as they go, are different terms, and a definition that stays shut is not all in which they differ;
+- terms: two sides, computed as far as they go or compared part by part, are different terms, and a definition that stays shut is not all in which they differ;
 - text: a proof no longer goes through, and no such line says why: a claim of another form, a rewriting step that finds no place, a search that finds no proof;
 - no fact: a field, a clause or a name is gone, or the source does not compile."""
 import re
@@ -74,7 +74,7 @@ def kind(error, tried):
     """Values or terms, where an error says a fact; `tried` has the definitions that were opened in vain."""
     if COUNTEREXAMPLE.search(error) or is_refuted(error):
         return 'values'
-    computed = error.partition('computed as far as they go, ')[2]
+    computed = error.partition('computed as far as they go, ')[2] or error.partition('compared part by part, ')[2]
     # Types short enough for one line are shown as they are.
     shown = DIFFER.findall(computed)[:1] or ([] if '\n' in error else STATED.findall(error))
     found = [first_difference(*sides) for sides in shown]

@@ -4,7 +4,7 @@ use native.Mathlib.Omega.{arith}
 use lib.ListN.{take}
 use Rattle.model.proofs.Laws.Lists.{true≢false}
 use Rattle.held.specs.Held.{heldIn}
-use Rattle.turns.specs.Turned.{part}
+use Rattle.turns.specs.Turned.{part, RepliesTo}
 use Rattle.turns.proofs.Turning.{more-answered, read-answered}
 use borrow.Author.Needs.{needs}
 use Rattle.turns.proofs.turn.Statement.{statement}
@@ -88,17 +88,20 @@ returns-2 c =
     let read = c .before .before .before .before .before .before .before .before .before .before .before .before .before .before .before .before .before .before .before .before .before .read-on in
     let keep = c .before .before .before .before .before .before .before .before .before .before .before .before .before .before .before .before .before .before .before .before .before .before .before .before .before .keep in
     let is = c .before .before .before .before .before .before .before .before .before .before .before .before .before .before .before .before .before .before .before .before .before .before .before .before .before .before .before .if1 .left in
-    let none = start .pre .1 is in (
+    let none = start .pre .1 is in
+    let after = heldIn (made .result .root) (made .last .1 .1 .1 .1 .0) (made .last .1 .1 .1 .1 .1 .0) (made .last .1 .1 .1 .1 .1 .1 .0) (made .last .1 .1 .1 .1 .1 .1 .1 .0) in
+    let printed = take (made .result .end) (made .last .1 .1 .1 .1 .1 .1 .1 .1 .0) in
+    let rest = part (read .last .0) (made .result .from) (read .result .end) in
+    let replies : RepliesTo (part (read .last .0) 0 (read .result .end)) printed rest after = record { before = before; answered = made .ensures .1 .1 } in (
       (made .ensures .0 .0, read .ensures .0 .1, made .ensures .0 .1),
       (
         made .ensures .1 .0,
         (
-          record { before = before; answered = made .ensures .1 .1 },
+          replies,
           (
             ((λ w. absurd (true≢false (sym w ∙ is))), (λ w. keep .ensures .0 .0)),
             read-answered (start .args .input .now) (keep .last .0) (read .last .0) (s .from) (s .to) (keep .result) (read .result .end) (start .pre .0 .0, start .pre .0 .1)
-                (keep .ensures .0 .0) (keep .ensures .0 .1) (keep .ensures .1) (read .ensures .1 .0) (read .ensures .0 .0) before
-                (heldIn (made .result .root) (made .last .1 .1 .1 .1 .0) (made .last .1 .1 .1 .1 .1 .0) (made .last .1 .1 .1 .1 .1 .1 .0) (made .last .1 .1 .1 .1 .1 .1 .1 .0)) (take (made .result .end) (made .last .1 .1 .1 .1 .1 .1 .1 .1 .0)) (part (read .last .0) (made .result .from) (read .result .end)) (omega (arith, none)) (made .ensures .1 .1),
+                (keep .ensures .0 .0) (keep .ensures .0 .1) (keep .ensures .1) (read .ensures .1 .0) (read .ensures .0 .0) before after printed rest (omega (arith, none)) (made .ensures .1 .1),
           ),
         ),
       ),
