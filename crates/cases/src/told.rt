@@ -1,7 +1,10 @@
 // What is written of a case, and the count of cases.
 // Main function: judged, which makes the call, writes what the case is, what came and whether it is as it should be,
-// and counts.
+// and counts. say_verdict, by which alone a verdict is written, is given the one that specs/Verdict.antt has for what
+// came; compared counts it.
 
+ghost use mathlib.Core.Path.{_≡_};
+ghost use Rattle.cases.specs.Verdict as Verdict;
 use crate::made::ACCEPTED;
 use crate::made::Came;
 use crate::scene::Call;
@@ -53,7 +56,9 @@ fn say_came(came: Came) {
 }
 
 // Whether a call that is accepted alters something: take-up tests the file, and alters nothing.
-fn alters(call: Call) -> bool {
+fn alters(call: Call) -> bool
+    ensures { λ r. ⌜ r ≡ Verdict.alters call ⌝ }
+{
     match call {
         Call::Format => true,
         Call::Begin => true,
@@ -64,7 +69,9 @@ fn alters(call: Call) -> bool {
 }
 
 // The answer is the one expected; a refused call alters nothing, and an accepted one something where its call does.
-fn is_right(call: Call, came: Came, expected: u32) -> bool {
+fn is_right(call: Call, came: Came, expected: u32) -> bool
+    ensures { λ r. ⌜ r ≡ Verdict.isRight call came expected ⌝ }
+{
     if came.refusal != expected {
         return false;
     }
@@ -74,19 +81,30 @@ fn is_right(call: Call, came: Came, expected: u32) -> bool {
     came.altered == 0
 }
 
-fn counted(t: Tally, wrong: u32) -> Tally {
+fn counted(t: Tally, wrong: u32) -> Tally
+    ensures { λ r. ⌜ r ≡ Verdict.counted t wrong ⌝ }
+{
     Tally {
         cases: std::num::wrapping_add_u32(t.cases, 1),
         wrong: std::num::wrapping_add_u32(t.wrong, wrong),
     }
 }
 
-fn compared(t: Tally, call: Call, came: Came, expected: u32) -> Tally {
+// Writes the verdict of what came: this text and no other.
+fn say_verdict(text: &[u8], call: Call, came: Came, expected: u32)
+    requires { ⌜ now text ≡ Verdict.verdict (Verdict.isRight call came expected) ⌝ }
+{
+    say(text);
+}
+
+fn compared(t: Tally, call: Call, came: Came, expected: u32) -> Tally
+    ensures { λ r. ⌜ r ≡ Verdict.tallied t (Verdict.isRight call came expected) ⌝ }
+{
     if is_right(call, came, expected) {
-        say(b", as it should be\n");
+        say_verdict(b", as it should be\n", call, came, expected);
         return counted(t, 0);
     }
-    say(b", WRONG\n");
+    say_verdict(b", WRONG\n", call, came, expected);
     counted(t, 1)
 }
 

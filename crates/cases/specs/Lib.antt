@@ -1,0 +1,2 @@
+-- What the program says of a case.
+pub mod Verdict
