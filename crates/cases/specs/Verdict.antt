@@ -1,5 +1,5 @@
 -- What the program says of a case: whether what came is what document 01 says, the bytes that tell it, and the count.
--- Document 01: a call "refuses by the table and alters nothing then".
+-- docs/SPECIFICATION.md, "Refused calls": "A refused call returns a number and leaves all lent memory."
 -- Main definitions: alters, isRight, verdict, counted, tallied.
 use mathlib.Core.Bool.{Bool, true, false, not, _&&_, Bool·beq}
 use mathlib.Core.List.{List}
