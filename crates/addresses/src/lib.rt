@@ -2,6 +2,8 @@
 // Each function equals the model's definition of the same name, on every root record within its limits (RootFits).
 // span and hash; chain_count; split_barred, split_next, split_level; merge_barred, merge_partner, merge_target, merge_level.
 
+#![tactic(auto)]
+
 ghost use Rattle.std.specs.Prelude.{◌≡◌, false, ◌≤◌};
 ghost use Rattle.model.specs.Addresses as Addresses;
 ghost use Rattle.addresses.specs.Fits.{RootFits};

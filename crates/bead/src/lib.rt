@@ -4,6 +4,8 @@
 // model's calls answer, and leave in every lent word what those leave, for all words, numbers and lengths. What a caller
 // has of a run of them: specs/TheCalls.antt.
 
+#![tactic(auto)]
+
 ghost use Rattle.std.specs.Prelude.{◌≡◌};
 ghost use Rattle.model.specs.Answers.{answer_number, setting_found, restructuring_number, begin_refusal, withdraw_refusal, format_refusal};
 ghost use Rattle.calls.specs.Lent.{lent};
@@ -32,7 +34,7 @@ pub const FOUND: u32 = 6;
 
 // The reply to a step: the number of its refusal, or 0; its outcome; where it is done, the numbers of the answer and of the restructuring, and the setting of an answer found. What does not apply is 0.
 #[repr(C)]
-#[derive(Drop)]
+#[derive(Clone, Copy)]
 pub struct BeadReply {
     pub refusal: u32,
     pub outcome: u32,

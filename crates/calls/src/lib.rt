@@ -10,6 +10,8 @@
 // step_call and withdraw_call do past the row's end; take_up answers as take_up_call does, for every row of records and
 // every waiting row that are zero or not as its caller says, and take_up_cause is the cause that it goes by.
 
+#![tactic(auto)]
+
 ghost use Rattle.std.specs.Prelude.{◌≡◌, ◌&&◌, List, ℕ, ◌<◌, ◌≤◌, length, set};
 ghost use Rattle.model.specs.declared.Party.{Party};
 ghost use Rattle.model.specs.Memory.{party_at};
@@ -29,21 +31,21 @@ use waiting_row::Place;
 
 // What format leaves beside the lent words. Where the answer is formatted, every party's record is the zero record and
 // every word of the waiting row 0; else neither row is altered.
-#[derive(Drop)]
+#[derive(Clone, Copy)]
 pub struct Formatted {
     pub root: Root,
     pub answer: FormatAnswer,
 }
 
 // What begin leaves: the party's record. It alters nothing else.
-#[derive(Drop)]
+#[derive(Clone, Copy)]
 pub struct Begun {
     pub party: Party,
     pub answer: BeginAnswer,
 }
 
 // What withdraw leaves beside the lent words.
-#[derive(Drop)]
+#[derive(Clone, Copy)]
 pub struct Withdrawn {
     pub root: Root,
     pub party: Party,

@@ -9,7 +9,7 @@ use model::{
 };
 
 // What came of a call: the refusal, and how many words of all that is held and lent are altered.
-#[derive(Drop)]
+#[derive(Clone, Copy)]
 pub struct Came {
     pub refusal: u32,
     pub altered: u32,

@@ -5,6 +5,8 @@
 // Files: this one has the cases; scene.rt the memory of a case, made.rt the calls and the comparison of memory,
 // told.rt what is written.
 
+#![tactic(auto)]
+
 mod made;
 mod scene;
 mod told;

@@ -4,7 +4,7 @@
 
 use model::{FileSizes, Party, Root};
 
-#[derive(Drop)]
+#[derive(Clone, Copy)]
 pub enum Call {
     Format,
     Begin,
@@ -16,7 +16,7 @@ pub enum Call {
 // What a call is lent, and for whom: the root record, whose sizes format is given, the first Q records of a row in
 // which every record is this one, and so many words. Where the records rest, take-up is lent zero ones. `waits` are the
 // first words of the waiting row, and the others are 0.
-#[derive(Drop)]
+#[derive(Clone, Copy)]
 pub struct Scene {
     pub root: Root,
     pub record: Party,

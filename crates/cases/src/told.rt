@@ -9,7 +9,7 @@ ghost use Rattle.cases.specs.Verdict as Verdict;
 use crate::made::{ACCEPTED, Came};
 use crate::scene::{Call, Scene};
 
-#[derive(Drop)]
+#[derive(Clone, Copy)]
 pub struct Tally {
     pub cases: u32,
     pub wrong: u32,

@@ -2,6 +2,8 @@
 // Main statements: owed_by is owed_by; kept_answer and changed_answer are the answers of an operation that changes nothing, and of one that does; less is the difference.
 // after_change (specs/Changing.antt) says what each case leaves of the memory.
 
+#![tactic(auto)]
+
 ghost use Rattle.std.specs.Prelude.{◌≡◌, List, ◌-◌, length};
 ghost use Rattle.model.specs.declared.Entry.{Entry};
 ghost use Rattle.model.specs.Steps.Rebuild as Rebuild;
@@ -10,7 +12,7 @@ ghost use Rattle.chain_change.specs.Changing.{kept_answer, changed_answer};
 use model::{ABSENT, DELETED, INSERT, INSERTED, OWES_MERGE, OWES_NONE, OWES_SPLIT, PRESENT};
 
 // A new chain was written: the answer, the restructuring owed, how many pages were taken, and the free list's head then.
-#[derive(Drop)]
+#[derive(Clone, Copy)]
 pub struct Rebuilt {
     pub answer: u32,
     pub owed: u32,
@@ -19,7 +21,7 @@ pub struct Rebuilt {
 }
 
 // What became of the chain: a damaged number was met; nothing, with this answer; a new chain.
-#[derive(Drop)]
+#[derive(Clone, Copy)]
 pub enum Changed {
     Damaged,
     Kept(u32),

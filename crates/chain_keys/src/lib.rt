@@ -1,6 +1,8 @@
 // Bucket chains looked through whole (document 01, steps 10, 17 and 26): the pages are walked first, and then the records are gathered into a lent buffer of words.
 // Main statements: walk is the walk of a chain's overflow pages; gather is chain_of, for every memory in which the pages were walked.
 
+#![tactic(auto)]
+
 ghost use Rattle.std.specs.Prelude.{◌≡◌, ◌++◌, ◌+◌, ◌*◌, ◌≤◌, ◌<◌, length, take};
 ghost use Rattle.model.specs.Sizes.{most_records, record_words};
 ghost use Rattle.model.specs.Pages.{count_of, link_of, records_in, entries_of};
@@ -16,7 +18,7 @@ use model::{ChainAddress, FIRST_RECORD, MOST_RECORDS, Page, PageAddress, RECORD_
 pub const FEW: u32 = 7;
 
 // A chain whose records stand at the front of a buffer: its local level, its link, and how many records it has.
-#[derive(Drop)]
+#[derive(Clone, Copy)]
 pub struct Front {
     pub level: u32,
     pub link: u32,
@@ -24,7 +26,7 @@ pub struct Front {
 }
 
 // What gathering came to: damage, or all records.
-#[derive(Drop)]
+#[derive(Clone, Copy)]
 pub enum Gathered {
     Damaged,
     Sound(Front),

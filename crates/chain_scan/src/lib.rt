@@ -1,6 +1,8 @@
 // A bucket chain looked through whole without keeping its records (document 01, steps 10 and 17): its pages are walked first, and then their keys are compared page by page.
 // Main statements: place_of says by its place whether a page has a key, and with which setting; ascend is the ascent of a page's records; examine is the ascent of all records from a link on; look_through is chain_of, scanned.
 
+#![tactic(auto)]
+
 ghost use Rattle.std.specs.Prelude.{◌≡◌, ◌+◌, ◌≤◌};
 ghost use Rattle.model.specs.Sizes.{most_records};
 ghost use Rattle.model.specs.Pages.{count_of, entries_of};
@@ -12,21 +14,21 @@ use chains::Walked;
 use model::{ChainAddress, FIRST_RECORD, MOST_RECORDS, Page, PageAddress, RECORD_WORDS, Root};
 
 // Whether the keys passed ascend, and the least that the next key may be.
-#[derive(Drop)]
+#[derive(Clone, Copy)]
 enum Ascent {
     Falls,
     Rises(u64),
 }
 
 // A chain that was looked through: its overflow pages, its records, and whether the key asked for is one of them.
-#[derive(Drop)]
+#[derive(Clone, Copy)]
 pub struct Looked {
     pub pages: u32,
     pub count: u32,
     pub found: bool,
 }
 
-#[derive(Drop)]
+#[derive(Clone, Copy)]
 pub enum Scan {
     Damaged,
     Sound(Looked),

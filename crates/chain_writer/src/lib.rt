@@ -2,6 +2,8 @@
 // so that everything is read before anything is written. A free page may also be a page of the chain that is read.
 // Main statements: page_of is filled_page of the next records; write_chain is all_written, for every memory.
 
+#![tactic(auto)]
+
 ghost use Rattle.std.specs.Prelude.{◌≡◌, ◌+◌, ◌≤◌, length};
 ghost use Rattle.model.specs.Sizes.{most_records};
 ghost use Rattle.key_source.specs.Sources.{Sits, CanChoose, chosen_of};
@@ -13,7 +15,7 @@ use model::{
 };
 
 // A chain to be written: its local level, how many records it gets, where they come from, and the page for its primary page.
-#[derive(Drop)]
+#[derive(Clone, Copy)]
 pub struct Planned {
     pub level: u32,
     pub left: u32,
@@ -22,14 +24,14 @@ pub struct Planned {
 }
 
 // What is written besides: nothing, or another chain.
-#[derive(Drop)]
+#[derive(Clone, Copy)]
 pub enum Rest {
     Nothing,
     Chain(Planned),
 }
 
 // A page made, and the source of the records after its own.
-#[derive(Drop)]
+#[derive(Clone, Copy)]
 struct Filled {
     w: Page,
     source: Source,

@@ -2,6 +2,8 @@
 // Main statements: names_overflow, link_sound and page_sound are the model's tests, for every word; words_sound is the test of a page over its first three words;
 // count_pages is list_from, counted.
 
+#![tactic(auto)]
+
 ghost use Rattle.std.specs.Prelude.{◌≡◌, true, ◌+◌, ◌*◌, ◌≤◌, length};
 ghost use Rattle.model.specs.Sizes.{page_words};
 ghost use Rattle.model.specs.Pages as Pages;
@@ -11,7 +13,7 @@ ghost use Rattle.chains.specs.Walks.{words_sound, counted};
 use model::{COUNT_WORD, LEVEL_WORD, LINK_WORD, PAGE_WORDS, Page, Root};
 
 // A list that was walked: how many pages it has, or that it is damaged.
-#[derive(Drop)]
+#[derive(Clone, Copy)]
 pub enum Walked {
     Damaged,
     Pages(u32),

@@ -1,6 +1,8 @@
 // Chasing a key from chain to chain (document 01, "The thirty steps"): steps 6 to 8, which every operation has after it locked its first chain.
 // Each step function equals the model's step of the same number, on all memory that passed the refusal table; chase and after_chase are what step 6 works out.
 
+#![tactic(auto)]
+
 ghost use Rattle.std.specs.Prelude.{◌≡◌, List, ℕ, ◌-◌, ◌≤◌, length};
 ghost use Rattle.model.specs.declared.Root.{Root};
 ghost use Rattle.model.specs.Mixing.{mixed};
@@ -21,7 +23,7 @@ const LOOK: u32 = 9;
 const CHANGE: u32 = 10;
 
 // Where a chase ends: lev, and the chain that h_lev names.
-#[derive(Drop)]
+#[derive(Clone, Copy)]
 struct Chased {
     lev: u32,
     chain: ChainAddress,

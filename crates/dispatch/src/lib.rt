@@ -1,6 +1,8 @@
 // The step that a party's record names (document 01, "The thirty steps"): matches over the step numbers, grouped by the operations that have them.
 // Main statement: step_by_number is the model's step_of, for every word that the memory may hold.
 
+#![tactic(auto)]
+
 ghost use Rattle.std.specs.Prelude.{◌≡◌, ◌≤◌, length};
 ghost use Rattle.model.specs.Steps.Dispatch.{step_of};
 ghost use Rattle.records.specs.Words.{root_words, root_in, party_in, seen, left, AtHand};

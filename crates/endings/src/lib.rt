@@ -2,6 +2,8 @@
 // Main statements: done and finished are the model's, whatever the lock words are; answer_of, restructuring_of and
 // scratch_page are the model's; clear zeroes both.
 
+#![tactic(auto)]
+
 ghost use Rattle.std.specs.Prelude.{◌≡◌, List, ℕ, ◌^◌, ◌<◌, length};
 ghost use Rattle.model.specs.declared.Party.{Party};
 ghost use Rattle.model.specs.Records.{idle};

@@ -1,6 +1,8 @@
 // Lists of records in lent buffers of words, two a record, key first (document 01, "A chain's keys ascend" and step 10). A record is told apart by its key alone.
 // Main statements: ascends is ascending, below is place_of, has_at is has_key; put_in is inserted_into and leave_out is removed_from, in place.
 
+#![tactic(auto)]
+
 ghost use Rattle.std.specs.Prelude.{◌≡◌, true, false, ℕ, ◌+◌, ◌-◌, ◌*◌, ◌^◌, ◌≤◌, ◌<◌, length, set, take};
 ghost use Rattle.model.specs.Sizes.{record_words};
 ghost use Rattle.model.specs.Entries.{has_key, ascending, inserted_into, removed_from};

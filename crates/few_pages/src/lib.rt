@@ -3,6 +3,8 @@
 // Main statement: change_few is the model's step10, for every chain of at most FEW overflow pages; all is read before
 // a word is written.
 
+#![tactic(auto)]
+
 ghost use Rattle.std.specs.Prelude.{◌≡◌, List, ℕ, ◌+◌, ◌≤◌, length, take};
 ghost use Rattle.model.specs.Pages.{records_in};
 ghost use Rattle.model.specs.Chains.{Chain, chain_of, sound};

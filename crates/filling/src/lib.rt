@@ -4,6 +4,8 @@
 // Main statements: pages_for is overflow_needed, page_words is filled_page, fill_pages is overflow_written, for every
 // list of records and of pages; write_chain writes a chain whole.
 
+#![tactic(auto)]
+
 ghost use Rattle.std.specs.Prelude.{◌≡◌, ◌+◌, ◌*◌, ◌^◌, ◌≤◌, ◌<◌, length, get_or, take, drop};
 ghost use Rattle.model.specs.Sizes.{page_words, most_records, record_words};
 ghost use Rattle.model.specs.Pages.{with_page, records_in, filled_page, link_to_first};

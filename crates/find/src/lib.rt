@@ -1,6 +1,8 @@
 // Find, for find alone (document 01, "The thirty steps"): step 9. The scratch page holds the page looked at; a call looks at one page.
 // Main statements: setting_at is a word of page_of; answered, looked_on and step_09 are the model's, for every word that the memory may hold.
 
+#![tactic(auto)]
+
 ghost use Rattle.std.specs.Prelude.{◌≡◌, List, ℕ, ◌+◌, ◌*◌, ◌≤◌, ◌<◌, length, get_or};
 ghost use Rattle.model.specs.Sizes.{page_words, most_records, record_words};
 ghost use Rattle.model.specs.Pages.{page_of};

@@ -4,6 +4,8 @@
 // form and of a reply. That a line is read exactly where the grammar derives it, and that what is printed is read
 // again: proofs/FormTheorems.antt and proofs/ReplyTheorems.antt.
 
+#![tactic(auto)]
+
 ghost use Rattle.std.specs.Prelude.{◌≡◌, cond, [], ◌+◌, ◌≤◌, length, drop, leb};
 ghost use Rattle.std.proofs.lemmas.List.Edits.{sets};
 ghost use Rattle.patterns.specs.Patterns.{matched};
@@ -26,7 +28,7 @@ pub const LONGEST_REPLY: usize = 57;
 
 // A form that turns reads: the party's number stands first; a begin has its operation, an insert with its setting, and
 // the key.
-#[derive(Drop)]
+#[derive(Clone, Copy)]
 pub enum Form {
     Format(FileSizes),
     Begin(u32, Operation, u32),
@@ -36,7 +38,7 @@ pub enum Form {
 }
 
 // What turns prints for a line.
-#[derive(Drop)]
+#[derive(Clone, Copy)]
 pub enum Reply {
     Unread,
     Format(FormatAnswer),
@@ -47,26 +49,26 @@ pub enum Reply {
 }
 
 // What a line says.
-#[derive(Drop)]
+#[derive(Clone, Copy)]
 pub enum FormRead {
     Unread,
     Read(Form),
 }
 
-#[derive(Drop)]
+#[derive(Clone, Copy)]
 pub enum ReplyRead {
     Unread,
     Read(Reply),
 }
 
 // An operation's answer at a place of a line, and the place behind it.
-#[derive(Drop)]
+#[derive(Clone, Copy)]
 enum AnswerRead {
     Unread,
     Read(OperationAnswer, usize),
 }
 
-#[derive(Drop)]
+#[derive(Clone, Copy)]
 enum RestructuringRead {
     Unread,
     Read(Restructuring),

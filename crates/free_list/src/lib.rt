@@ -3,6 +3,8 @@
 // the same pages in reverse order, for every memory in which they were walked; take_pages is pages_taken and draw what
 // pages_taken leaves, for every memory; link_at is the link of a page; is_marked and mark read and set one bit.
 
+#![tactic(auto)]
+
 ghost use Rattle.std.specs.Prelude.{◌≡◌, reverse, ◌+◌, ◌*◌, ◌≤◌, ◌<◌, length, take};
 ghost use Rattle.model.specs.Records.{with_free_list};
 ghost use Rattle.model.specs.Sizes.{page_words};
@@ -16,7 +18,7 @@ ghost use Rattle.free_list.specs.Taking.{drawn_as, drawn};
 use model::{LINK_WORD, PAGE_WORDS, Page, PageAddress, Root};
 
 // Pages that were taken: the link word that is then the head, or that a number was damaged.
-#[derive(Drop)]
+#[derive(Clone, Copy)]
 pub enum Drawn {
     Damaged,
     Head(u32),

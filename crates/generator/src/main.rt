@@ -2,6 +2,8 @@
 // Main statements: put_table puts the lines of the table of the definitions, which are those of the constant that
 // `mixing::table` gives; write_table, by which alone the program writes, is given these lines and nothing else.
 
+#![tactic(auto)]
+
 ghost use Rattle.std.specs.Prelude.{◌≡◌, ◌*◌, ◌≤◌, length, take};
 ghost use Rattle.std.proofs.lemmas.List.Edits.{sets};
 ghost use Rattle.model.specs.Mixing.{next_word, outputs, table_words, table};

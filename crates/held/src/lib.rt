@@ -7,6 +7,8 @@
 // format_call, begin_call, step_call, withdraw_call and take_up_call say of the memory lent (specs/Held.antt); there is
 // nothing that a caller must see to.
 
+#![tactic(auto)]
+
 ghost use Rattle.std.specs.Prelude.{◌≡◌, ◌++◌, ◌≤◌, ◌<◌, min, length, take, drop, replicate};
 ghost use Rattle.model.specs.Records.{idle};
 ghost use Rattle.model.specs.Calls.{called};
@@ -22,19 +24,19 @@ use model::{
 use waiting_row::Place;
 
 // What a format leaves of the root record, and its answer; and so of the calls that can alter the root.
-#[derive(Drop)]
+#[derive(Clone, Copy)]
 pub struct HeldFormat {
     pub root: Root,
     pub answer: FormatAnswer,
 }
 
-#[derive(Drop)]
+#[derive(Clone, Copy)]
 pub struct HeldStep {
     pub root: Root,
     pub answer: StepAnswer,
 }
 
-#[derive(Drop)]
+#[derive(Clone, Copy)]
 pub struct HeldWithdraw {
     pub root: Root,
     pub answer: WithdrawAnswer,

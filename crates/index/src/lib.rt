@@ -8,6 +8,8 @@
 // Main statements: each call answers, and leaves in every lent word, what the model's format_call, begin_call, step_call
 // and withdraw_call say, for all words and all lengths; there is nothing that a caller must see to.
 
+#![tactic(auto)]
+
 ghost use Rattle.std.specs.Prelude.{◌≡◌, length, replicate};
 ghost use Rattle.model.specs.Calls.{called, format_call, begin_call, step_call, withdraw_call};
 ghost use Rattle.model.specs.TakeUp.{all_idle, take_up_call};

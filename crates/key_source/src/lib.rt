@@ -1,6 +1,8 @@
 // The records of a new chain, one after the other, read where they stand (document 01, steps 10 and 17): a place in a chain, and which of the chain's records are chosen.
 // Main statements: first_place is the place of a page's first record; next gives the first of the records chosen and the source of the others; count says how many there are.
 
+#![tactic(auto)]
+
 ghost use Rattle.std.specs.Prelude.{◌≡◌, [], ◌++◌, ◌+◌, ◌-◌, ◌^◌, ◌≤◌, ◌<◌, eqb, length};
 ghost use Rattle.model.specs.Addresses.{hash};
 ghost use Rattle.model.specs.Pages.{page_of, link_of, entries_of};
@@ -12,7 +14,7 @@ use model::{
 };
 
 // A place in a chain: the first word of the next record, how many records its page has from there on, the page's link, and how many pages that leads to.
-#[derive(Drop)]
+#[derive(Clone, Copy)]
 pub struct Place {
     pub at: usize,
     pub left: u32,
@@ -21,7 +23,7 @@ pub struct Place {
 }
 
 // How a split divides keys: h_level over the original chains, and the chain whose keys stay.
-#[derive(Drop)]
+#[derive(Clone, Copy)]
 pub struct Halving {
     pub originals: u32,
     pub level: u32,
@@ -29,7 +31,7 @@ pub struct Halving {
 }
 
 // Which records of a chain a new chain has: all of them; these and one more; all but that of a key; those that stay, or go, in a split.
-#[derive(Drop)]
+#[derive(Clone, Copy)]
 pub enum Choice {
     All,
     With(Entry),
@@ -38,14 +40,14 @@ pub enum Choice {
     Going(Halving),
 }
 
-#[derive(Drop)]
+#[derive(Clone, Copy)]
 pub struct Source {
     pub choice: Choice,
     pub place: Place,
 }
 
 // The next record, and the source of those after it.
-#[derive(Drop)]
+#[derive(Clone, Copy)]
 pub struct Given {
     pub entry: Entry,
     pub source: Source,

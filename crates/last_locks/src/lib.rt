@@ -2,6 +2,8 @@
 // Main statements: ended_with_root, ended_with_split and ended_with_merge are the model's ended_with, for the three lists of locks that occur.
 // Every lock is tested on the words as found; then they are given up one after the other.
 
+#![tactic(auto)]
+
 ghost use Rattle.std.specs.Prelude.{◌≡◌, [], ◌∷◌, ◌<◌, length, get_or};
 ghost use Rattle.model.specs.LockWords as LockWords;
 ghost use Rattle.model.specs.LockWords.{claim, root_word};

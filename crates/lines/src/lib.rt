@@ -5,6 +5,8 @@
 // Main statements: answer leaves the memory, and prints the reply, that line_answered says of the line and of all
 // memory (specs/Lines.antt); there is nothing that a caller must see to.
 
+#![tactic(auto)]
+
 ghost use Rattle.std.specs.Prelude.{◌≡◌, ℕ, ◌+◌, ◌*◌, ◌≤◌, min, List, [], ◌++◌, length, take, drop};
 ghost use Rattle.std.proofs.lemmas.List.Edits.{sets};
 ghost use Rattle.model.specs.Calls.{called};
@@ -19,14 +21,14 @@ use forms::{Form, FormRead, LONGEST_REPLY, Reply};
 use model::{FileSizes, Operation, PAGE_WORDS, Root};
 
 // The root record after a line, and the place behind what was printed.
-#[derive(Drop)]
+#[derive(Clone, Copy)]
 pub struct Answered {
     pub root: Root,
     pub end: usize,
 }
 
 // The root record after a call, and the reply to its form.
-#[derive(Drop)]
+#[derive(Clone, Copy)]
 struct Performed {
     root: Root,
     reply: Reply,
@@ -284,7 +286,7 @@ pub fn answer(
 const NEWLINE: u8 = b'\n';
 
 // The root record after the lines answered, where the first line not answered begins, and the place behind the replies.
-#[derive(Drop)]
+#[derive(Clone, Copy)]
 pub struct Lines {
     pub root: Root,
     pub from: usize,

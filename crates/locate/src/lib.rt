@@ -1,6 +1,8 @@
 // Locating, the steps by which every operation begins (document 01, "The thirty steps"): steps 1 to 5, up to the chain's lock and the root's given up.
 // Each step function equals the model's step of the same number, on all memory that passed the refusal table; locate is what step 3 works out.
 
+#![tactic(auto)]
+
 ghost use Rattle.std.specs.Prelude.{◌≡◌, List, ℕ, ◌≤◌};
 ghost use Rattle.model.specs.declared.Root.{Root};
 ghost use Rattle.model.specs.Addresses.{address_level, address_of};
@@ -37,7 +39,7 @@ pub fn step_02(
 }
 
 // A key's chain, and the lev whose hash names it.
-#[derive(Drop)]
+#[derive(Clone, Copy)]
 struct Located {
     lev: u32,
     chain: ChainAddress,

@@ -2,6 +2,9 @@
 // the one path of all requesting steps, and that of all steps that give up one lock and move on.
 // Main statements: chain_word, mode_of, request_step and release_step equal the model's definitions, whatever the lock, its mode and the next step's number,
 // and so does request_chain, the one path of steps 4 and 7; give_up says whether a lock was held, and gives up a held one.
+
+#![tactic(auto)]
+
 ghost use Rattle.std.specs.Prelude.{◌≡◌, List, [], ◌∷◌, ℕ, ◌<◌, length, get_or};
 ghost use Rattle.model.specs.declared.Root.{Root};
 ghost use Rattle.model.specs.Records.{at_step};

@@ -1,6 +1,8 @@
 // Step 10 on a chain of many pages (document 01, "The thirty steps"): looked through, then written to new pages as it is read, without a buffer.
 // Main statement: change_many is the model's step10, for every chain; all is read before a word is written.
 
+#![tactic(auto)]
+
 ghost use Rattle.std.specs.Prelude.{◌≡◌, List, ℕ, ◌+◌, ◌*◌, ◌≤◌, length};
 ghost use Rattle.model.specs.Sizes.{page_words};
 ghost use Rattle.model.specs.Pages.{page_of, level_of};

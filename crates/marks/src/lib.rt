@@ -3,6 +3,8 @@
 // Main statements: marked is the definition mark_of, is_formatted and is_begun are is_formatted and is_begun; that a
 // step changes no word that its mark does not name is proofs/Marks.antt.
 
+#![tactic(auto)]
+
 ghost use Rattle.std.specs.Prelude.{◌≡◌};
 ghost use Rattle.marks.specs.Answered.{is_formatted, is_begun};
 ghost use Rattle.marks.specs.Marks.{advances, mark_of};
@@ -30,7 +32,7 @@ pub fn is_begun(answer: BeginAnswer) -> bool
 }
 
 // What a step can have changed of the root and of its party's record.
-#[derive(Drop)]
+#[derive(Clone, Copy)]
 pub enum Mark {
     // The step number, or nothing.
     Advanced,

@@ -1,6 +1,8 @@
 // What format makes of the lent words (document 01: "Format makes N empty chains of level 0, lists overflow pages ascending and zeroes the rest").
 // Main statement: format_words leaves the root record, the lock words and the page words of the model's formatted memory, whatever stood there.
 
+#![tactic(auto)]
+
 ghost use Rattle.std.specs.Prelude.{◌≡◌, length, replicate};
 ghost use Rattle.model.specs.Sizes.{all_page_words};
 ghost use Rattle.model.specs.Records.{root_sized};

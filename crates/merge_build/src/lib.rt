@@ -1,6 +1,8 @@
 // Step 26, inside a delete (document 01, "The thirty steps"; document 02, change 4): the records of target and partner are joined in scratch, if they fit a page.
 // Main statement: step_26 is the model's step26, for every word that the memory may hold.
 
+#![tactic(auto)]
+
 ghost use Rattle.std.specs.Prelude.{◌≡◌};
 ghost use Rattle.model.specs.Steps.MergeBuild as MergeBuild;
 ghost use Rattle.records.specs.Words.{seen, left, AtHand};

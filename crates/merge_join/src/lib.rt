@@ -1,6 +1,8 @@
 // Two chains of a merge joined, read where they stand (document 01, step 26; document 02, change 4).
 // Main statements: shares_key is shares_key of the records from two places on, joined_page is filled_page of both joined, for every memory in which they ascend.
 
+#![tactic(auto)]
+
 ghost use Rattle.std.specs.Prelude.{◌≡◌, ◌+◌, ◌≤◌, length};
 ghost use Rattle.model.specs.Sizes.{most_records};
 ghost use Rattle.model.specs.Entries.{joined, shares_key};
@@ -13,7 +15,7 @@ use key_source::Place;
 use model::{COUNT_WORD, Entry, FIRST_RECORD, LEVEL_WORD, PAGE_WORDS, Page, RECORD_WORDS};
 
 // The next record of two chains joined, and the places after it.
-#[derive(Drop)]
+#[derive(Clone, Copy)]
 struct Taken {
     entry: Entry,
     first: Place,

@@ -4,6 +4,8 @@
 // The stack grows with the second list.
 // Main statements: last_link is the head that given_back leaves of one list, give_after and give_back_both are given_back of both lists as they were found.
 
+#![tactic(auto)]
+
 ghost use Rattle.std.specs.Prelude.{◌≡◌, ◌++◌, ◌+◌, ◌-◌, ◌*◌, ◌≤◌, length};
 ghost use Rattle.model.specs.Sizes.{page_words};
 ghost use Rattle.model.specs.Pages.{page_of, link_of};

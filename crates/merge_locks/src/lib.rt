@@ -1,6 +1,8 @@
 // Merge, inside a delete (document 01, "The thirty steps"): the requests, steps 23 to 25, and the giving up of all locks, step 30.
 // Main statements: each step_NN is the model's stepNN, for every word that the memory may hold.
 
+#![tactic(auto)]
+
 ghost use Rattle.std.specs.Prelude.{◌≡◌, List, ℕ};
 ghost use Rattle.model.specs.declared.Root.{Root};
 ghost use Rattle.model.specs.Steps.MergeLocks as MergeLocks;

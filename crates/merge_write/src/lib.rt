@@ -1,6 +1,8 @@
 // Merge, inside a delete (document 01, "The thirty steps"): what follows the joining of the records, steps 27 to 29.
 // Main statements: each step_NN is the model's stepNN, for every word that the memory may hold.
 
+#![tactic(auto)]
+
 ghost use Rattle.std.specs.Prelude.{◌≡◌, true, List, ◌++◌, ℕ, ◌-◌, ◌≤◌, length};
 ghost use Rattle.model.specs.Pages.{level_of, link_sound, with_local_level};
 ghost use Rattle.model.specs.Chains.{list_from};

@@ -3,6 +3,8 @@
 // compiler keeps it in read-only memory. For an index that is worked out it would build an array on the stack.
 // Main statements: mixed is the model's mixed; table gives the constant, proved to be what the generator makes.
 
+#![tactic(auto)]
+
 ghost use Rattle.std.specs.Prelude.{◌≡◌, ◌<◌};
 ghost use Rattle.model.specs.Mixing as Mixing;
 ghost use Rattle.mixing.specs.Places.{in_line, in_row};

@@ -2,6 +2,8 @@
 // There is no code here. Limits, the layout of a page, the numbers that records hold and calls return; the root
 // record, a party's record, lock modes, answers, and the two kinds of address.
 
+#![tactic(auto)]
+
 // ---- Limits (document 01, "What it covers")
 
 // "P chains at most, 1 to 256."
@@ -95,7 +97,7 @@ pub const UNSAVED_REFUSED: u32 = 8;
 
 // The root record (document 01, "The lent memory"). Document 01 calls the first five N, b, P, V and Q.
 #[repr(C)]
-#[derive(Drop)]
+#[derive(Clone, Copy)]
 pub struct Root {
     pub originals: u32,
     // The most records that a page holds.
@@ -113,7 +115,7 @@ pub struct Root {
 }
 
 // The sizes that a file is formatted with, as in the root record: N, b, P, V and Q.
-#[derive(Drop)]
+#[derive(Clone, Copy)]
 pub struct FileSizes {
     pub originals: u32,
     pub capacity: u32,
@@ -124,7 +126,7 @@ pub struct FileSizes {
 
 // A party's record (document 01, "The lent memory"). `old` is the old overflow link, a link word.
 #[repr(C)]
-#[derive(Drop)]
+#[derive(Clone, Copy)]
 pub struct Party {
     pub operation: u32,
     pub key: u32,
@@ -140,22 +142,22 @@ pub struct Party {
 }
 
 // A record of the file: "a key and a 32-bit setting".
-#[derive(Drop)]
+#[derive(Clone, Copy)]
 pub struct Entry {
     pub key: u32,
     pub setting: u32,
 }
 
 // A bucket chain's number: that of its primary page and, plus one, of its lock word.
-#[derive(Drop)]
+#[derive(Clone, Copy)]
 pub struct ChainAddress(pub u32);
 
 // A page's number, counted over primary, overflow and scratch pages.
-#[derive(Drop)]
+#[derive(Clone, Copy)]
 pub struct PageAddress(pub u32);
 
 // The three kinds of lock, weakest first.
-#[derive(Drop)]
+#[derive(Clone, Copy)]
 pub enum Mode {
     Read,
     Selective,
@@ -163,7 +165,7 @@ pub enum Mode {
 }
 
 // What a party can begin, beside its key. An insert has the setting that goes into the file with the key.
-#[derive(Drop)]
+#[derive(Clone, Copy)]
 pub enum Operation {
     Find,
     Insert(u32),
@@ -171,7 +173,7 @@ pub enum Operation {
 }
 
 // What an operation answers. Found has the setting of the key.
-#[derive(Drop)]
+#[derive(Clone, Copy)]
 pub enum OperationAnswer {
     Found(u32),
     Absent,
@@ -182,7 +184,7 @@ pub enum OperationAnswer {
 }
 
 // The restructuring that an operation made or skipped.
-#[derive(Drop)]
+#[derive(Clone, Copy)]
 pub enum Restructuring {
     None,
     Split,
@@ -192,7 +194,7 @@ pub enum Restructuring {
 }
 
 // What a call of step answers.
-#[derive(Drop)]
+#[derive(Clone, Copy)]
 pub enum StepAnswer {
     Waiting,
     Moved,
@@ -201,35 +203,35 @@ pub enum StepAnswer {
 }
 
 // What a call of begin answers.
-#[derive(Drop)]
+#[derive(Clone, Copy)]
 pub enum BeginAnswer {
     Begun,
     Refused(u32),
 }
 
 // What a call of withdraw answers.
-#[derive(Drop)]
+#[derive(Clone, Copy)]
 pub enum WithdrawAnswer {
     Withdrawn,
     Refused(u32),
 }
 
 // What a call of take-up answers.
-#[derive(Drop)]
+#[derive(Clone, Copy)]
 pub enum TakeUpAnswer {
     TakenUp,
     Refused(u32),
 }
 
 // What a call of format answers.
-#[derive(Drop)]
+#[derive(Clone, Copy)]
 pub enum FormatAnswer {
     Formatted,
     Refused(u32),
 }
 
 // What one step leaves beside the lent words.
-#[derive(Drop)]
+#[derive(Clone, Copy)]
 pub struct Stepped {
     pub root: Root,
     pub party: Party,

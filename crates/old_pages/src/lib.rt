@@ -1,6 +1,8 @@
 // The old overflow pages, for insert and delete (document 01, "The thirty steps"): steps 13 and 14, which lock their chain and give them back.
 // Main statements: step_13 and step_14 are the model's step13 and step14, for every word that the memory may hold.
 
+#![tactic(auto)]
+
 ghost use Rattle.std.specs.Prelude.{◌≡◌, true, length};
 ghost use Rattle.model.specs.Pages.{names_overflow};
 ghost use Rattle.model.specs.Chains.{list_from};

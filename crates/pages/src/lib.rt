@@ -1,6 +1,8 @@
 // Pages read from and written to the page memory, sixteen words each (document 01, "The lent memory").
 // Main statements: load is page_of, store is with_page, for every memory that has the page; zero is a list of zeros.
 
+#![tactic(auto)]
+
 ghost use Rattle.std.specs.Prelude.{◌≡◌, ◌+◌, ◌*◌, ◌≤◌, length, replicate};
 ghost use Rattle.model.specs.Sizes.{page_words};
 ghost use Rattle.model.specs.Pages.{page_of, with_page};

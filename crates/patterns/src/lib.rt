@@ -3,6 +3,8 @@
 // text that specs/ gives; text_at and put_text do the same for text alone. That a line is matched exactly where the grammar derives it, with one list of numbers, and that what is filled matches
 // again: proofs/Theorems.
 
+#![tactic(auto)]
+
 ghost use Rattle.std.specs.Prelude.{◌≡◌, ◌+◌, ◌≤◌, length, get_or, drop, []};
 ghost use Rattle.std.proofs.lemmas.List.Edits.{sets};
 ghost use Rattle.patterns.specs.Numbers.{scanned, scan, number_of, decimal, digits, width_of};
@@ -24,14 +26,14 @@ pub const MOST_NUMBERS: usize = 5;
 pub type Numbers = [u32; MOST_NUMBERS];
 
 // A number read at a place of a line, and the place behind it.
-#[derive(Drop)]
+#[derive(Clone, Copy)]
 pub enum Number {
     Unread,
     Read { value: u32, next: usize },
 }
 
 // Whether a pattern matched, the place behind what it matched, and the numbers found.
-#[derive(Drop)]
+#[derive(Clone, Copy)]
 pub struct Match {
     pub matched: bool,
     pub next: usize,

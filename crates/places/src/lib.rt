@@ -5,6 +5,8 @@
 // record, there are at most sixteen, as many as the root says, and the level is sound. Where nobody waits, placing
 // looks at no record.
 
+#![tactic(auto)]
+
 ghost use Rattle.std.specs.Prelude.{◌≡◌, ◌<◌, ◌≤◌, length};
 ghost use Rattle.waiting_row.specs.Entry.{place_of, stands_of};
 

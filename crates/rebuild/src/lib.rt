@@ -2,6 +2,8 @@
 // A chain of few pages goes by way of a small buffer, a longer one is written page by page as it is read: two ways to one definition.
 // Main statements: keep, note and take_off write what a change leaves of the records; change and step_10 are the model's step10, for every word that the memory may hold.
 
+#![tactic(auto)]
+
 ghost use Rattle.std.specs.Prelude.{◌≡◌, List, ℕ, ◌-◌, length};
 ghost use Rattle.model.specs.Records.{at_step, with_answer, with_old, with_owed, with_free_list};
 ghost use Rattle.model.specs.Ready.{viewing};

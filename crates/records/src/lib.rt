@@ -4,6 +4,9 @@
 // words have their names.
 // Main statements: each function equals the model's definition of the same thing, for every word given; root_of and
 // party_of are root_in and party_in, and words_of_root and words_of_party undo them; at_step changes one word.
+
+#![tactic(auto)]
+
 ghost use Rattle.std.specs.Prelude.{◌≡◌, length};
 ghost use Rattle.model.specs.Records as Records;
 ghost use Rattle.model.specs.Records.{root_sized, at_step};

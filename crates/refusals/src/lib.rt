@@ -4,6 +4,8 @@
 // for every word; format_cause, begin_cause, step_cause, withdraw_cause and take_up_cause are the first cause in the
 // table's order, 0 for none. proofs/Accepted.antt: what holds once there is none.
 
+#![tactic(auto)]
+
 ghost use Rattle.std.specs.Prelude.{◌≡◌, true, ◌^◌, ◌≤◌, ◌<◌};
 ghost use Rattle.model.specs.Sizes.{within_limits};
 ghost use Rattle.model.specs.Addresses as Addresses;

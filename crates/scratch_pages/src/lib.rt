@@ -1,6 +1,8 @@
 // A party's scratch page, read and written over the primary page of its chain (document 01, "The thirty steps").
 // Main statements: scratch_of is scratch_of; primary_written is the model's primary_written (steps 11 and 18), whatever the lock words are.
 
+#![tactic(auto)]
+
 ghost use Rattle.std.specs.Prelude.{◌≡◌, List, ℕ, ◌<◌, length};
 ghost use Rattle.model.specs.Pages.{page_of, scratch_page};
 ghost use Rattle.model.specs.ScratchPages as ScratchPages;

@@ -3,6 +3,8 @@
 // Main statements: division_of counts both halves; write_halves is both_written of them; divide_many, divide and
 // step_17 are the model's step17, for every word that the memory may hold.
 
+#![tactic(auto)]
+
 ghost use Rattle.std.specs.Prelude.{◌≡◌, List, ℕ, ◌+◌, length};
 ghost use Rattle.model.specs.Ready.{viewing};
 ghost use Rattle.model.specs.Steps.SplitBuild as SplitBuild;
@@ -22,7 +24,7 @@ use records::{FREE, HEAD, OLD};
 use split_few::{Divided, Halved};
 
 // A chain to be divided: how, from where, and how many of its records stay and go.
-#[derive(Drop)]
+#[derive(Clone, Copy)]
 struct Division {
     halving: Halving,
     place: Place,

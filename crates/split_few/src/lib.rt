@@ -4,6 +4,8 @@
 // Main statements: part leaves those that stay and those that go at the front of two buffers; divide_few is the
 // model's step17, for every chain of at most chain_keys::FEW overflow pages; all is read before a word is written.
 
+#![tactic(auto)]
+
 ghost use Rattle.std.specs.Prelude.{◌≡◌, List, ℕ, ◌-◌, ◌≤◌, length, take};
 ghost use Rattle.model.specs.Entries as Entries;
 ghost use Rattle.model.specs.Pages.{records_in};
@@ -18,14 +20,14 @@ use key_source::Halving;
 use model::{ChainAddress, PageAddress, Party, Root};
 
 // Both halves were written: the free list's head then, and how many pages are in it.
-#[derive(Drop)]
+#[derive(Clone, Copy)]
 pub struct Halved {
     pub head: u32,
     pub free: u32,
 }
 
 // What became of the chain: a damaged number was met; nothing, as too few pages are free; two chains.
-#[derive(Drop)]
+#[derive(Clone, Copy)]
 pub enum Divided {
     Damaged,
     TooFew,

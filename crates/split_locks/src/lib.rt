@@ -1,6 +1,8 @@
 // The locks of a split, inside an insert (document 01, "The thirty steps"): steps 15, 16, 19 and 22, which request them and give them up.
 // Main statements: each step_NN is the model's stepNN, for every word that the memory may hold.
 
+#![tactic(auto)]
+
 ghost use Rattle.std.specs.Prelude.{◌≡◌, List, ℕ, length};
 ghost use Rattle.model.specs.declared.Root.{Root};
 ghost use Rattle.model.specs.Steps.SplitLocks as SplitLocks;

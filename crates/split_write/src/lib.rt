@@ -1,6 +1,8 @@
 // What a split writes in the file and the root, inside an insert (document 01, "The thirty steps"): step 18 the old primary page, steps 20 and 21 next and level.
 // Main statements: each step_NN is the model's stepNN, for every word that the memory may hold.
 
+#![tactic(auto)]
+
 ghost use Rattle.std.specs.Prelude.{◌≡◌, length};
 ghost use Rattle.model.specs.Steps.SplitWrite as SplitWrite;
 ghost use Rattle.records.specs.Words.{root_words, root_in, seen, left, AtHand};

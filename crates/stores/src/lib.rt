@@ -3,6 +3,8 @@
 // Main statements: put_root and put_party leave root_by and party_by of crate `marks`, at any place of a row of any
 // length.
 
+#![tactic(auto)]
+
 ghost use Rattle.std.specs.Prelude.{◌≡◌, set};
 ghost use Rattle.model.specs.Memory.{party_at};
 ghost use Rattle.marks.specs.Marks.{root_by, party_by};

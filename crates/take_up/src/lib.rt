@@ -4,6 +4,8 @@
 // none is counted twice follows from the other conditions.
 // Main statement: words_saved is the model's is_saved of a file whose party records are zero.
 
+#![tactic(auto)]
+
 ghost use Rattle.std.specs.Prelude.{◌≡◌, true, ◌+◌, ◌-◌, ◌*◌, ◌≤◌, ◌<◌, length, drop};
 ghost use Rattle.model.specs.Sizes.{page_words, most_records, within_limits, lock_words, all_page_words};
 ghost use Rattle.model.specs.Addresses.{count_of_chains};
@@ -21,7 +23,7 @@ use free_list::Drawn;
 use model::{ChainAddress, FIRST_RECORD, PAGE_WORDS, Page, PageAddress, RECORD_WORDS, Root};
 
 // The chain that is looked through, and the level that its keys are hashed by.
-#[derive(Drop)]
+#[derive(Clone, Copy)]
 pub struct Home {
     pub originals: u32,
     pub level: u32,
@@ -29,7 +31,7 @@ pub struct Home {
 }
 
 // What was seen of a chain: whether all is well so far, and the least that its next key may be.
-#[derive(Drop)]
+#[derive(Clone, Copy)]
 pub struct Seen {
     pub ok: bool,
     pub least: u64,

@@ -468,7 +468,7 @@ module _ (f g : Operation → ℕ) (larger : (o : Operation) → f o ≤ g o) wh
   bounded_wider v w k (x ∷ xs) e =
       let both = and_both (call_bounded v x.call x.reply) (calls_bounded f (counted_after f v x.call x.reply) xs) e in
       let h = call_wider v w k x.call x.reply both.0 in
-      both-and h.0 (bounded_wider _ _ h.1 xs both.1)
+      both-and h.0 (bounded_wider (counted_after f v x.call x.reply) (counted_after g w x.call x.reply) h.1 xs both.1)
 
   pub larger_bounded : (es : List Event) → calls_bounded f none_counted es ≡ true → calls_bounded g none_counted es ≡ true
   unfolding none_counted

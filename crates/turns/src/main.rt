@@ -8,6 +8,8 @@
 // given the replies to the text of the turn. At the end of the input `read_on` ends an unfinished line. Every function
 // is safe and ends.
 
+#![tactic(auto)]
+
 ghost use Rattle.std.specs.Prelude.{◌≡◌, true, false, [], ◌∷◌, ◌++◌, ◌+◌, ◌-◌, ◌≤◌, ◌<◌, min, length, take, drop};
 ghost use Rattle.held.specs.Held.{held_in};
 ghost use Rattle.lines.specs.Texts.{newline, line_length};
@@ -26,7 +28,7 @@ const MOST_KEPT: usize = LONGEST_FORM + 1;
 // The state between two turns. The text of the turn stands in the input buffer from `start` to `to`; from `from` on it
 // is not yet answered; the bytes that came last stand from `read` on. The first `end` bytes of the output buffer are
 // the replies. Whether that text may have a whole line, whether to read on, and whether there is another turn.
-#[derive(Drop)]
+#[derive(Clone, Copy)]
 struct State {
     root: Root,
     start: usize,
@@ -40,7 +42,7 @@ struct State {
 }
 
 // What a read left: whether there may be more, whether it failed, and how many bytes of the buffer hold text.
-#[derive(Drop)]
+#[derive(Clone, Copy)]
 struct Input {
     more: bool,
     failed: bool,
@@ -49,7 +51,7 @@ struct Input {
 
 // The root record after lines of a text, where the first line not answered begins, the end of the replies, and whether
 // a line was answered.
-#[derive(Drop)]
+#[derive(Clone, Copy)]
 struct Rest {
     root: Root,
     from: usize,

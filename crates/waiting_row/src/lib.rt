@@ -5,6 +5,8 @@
 // gapless, clear and somebody are tests of the row's zeros; after_step is what a step does to the row
 // (proofs/Words.antt, after_right), after_withdraw what a withdraw does.
 
+#![tactic(auto)]
+
 ghost use Rattle.std.specs.Prelude.{◌≡◌, false, not, ◌&&◌, [], ◌∷◌, ◌++◌, ◌+◌, ◌<◌, ◌≤◌, eqb, length, take, drop};
 ghost use Rattle.std.proofs.Math.Option.{some};
 ghost use Rattle.model.specs.LockWords.{Claim};
@@ -115,7 +117,7 @@ pub fn word_of(root: Root, party: Party) -> u64
 
 // Where a party stands: whether it is in the row; whether its step is not the one that its record names, since the row
 // is damaged or the party stands behind another, and which of the two.
-#[derive(Drop)]
+#[derive(Clone, Copy)]
 pub struct Place {
     pub waits: bool,
     pub apart: bool,
@@ -126,7 +128,7 @@ pub struct Place {
 // What is known once some of the row was looked at: the word that the party itself requests, and the least strength
 // of a request for it that Table I keeps apart from its own (4 where it requests nothing); the parties met, a bit
 // each; the rest as in a place.
-#[derive(Drop)]
+#[derive(Clone, Copy)]
 pub struct Looking {
     pub word: u64,
     pub least: u32,

@@ -4,6 +4,8 @@
 // Main statements: withdrawn is the model's withdrawn, for every word that the memory may hold; all_held and
 // give_up_all go by the locks that the step number claims.
 
+#![tactic(auto)]
+
 ghost use Rattle.std.specs.Prelude.{◌≡◌, true, List, ℕ, ◌<◌, length};
 ghost use Rattle.model.specs.declared.Root.{Root};
 ghost use Rattle.model.specs.Pages.{link_sound};

@@ -1,6 +1,8 @@
 // The chain changed in the file, for insert and delete (document 01, "The thirty steps"): steps 11 and 12, and where 12 and 14 lead.
 // Main statements: step_11 and step_12 are the model's step11 and step12, for every word that the memory may hold; onward is the model's onward.
 
+#![tactic(auto)]
+
 ghost use Rattle.std.specs.Prelude.{◌≡◌, List, ℕ, length};
 ghost use Rattle.model.specs.Endings as Endings;
 ghost use Rattle.model.specs.Steps.Write as Write;

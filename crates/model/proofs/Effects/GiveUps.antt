@@ -74,7 +74,7 @@ unfolding given_up without_hold without is_claimed
 given_up_locks {h = h} [] v ok l d f a = locks_same (λ i k o. rw (and-false (eqb k v.number)) (and-true _)) ok
 given_up_locks {h = h} (c ∷ cs) v ok l d f a =
     locks_same (without_more h v.number c cs)
-    (given_up_locks cs (without_hold c v) (locks_released ok c.word f.0 v.number c.mode a.0 l) l d.1 f.1
+    (given_up_locks {h = λ i k o. h i k o && not (eqb i c.word && eqb k v.number && same_mode o c.mode)} cs (without_hold c v) (locks_released ok c.word f.0 v.number c.mode a.0 l) l d.1 f.1
     (all_zip cs (λ e n y. rw (eqb-diff e.word c.word n) (and-true _ ∙ y)) d.0 a.1))
 
 -- A party that gives up all it holds, and whose new record claims nothing.

@@ -1,0 +1,19 @@
+-- `addresses::merge_level` meets its contract: where next is 0 there is a level to lower (Limits.unbarred_has_level).
+use mathlib.Core.Path.{refl}
+use borrow.Author.Tests.{eq-eqb, ne_eqb}
+use Rattle.model.specs.Addresses.{merge_level}
+use Rattle.addresses.proofs.Limits.{unbarred_has_level}
+use Rattle.addresses.proofs.merge_level.Goals as goal
+
+pub overflow_sub-result : goal.overflow_sub-result
+overflow_sub-result c =
+    let r = c.args.root in
+    unbarred_has_level r.originals r.level r.next c.requires.1 c.if-root-eq0.true
+
+pub returns-then-root-eq0 : goal.returns-then-root-eq0
+unfolding merge_level
+returns-then-root-eq0 c = rw (eq-eqb _ _ c.if-root-eq0.true) refl
+
+pub returns-else-root-eq0 : goal.returns-else-root-eq0
+unfolding merge_level
+returns-else-root-eq0 c = rw (ne_eqb _ _ c.if-root-eq0.false) refl
