@@ -16,7 +16,6 @@ use Rattle.model.specs.Chains.{Checked, damaged, sound, and_then, overflow_from}
 use Rattle.model.proofs.Laws.Pages.{word_at}
 use Rattle.chains.specs.Walks.{words_sound, counted}
 use Rattle.chains.specs.declared.Walked.{Walked}
-use Rattle.chains.specs.declared.Walked.TheVariants as Walked
 use Rattle.chains.proofs.Tests.{words_of_page}
 
 -- The count once n pages were passed and the rest of the list is still to be walked.

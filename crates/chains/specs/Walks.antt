@@ -5,7 +5,6 @@ use Rattle.model.specs.declared.Root.{Root}
 use Rattle.model.specs.Pages.{link_sound, most_level}
 use Rattle.model.specs.Chains.{Checked, damaged, sound}
 use Rattle.chains.specs.declared.Walked.{Walked}
-use Rattle.chains.specs.declared.Walked.TheVariants as Walked
 
 -- A page's test over its local level, key count and link.
 unfoldable pub words_sound : Root → ℕ → ℕ → ℕ → Bool

@@ -1,13 +1,10 @@
 -- `chains::count_pages` meets its contract. The loop's invariant: the link is sound, and the pages passed with the rest of the list make the list.
 use mathlib.Core.Path.{◌≡◌, refl, sym, ap, ◌∙◌}
-use mathlib.Core.Bool.{true}
 use mathlib.Core.List.{List}
-use Prim.Native.Nat.{ℕ, zero-le, ◌+◌, ◌-◌, ◌*◌, ◌≤◌, ◌<◌}
+use Prim.Native.Nat.{ℕ, zero-le, ◌+◌, ◌-◌, ◌<◌}
 use native.Mathlib.Nat.{sub-zero}
 use native.Mathlib.Omega.{arith}
 use lib.ListN.{length}
-use borrow.Author.Tests.{not-true, not-false}
-use Rattle.model.specs.Sizes.{page_words}
 use Rattle.model.specs.Pages.{page_of, page_sound}
 use Rattle.model.specs.Chains.{Checked, overflow_from, list_from}
 use Rattle.model.proofs.Laws.Tests.{sound_link_fits, sound_page_links}
@@ -29,43 +26,65 @@ returns-then-n-root c =
     let left = a.root.overflow - l.n in
     sym (l.invariant.2 ∙ walk_too_long a.root ps l.n l.l left (omega arith) c.loop-l-test.true)
 
--- The page that the link names stands in the memory.
-page_fits : (c : tie.Else1 invariant-loop decreases-loop)
-    → (c.before.before.before.loop.l - 1) * page_words + page_words ≤ length c.before.before.before.before.before.args.pages.now
-page_fits c =
-    let start = c.before.before.before.before.before in
-    let l = c.before.before.before.loop in
-    sound_link_fits start.args.root l.l (length start.args.pages.now) c.before.before.loop-test.true l.invariant.1 start.requires.1
-
 pub overflow_cast-at : goal.overflow_cast-at
-overflow_cast-at c = omega (arith, page_fits c)
+overflow_cast-at c =
+    let a = c.args in
+    let l = c.loop-l in
+    omega (arith, sound_link_fits a.root l.l (length a.pages.now) c.loop-l-test.true l.invariant.1 c.requires.1)
 
 pub overflow_mul-at : goal.overflow_mul-at
-overflow_mul-at c = omega (arith, page_fits c)
+overflow_mul-at c =
+    let a = c.args in
+    let l = c.loop-l in
+    omega (arith, sound_link_fits a.root l.l (length a.pages.now) c.loop-l-test.true l.invariant.1 c.requires.1)
 
 pub offset_bounds-pages-at : goal.offset_bounds-pages-at
-offset_bounds-pages-at c = omega (arith, page_fits c)
+offset_bounds-pages-at c =
+    let a = c.args in
+    let l = c.loop-l in
+    omega (arith, sound_link_fits a.root l.l (length a.pages.now) c.loop-l-test.true l.invariant.1 c.requires.1)
 
 pub bounds-pages-at : goal.bounds-pages-at
-bounds-pages-at c = omega (arith, page_fits c)
+bounds-pages-at c =
+    let a = c.args in
+    let l = c.loop-l in
+    omega (arith, sound_link_fits a.root l.l (length a.pages.now) c.loop-l-test.true l.invariant.1 c.requires.1)
 
 pub overflow_add-count : goal.overflow_add-count
-overflow_add-count c = omega (arith, page_fits c)
+overflow_add-count c =
+    let a = c.args in
+    let l = c.loop-l in
+    omega (arith, sound_link_fits a.root l.l (length a.pages.now) c.loop-l-test.true l.invariant.1 c.requires.1)
 
 pub offset_bounds-pages-at-in-loop-l : goal.offset_bounds-pages-at-in-loop-l
-offset_bounds-pages-at-in-loop-l c = omega (arith, page_fits c)
+offset_bounds-pages-at-in-loop-l c =
+    let a = c.args in
+    let l = c.loop-l in
+    omega (arith, sound_link_fits a.root l.l (length a.pages.now) c.loop-l-test.true l.invariant.1 c.requires.1)
 
 pub bounds-pages-at-in-loop-l : goal.bounds-pages-at-in-loop-l
-bounds-pages-at-in-loop-l c = omega (arith, page_fits c)
+bounds-pages-at-in-loop-l c =
+    let a = c.args in
+    let l = c.loop-l in
+    omega (arith, sound_link_fits a.root l.l (length a.pages.now) c.loop-l-test.true l.invariant.1 c.requires.1)
 
 pub overflow_add-link : goal.overflow_add-link
-overflow_add-link c = omega (arith, page_fits c)
+overflow_add-link c =
+    let a = c.args in
+    let l = c.loop-l in
+    omega (arith, sound_link_fits a.root l.l (length a.pages.now) c.loop-l-test.true l.invariant.1 c.requires.1)
 
 pub offset_bounds-pages-at-in-loop-l-2 : goal.offset_bounds-pages-at-in-loop-l-2
-offset_bounds-pages-at-in-loop-l-2 c = omega (arith, page_fits c)
+offset_bounds-pages-at-in-loop-l-2 c =
+    let a = c.args in
+    let l = c.loop-l in
+    omega (arith, sound_link_fits a.root l.l (length a.pages.now) c.loop-l-test.true l.invariant.1 c.requires.1)
 
 pub bounds-pages-at-in-loop-l-2 : goal.bounds-pages-at-in-loop-l-2
-bounds-pages-at-in-loop-l-2 c = omega (arith, page_fits c)
+bounds-pages-at-in-loop-l-2 c =
+    let a = c.args in
+    let l = c.loop-l in
+    omega (arith, sound_link_fits a.root l.l (length a.pages.now) c.loop-l-test.true l.invariant.1 c.requires.1)
 
 pub returns-then-not-words_sound : goal.returns-then-not-words_sound
 returns-then-not-words_sound c =
@@ -74,7 +93,7 @@ returns-then-not-words_sound c =
     let ps = a.pages.now in
     let left = a.root.overflow - l.n in
     let tested : c.words_sound.result ≡ page_sound a.root (page_of ps (l.l - 1)) = c.words_sound.ensures ∙ words_at ps (l.l - 1) a.root in
-    let bad = sym tested ∙ not-true _ c.if-not-words_sound.true in
+    let bad = sym tested ∙ c.if-not-words_sound.true in
     let some : 0 < left = omega (arith, c.if-n-root.false) in
     sym (l.invariant.2 ∙ walk_unsound a.root ps l.n l.l left some c.loop-l-test.true bad)
 
@@ -85,7 +104,7 @@ loop-l-preserved c =
     let ps = a.pages.now in
     let left = a.root.overflow - l.n in
     let tested : c.words_sound.result ≡ page_sound a.root (page_of ps (l.l - 1)) = c.words_sound.ensures ∙ words_at ps (l.l - 1) a.root in
-    let good = sym tested ∙ not-false _ c.if-not-words_sound.false in
+    let good = sym tested ∙ c.if-not-words_sound.false in
     let next = link_at ps (l.l - 1) in
     let some : 0 < left = omega (arith, c.if-n-root.false) in
     let fewer : left - 1 ≡ a.root.overflow - (l.n + 1) = omega arith in (
