@@ -7,7 +7,6 @@ use Prim.Native.Nat.{ℕ}
 use Rattle.model.specs.declared.Root.{Root}
 use Rattle.model.specs.declared.Party.{Party}
 use Rattle.model.specs.declared.StepAnswer.{StepAnswer}
-use Rattle.model.specs.declared.StepAnswer.TheVariants as StepAnswer
 use Rattle.model.specs.Outcome.{View, Outcome, moved}
 use Rattle.model.specs.Steps.Table.{answer_word, lev_word, chains_word, old_word, owed_word, level_word, next_word, free_word}
 use Rattle.model.specs.Steps.Dispatch.{step_of, writes_table, writes}

@@ -2,9 +2,7 @@
 -- Main definitions: is_formatted, is_begun.
 use Rattle.std.specs.Prelude.{Bool, true, false}
 use Rattle.model.specs.declared.FormatAnswer.{FormatAnswer}
-use Rattle.model.specs.declared.FormatAnswer.TheVariants as FormatAnswer
 use Rattle.model.specs.declared.BeginAnswer.{BeginAnswer}
-use Rattle.model.specs.declared.BeginAnswer.TheVariants as BeginAnswer
 
 -- Whether format did its work.
 abbrev pub is_formatted : FormatAnswer → Bool

@@ -7,10 +7,8 @@ use Rattle.std.specs.Prelude.{Bool, cond, ◌||◌, ℕ, ltb, eqb}
 use Rattle.model.specs.declared.Root.{Root}
 use Rattle.model.specs.declared.Party.{Party}
 use Rattle.model.specs.declared.StepAnswer.{StepAnswer}
-use Rattle.model.specs.declared.StepAnswer.TheVariants as StepAnswer
 use Rattle.model.specs.Records.{idle}
 use Rattle.marks.specs.declared.Mark.{Mark}
-use Rattle.marks.specs.declared.Mark.TheVariants as Mark
 
 -- Whether a step locates: 1 to 9.
 abbrev pub locates : ℕ → Bool
