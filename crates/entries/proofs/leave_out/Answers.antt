@@ -24,8 +24,8 @@ loop-i-preserved c =
     let more = c.loop-i-test.true in
     let next : l.i ≡ l.i - 1 + 1 = omega arith in
     let here : l.i + 1 - 1 ≡ l.i = omega arith in
-    let long : length c.set_record.new.0 ≡ length l.words = c.set_record.auto.0 in
-    let moved : records_in c.set_record.new.0 ≡ set rs (l.i - 1) (record_at rs l.i)
+    let long : length c.set_record.new.words ≡ length l.words = c.set_record.auto.words in
+    let moved : records_in c.set_record.new.words ≡ set rs (l.i - 1) (record_at rs l.i)
     = c.set_record.ensures ∙ ap (λ (e : Entry). set rs (l.i - 1) e) c.record_at.ensures in
     let down = moved_down rs (l.i - 1) l.i next (omega (arith, length_records l.words, more, l.invariant.2)) in
     (omega arith, omega arith, omega (arith, long, l.invariant.2), long ∙ l.invariant.3, rw here (ap (all_but l.i) moved ∙ down ∙ l.invariant.4))

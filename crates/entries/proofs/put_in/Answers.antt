@@ -26,8 +26,8 @@ loop-i-preserved c =
     let rs = records_in l.words in
     let more = c.loop-i-test.true in
     let next : l.i ≡ l.i - 1 + 1 = omega arith in
-    let long : length c.set_record.new.0 ≡ length l.words = c.set_record.auto.0 in
-    let moved : records_in c.set_record.new.0 ≡ set rs l.i (record_at rs (l.i - 1))
+    let long : length c.set_record.new.words ≡ length l.words = c.set_record.auto.words in
+    let moved : records_in c.set_record.new.words ≡ set rs l.i (record_at rs (l.i - 1))
     = c.set_record.ensures ∙ ap (λ (e : Entry). set rs l.i e) c.record_at.ensures in
     let up = moved_up rs (l.i - 1) l.i next (omega (arith, length_records l.words, l.invariant.1, l.invariant.2)) in
     (omega arith, omega arith, omega (arith, long, l.invariant.2), long ∙ l.invariant.3, ap (all_but (l.i - 1)) moved ∙ up ∙ l.invariant.4)

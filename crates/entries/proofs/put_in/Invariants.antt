@@ -1,7 +1,6 @@
 -- What the loop of `entries::put_in` keeps, and why it ends.
 use mathlib.Core.Path.{◌≡◌}
-use Prim.Native.Nat.{◌+◌, ◌-◌, ◌*◌, ◌≤◌}
-use mathlib.Core.List.{◌∷◌}
+use Prim.Native.Nat.{◌+◌, ◌*◌, ◌≤◌}
 use lib.ListN.{length}
 use Rattle.model.specs.Sizes.{record_words}
 use Rattle.model.specs.Pages.{records_in}
