@@ -1,7 +1,6 @@
 -- Where none is held every request is granted, else Table I's entry beside the strongest lock held decides: the model's word_judged.
-use mathlib.Core.Path.{◌≡◌, refl, sym, ◌∙◌}
-use mathlib.Core.Bool.{true}
-use mathlib.Core.Option.{Option, none, some}
+use Rattle.std.proofs.Common.{◌≡◌, refl, sym, ◌∙◌, true}
+use Rattle.std.proofs.Math.Option.{Option, none, some}
 use Rattle.model.specs.declared.Mode.{Mode}
 use Rattle.model.specs.LockWords.{table_one}
 use Rattle.model.specs.GrantTable.{held_in, strongest, granted_beside}
@@ -23,12 +22,9 @@ held-decides m s (some t) e = cc
 pub returns-in-None : goal.returns-in-None
 returns-in-None c =
     let a = c.args in
-    let e = c.strongest-held.ensures in
-    sym (word_judged a.w a.m ∙ none-granted a.m (strongest (held_in a.w)) (sym e ∙ c.enum_told-1.given.1))
+    sym (word_judged a.w a.m ∙ none-granted a.m (strongest (held_in a.w)) (sym c.in-None.ensures))
 
 pub returns-in-In : goal.returns-in-In
 returns-in-In c =
     let a = c.args in
-    let e = c.strongest-held.ensures in
-    let h = c.held-1.given in
-    c.entry.ensures ∙ sym (word_judged a.w a.m ∙ held-decides a.m h.0.0 (strongest (held_in a.w)) (sym e ∙ h.1))
+    c.entry.ensures ∙ sym (word_judged a.w a.m ∙ held-decides a.m c.in-In.s (strongest (held_in a.w)) (sym c.in-In.ensures))
