@@ -58,13 +58,13 @@ loop-i-preserved c =
     let rest = drop (l.i + 1) a.taken.now in
     let page : c.page_words-w.result ≡ filled_page 0 (take a.b here) (link_to_first rest)
     = c.page_words-w.ensures ∙ ap (λ (part : List Entry). filled_page 0 part c.link_to-link.result) front ∙ ap (filled_page 0 (take a.b here)) c.link_to-link.ensures in
-    let now : c.store.new.0 ≡ with_page l.pages x (filled_page 0 (take a.b here) (link_to_first rest))
+    let now : c.store.new.pages ≡ with_page l.pages x (filled_page 0 (take a.b here) (link_to_first rest))
     = c.store.ensures ∙ ap (with_page l.pages x) page in
     let turn = page_filled_ok a.b l.pages a.taken.now l.i here more in (
       omega (arith, told, (share_few a.b (a.m - l.at)).1, l.invariant.0),
       omega (arith, more),
-      c.store.auto.0 ∙ l.invariant.2,
-      l.invariant.3 ∙ turn ∙ ap (λ (ps : List ℕ). filled a.b ps rest (drop a.b here)) (sym now) ∙ ap (filled a.b c.store.new.0 rest) (sym after),
+      c.store.auto.pages ∙ l.invariant.2,
+      l.invariant.3 ∙ turn ∙ ap (λ (ps : List ℕ). filled a.b ps rest (drop a.b here)) (sym now) ∙ ap (filled a.b c.store.new.pages rest) (sym after),
     )
 
 pub returns : goal.returns
