@@ -4,12 +4,12 @@ use Rattle.records.proofs.setting_given.Goals as goal
 
 pub returns-in-Find : goal.returns-in-Find
 unfolding setting_given
-returns-in-Find c = rw c.enum_told-1.given.1
+returns-in-Find c = rw c.in-Find.is
 
 pub returns-in-Insert : goal.returns-in-Insert
 unfolding setting_given
-returns-in-Insert c = rw c.operation-1.given.1
+returns-in-Insert c = rw c.in-Insert.is
 
 pub returns-in-Delete : goal.returns-in-Delete
 unfolding setting_given
-returns-in-Delete c = rw c.enum_told-in-Delete-1.given.1
+returns-in-Delete c = rw c.in-Delete.is
