@@ -5,18 +5,11 @@ use native.Mathlib.Nat.{lt_of_lt_of_le}
 use lib.Pow.{shl_exact, shl_lt, pow_mono}
 use Rattle.model.specs.Addresses.{span}
 use borrow.Author.Rules.{rules}
-use Rattle.refusals.proofs.span.Statement.{statement}
-use Rattle.refusals.proofs.span.Tie as tie
+use Rattle.refusals.proofs.span.Goals as goal
 
-shl-result : tie.Need-overflow-shl-result
-shl-result c = search rules
-
-returns : tie.Need-returns
+pub returns : goal.returns
 unfolding span
 returns c =
     let level = c.args.level in
     let exact = shl_exact {a = c.args.n} 32 level 64 (search rules) (omega arith) in
     (exact, rw exact (lt_of_lt_of_le (shl_lt 32 level (search rules)) (pow_mono {i = 32 + level} {j = 40} (omega arith))))
-
-pub span-spec : {M : Type 1} → statement M
-span-spec = tie.close (tie.spec shl-result returns)
