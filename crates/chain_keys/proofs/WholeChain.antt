@@ -22,7 +22,6 @@ use Rattle.chains.specs.declared.Walked.TheVariants as Walked
 use Rattle.model.proofs.Laws.Tests.{sound_page_links, sound_page_counts}
 use Rattle.chain_keys.specs.declared.Front.{Front}
 use Rattle.chain_keys.specs.declared.Gathered.{Gathered}
-use Rattle.chain_keys.specs.declared.Gathered.TheVariants as Gathered
 use Rattle.chain_keys.specs.Gathering.{overflow_of, CanGather, Followed, entries_from, front_of, gathered, in_front, entries_in}
 use Rattle.chain_keys.proofs.Following.{walked_walks}
 

@@ -5,14 +5,13 @@ use Rattle.std.specs.Prelude.{◌≡◌, cond, List, ℕ, ◌+◌, ◌*◌, ◌�
 use Rattle.model.specs.declared.Root.{Root}
 use Rattle.model.specs.Sizes.{page_words, most_records, record_words}
 use Rattle.model.specs.declared.Entry.{Entry}
-use Rattle.model.specs.Pages.{page_of, level_of, count_of, link_of, records_in, page_sound, primary_page}
+use Rattle.model.specs.Pages.{page_of, count_of, link_of, records_in, page_sound, primary_page}
 use Rattle.model.specs.Chains.{Checked, damaged, sound, and_then, list_from, entries_on, Chain}
 use Rattle.chains.specs.Links.{linked_pages, LeadsOn}
 use Rattle.chains.specs.Walks.{counted}
 use Rattle.chains.specs.declared.Walked.TheVariants as Walked
 use Rattle.chain_keys.specs.declared.Front.{Front}
 use Rattle.chain_keys.specs.declared.Gathered.{Gathered}
-use Rattle.chain_keys.specs.declared.Gathered.TheVariants as Gathered
 
 -- The overflow pages of chain c: its primary page is tested, and every page of the list.
 unfoldable pub overflow_of : Root → List ℕ → ℕ → Checked (List ℕ)
