@@ -4,13 +4,12 @@ use mathlib.Core.Path.{◌≡◌, refl, sym, ap, ◌∙◌}
 use mathlib.Core.Bool.{Bool, true, false, cond, ◌&&◌, true≢false}
 use mathlib.Core.List.{List, [], ◌∷◌, ◌++◌}
 use Prim.Native.Nat.{ℕ, suc, ◌+◌, ◌≤◌, ◌<◌}
-use native.Mathlib.Numerals.{add-one}
 use native.Mathlib.Omega.{arith}
 use lib.ListN.{length, get_or, set, drop, drop_of_length-le}
 use lib.Seq.{sets}
 use lib.Dec.{eqb}
 use borrow.Author.Tests.{eq-eqb, ne_eqb}
-use Rattle.patterns.specs.Patterns.{hole, Matching, no, yes, and_then, number_in, byte_in, symbol_in, match_from, starts_with}
+use Rattle.patterns.specs.Patterns.{hole, no, yes, and_then, number_in, byte_in, symbol_in, match_from, starts_with}
 use Rattle.patterns.specs.Grammar.{holes}
 use Rattle.patterns.proofs.Tests.{Told, holds, fails, tell, both_true, next_of}
 

@@ -4,7 +4,7 @@
 use mathlib.Core.Path.{◌≡◌, refl, sym, ap, ◌∙◌}
 use mathlib.Core.Bool.{Bool, true, false, cond, ◌&&◌}
 use mathlib.Core.List.{List, [], ◌∷◌, ◌++◌}
-use Prim.Native.Nat.{ℕ, zero, suc, ◌+◌, ◌-◌, ◌*◌, ◌≤◌, ◌<◌}
+use Prim.Native.Nat.{ℕ, suc, ◌+◌, ◌-◌, ◌*◌, ◌≤◌, ◌<◌}
 use native.Mathlib.Omega.{arith}
 use lib.ListN.{length, get_or, set, take, drop, replicate, length-append, length-drop, length-set, drop_of_length-le}
 use lib.Seq.{drop-drop, set-append_seam, append_snoc, take-suc-set, length-take-le}
@@ -12,11 +12,9 @@ use lib.Dec.{eqb, leb, ltb}
 use native.Mathlib.Numerals.{add-one}
 use borrow.Author.Tests.{lt-ltb, le-ltb, eq-eqb, ne_eqb}
 use Rattle.patterns.specs.declared.Number.{Number}
-use Rattle.patterns.specs.declared.Number.TheVariants as Number
-use Rattle.patterns.specs.declared.Match.{Match}
 use Rattle.patterns.specs.Numbers.{is_digit, largest, most_digits, Scan, unread, read, ended, scan, scanned}
 use Rattle.patterns.specs.Patterns.{hole, Matching, no, yes, and_then, after_number, number_in, byte_in, symbol_in, match_from, to_end, padded, matched}
-use Rattle.patterns.proofs.Tests.{Told, holds, fails, tell, next_of, left-from}
+use Rattle.patterns.proofs.Tests.{next_of, left-from}
 
 -- ---- The pattern p at place i and the line l at place j, the numbers ns found
 

@@ -2,14 +2,14 @@
 -- Main statements: scan_complete, scan_sound (for a numeral before a byte that is no digit); decimal_numeral, decimal_short, no_leading_zero.
 use mathlib.Core.Path.{◌≡◌, refl, sym, ap, ◌∙◌}
 use mathlib.Core.Bool.{Bool, true, false, cond, not, ◌&&◌, true≢false}
-use mathlib.Core.List.{List, [], ◌∷◌, ◌++◌, append_assoc}
+use mathlib.Core.List.{List, [], ◌∷◌, ◌++◌}
 use Prim.Native.Nat.{ℕ, zero, suc, ◌+◌, ◌-◌, ◌*◌, ◌/◌, ◌%◌, ◌^◌, ◌≤◌, ◌<◌}
-use native.Mathlib.Nat.{add-zero, add-suc, suc-add, pow-zero, pow-suc, pow-le-pow_right}
+use native.Mathlib.Nat.{add-zero, pow-zero, pow-suc}
 use native.Mathlib.Omega.{arith}
 use lib.ListN.{length, get_or, get_or-append}
-use lib.Dec.{eqb, leb, ltb, lit<, lit≤}
-use borrow.Author.Tests.{lt-ltb, le-ltb, le-leb, eq-eqb, ne_eqb, ltb-true, leb-true, eqb-false, ltb-false}
-use Rattle.patterns.specs.Numbers.{is_digit, all_digits, value_from, value_of, most_digits, largest, Scan, unread, read, ended, scan, digits, width, width_of, decimal}
+use lib.Dec.{eqb, leb, ltb}
+use borrow.Author.Tests.{lt-ltb, le-leb, ne_eqb, ltb-true, leb-true, eqb-false, ltb-false}
+use Rattle.patterns.specs.Numbers.{is_digit, all_digits, value_from, value_of, most_digits, largest, unread, read, ended, scan, digits, width, width_of, decimal}
 use Rattle.patterns.specs.Grammar.{Numeral}
 use Rattle.patterns.proofs.Tests.{Told, holds, fails, tell, both_true}
 use Rattle.patterns.proofs.Scanning.{a_digit}

@@ -1,18 +1,17 @@
 -- A number read from a line digit by digit.
 -- Main statements: in a line l at place i, scan-end, scan-stop, scan-long, scan-more; scanned-at (the answer at the end of the digits); value_small, value_next.
-use mathlib.Core.Path.{◌≡◌, refl, sym, ap, ◌∙◌}
+use mathlib.Core.Path.{◌≡◌, refl, ap, ◌∙◌}
 use mathlib.Core.Bool.{Bool, true, false, cond, ◌&&◌}
-use mathlib.Core.List.{List, [], ◌∷◌}
+use mathlib.Core.List.{List}
 use Prim.Native.Nat.{ℕ, suc, ◌+◌, ◌-◌, ◌*◌, ◌^◌, ◌≤◌, ◌<◌}
 use native.Mathlib.Nat.{pow-suc, pow-le-pow_right}
 use native.Mathlib.Numerals.{add-one}
 use native.Mathlib.Omega.{arith}
 use lib.ListN.{length, get_or, drop, drop_of_length-le}
-use lib.Dec.{eqb, leb, ltb, lit<}
+use lib.Dec.{leb, ltb, lit<}
 use borrow.Author.Tests.{le-leb, lt-leb, ne_eqb, eq-eqb}
 use Rattle.patterns.specs.declared.Number.{Number}
-use Rattle.patterns.specs.declared.Number.TheVariants as Number
-use Rattle.patterns.specs.Numbers.{is_digit, largest, Scan, unread, read, ended, scan, scanned, number_of}
+use Rattle.patterns.specs.Numbers.{is_digit, largest, unread, read, ended, scan, scanned, number_of}
 use Rattle.patterns.proofs.Tests.{next_of, left-from}
 
 -- ---- Digits

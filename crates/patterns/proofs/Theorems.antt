@@ -3,16 +3,15 @@
 -- Main statements: match_complete, match_sound; stops_derived; line_matched, matched_line (for whole lines); same_pattern, same_numbers; filled_derived, filled-matched;
 -- derives_append, derives_split, filled_append (patterns joined); filled_literal, literal_derived, literal_line (patterns without holes).
 use mathlib.Core.Path.{◌≡◌, refl, sym, ap, ◌∙◌, subst₂}
-use mathlib.Core.Bool.{Bool, true, false, cond, not, ◌&&◌, true≢false}
+use mathlib.Core.Bool.{Bool, true, false, cond, not, true≢false}
 use mathlib.Core.List.{List, [], ◌∷◌, ◌++◌, append_assoc, append-nil}
-use Prim.Native.Nat.{ℕ, zero, suc, ◌+◌, ◌≤◌, ◌<◌}
-use native.Mathlib.Nat.{add-zero}
+use Prim.Native.Nat.{ℕ, ◌+◌, ◌≤◌}
 use native.Mathlib.Omega.{arith}
 use lib.ListN.{length, get_or, drop, length-append}
 use lib.Dec.{eqb, ltb}
 use borrow.Author.Tests.{lt-ltb, eq-eqb, ne_eqb, eqb-true, eqb-false, not-true}
 use Rattle.patterns.specs.Numbers.{is_digit, all_digits, largest, most_digits, Scan, unread, read, scan, decimal}
-use Rattle.patterns.specs.Patterns.{hole, most_numbers, Matching, no, yes, and_then, after_number, number_in, byte_in, symbol_in, match_from, to_end, symbol_text, numbers_after, filled}
+use Rattle.patterns.specs.Patterns.{hole, most_numbers, no, yes, and_then, after_number, number_in, byte_in, symbol_in, match_from, symbol_text, numbers_after, filled}
 use Rattle.patterns.specs.Grammar.{Numeral, Derives, end, byte, number, plain, holes, Plain}
 use Rattle.patterns.proofs.Tests.{Told, holds, fails, tell, both_true}
 use Rattle.patterns.proofs.Numerals.{stops, scan_complete, scan_sound, Read, decimal_numeral, decimal_short}

@@ -2,7 +2,6 @@
 -- Main definitions: is_digit, all_digits, value_of; scan (the number at the head of a line, read as far as there are digits); decimal.
 use Rattle.std.specs.Prelude.{Bool, true, cond, ◌&&◌, List, [], ◌∷◌, ◌++◌, ℕ, zero, suc, ◌+◌, ◌-◌, ◌*◌, ◌/◌, ◌%◌, length, eqb, leb, ltb}
 use Rattle.patterns.specs.declared.Number.{Number}
-use Rattle.patterns.specs.declared.Number.TheVariants as Number
 
 -- "0" and "9".
 unfoldable pub is_digit : ℕ → Bool

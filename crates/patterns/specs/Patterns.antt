@@ -1,6 +1,6 @@
 -- Patterns: lists of bytes in which `#` stands for a number and every other byte for itself.
 -- Main definitions: match_from (a pattern at the head of a line), to_end, filled (the text of a pattern with numbers in its holes).
-use Rattle.std.specs.Prelude.{Bool, true, false, cond, ◌&&◌, List, [], ◌∷◌, ◌++◌, ℕ, zero, suc, ◌+◌, ◌-◌, length, get_or, drop, replicate, eqb, ltb}
+use Rattle.std.specs.Prelude.{Bool, true, false, cond, ◌&&◌, List, [], ◌∷◌, ◌++◌, ℕ, ◌-◌, length, get_or, drop, replicate, eqb, ltb}
 use Rattle.patterns.specs.declared.Match.{Match}
 use Rattle.patterns.specs.Numbers.{Scan, unread, read, scan, decimal}
 

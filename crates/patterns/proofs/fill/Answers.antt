@@ -1,12 +1,12 @@
 -- `patterns::fill` meets its contract. The loop's invariant: the text still to be put, put into the bytes as they are, gives what is promised (Put).
 use mathlib.Core.Path.{◌≡◌, sym, ap}
-use mathlib.Core.Logic.{⊎_elim}
-use Prim.Native.Nat.{ℕ, ◌-◌}
+use Prim.Native.Nat.{ℕ}
 use native.Mathlib.Omega.{arith}
 use lib.ListN.{length, get_or, length-append}
 use Rattle.patterns.specs.Numbers.{decimal}
 use Rattle.patterns.proofs.Filling.{none_put, filled-hole, filled_byte, hole_put, byte_put, all_put}
 use Rattle.patterns.proofs.fill.Goals as goal
+use Rattle.patterns.proofs.fill.Goals.{then-b-eq-HOLE, else-b-eq-HOLE}
 
 pub loop-i-init : goal.loop-i-init
 loop-i-init c =
@@ -33,13 +33,10 @@ pub loop-i-preserved : goal.loop-i-preserved
 loop-i-preserved c =
     let l = c.loop-i in
     let more = c.loop-i-test.true in
-    ⊎_elim
-    (λ w. rw (w.6, w.7, w.8) (hole_put l.invariant more w.0.taken w.1.ensures w.3.ensures.1 w.3.ensures.0))
-    (λ w. rw (w.1, w.2, w.3) (byte_put l.invariant more w.0.left))
-    c.if-b-eq-HOLE.branch
+    elim c.if-b-eq-HOLE.branch [ then-b-eq-HOLE w ↦ rw (w.out-is, w.k-is, w.j-is) (hole_put l.invariant more w.if-b-eq-HOLE.true w.number_at.ensures w.put_number-j.ensures.out_after w.put_number-j.ensures.value) | else-b-eq-HOLE w ↦ rw (w.out-is, w.k-is, w.j-is) (byte_put l.invariant more w.if-b-eq-HOLE.false) ]
 
 pub returns : goal.returns
 returns c =
     let l = c.loop-i in
     let put = all_put l.invariant c.loop-i-test.false in
-    (sym put.0, sym put.1)
+    record { value = sym put.0; out_after = sym put.1 }

@@ -1,13 +1,12 @@
 -- `patterns::match_at` meets its contract. The loop's invariant: the whole match is that of the rest of the pattern with the rest of the line.
 use mathlib.Core.Path.{sym, ap, ◌∙◌}
-use mathlib.Core.Logic.{⊎_elim}
-use Prim.Native.Nat.{◌-◌}
 use native.Mathlib.Omega.{arith}
 use lib.ListN.{length, take, drop}
 use Rattle.patterns.specs.Numbers.{scan}
 use Rattle.patterns.specs.Patterns.{matched}
 use Rattle.patterns.proofs.Matching.{none_run, found, hole_run, byte_run, hole_full, hole_unread, byte_end, byte_other, pattern_end, unread_told, matched_at}
 use Rattle.patterns.proofs.match_at.Goals as goal
+use Rattle.patterns.proofs.match_at.Goals.{then-b-eq-HOLE+else-k-ge-MOST_NUMBERS+in-Read, else-b-eq-HOLE+else-line-j+else-line-j-2}
 
 pub loop-i-init : goal.loop-i-init
 loop-i-init c =
@@ -31,7 +30,7 @@ returns-in_default c =
     let p = a.pattern.now in
     let line = a.line.now in
     let ns = take l.k l.numbers in
-    let unread = unread_told (length line) (scan 0 0 (drop l.j line)) (sym c.read_number.ensures ∙ c.enum_told-1.given.1) in
+    let unread = unread_told (length line) (scan 0 0 (drop l.j line)) (sym c.read_number.ensures ∙ c.in_default.is) in
     c.unmatched-in_default.ensures ∙ sym (ap (matched (length line)) (l.invariant.same ∙ hole_unread p line ns l.i l.j c.loop-i-test.true c.if-b-eq-HOLE.true (omega (arith, found l.invariant, c.if-k-ge-MOST_NUMBERS.false)) unread))
 
 pub returns-then-line-j : goal.returns-then-line-j
@@ -58,10 +57,7 @@ pub loop-i-preserved : goal.loop-i-preserved
 loop-i-preserved c =
     let l = c.loop-i in
     let more = c.loop-i-test.true in
-    ⊎_elim
-    (λ w. rw (w.6, w.7, w.8) (hole_run l.invariant more w.0.taken w.1.left (sym w.2.ensures ∙ w.4.given.1)))
-    (λ w. rw (w.4, w.5, w.6) (byte_run l.invariant more w.0.left w.1.left w.3.left))
-    c.if-b-eq-HOLE.branch
+    elim c.if-b-eq-HOLE.branch [ then-b-eq-HOLE+else-k-ge-MOST_NUMBERS+in-Read w ↦ rw (w.numbers-is, w.k-is, w.j-is) (hole_run l.invariant more w.if-b-eq-HOLE.true w.if-k-ge-MOST_NUMBERS.false (sym w.read_number.ensures ∙ w.in-Read.is)) | else-b-eq-HOLE+else-line-j+else-line-j-2 w ↦ rw (w.numbers-is, w.k-is, w.j-is) (byte_run l.invariant more w.if-b-eq-HOLE.false w.if-line-j.false w.if-line-j-2.false) ]
 
 pub returns : goal.returns
 returns c =

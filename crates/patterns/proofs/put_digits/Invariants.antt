@@ -1,6 +1,6 @@
 -- What the loop of `patterns::put_digits` keeps, and why it ends.
 use mathlib.Core.Path.{◌≡◌}
-use Prim.Native.Nat.{◌-◌, ◌≤◌}
+use Prim.Native.Nat.{◌≤◌}
 use lib.ListN.{length}
 use lib.Seq.{sets}
 use Rattle.patterns.specs.Numbers.{digits}

@@ -22,4 +22,4 @@ unfolding decimal
 returns c =
     let a = c.args in
     let wide : c.width_of-width.result ≡ width_of a.n = c.width_of-width.ensures in
-    (omega (arith, wide, length-decimal a.n), c.put_digits.ensures ∙ ap (λ (w : ℕ). sets a.out.now a.at (digits w a.n)) wide)
+    record { value = omega (arith, wide, length-decimal a.n); out_after = c.put_digits.ensures ∙ ap (λ (w : ℕ). sets a.out.now a.at (digits w a.n)) wide }

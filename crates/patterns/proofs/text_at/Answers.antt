@@ -1,6 +1,6 @@
 -- `patterns::text_at` meets its contract. The loop's invariant: the text stands there where its rest stands at the rest of the line.
 use mathlib.Core.Path.{◌≡◌, sym, ap, ◌∙◌}
-use Prim.Native.Nat.{ℕ, ◌+◌, ◌-◌}
+use Prim.Native.Nat.{ℕ, ◌+◌}
 use native.Mathlib.Nat.{add-zero}
 use native.Mathlib.Omega.{arith}
 use lib.ListN.{drop, length-drop}
