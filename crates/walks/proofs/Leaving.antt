@@ -5,14 +5,14 @@ use mathlib.Core.Path.{◌≡◌, sym, subst}
 use mathlib.Core.List.{List, [], ◌∷◌}
 use Prim.Native.Nat.{ℕ, zero, suc}
 use seplogic.Ra.Ura.{Ura}
-use seplogic.Ra.TreeShare.{full_share}
+use base.Fraction.{full_share}
 use mir.Syntax.{Ty}
 use mir.Val.{Val}
 use base.Logic.{SProp, ent, sep, emp, id⊢, via, comm∗, assoc∗, assoc', mono_l, mono_r, fst∗, emp∗}
 use base.Fml.{fat, froom, fdies}
 use prog.Wp.{release}
 use types.Logic.{Logic}
-use types.Kit.{Item, Goal, Seq, Step, ‵, ⋆, mean, push, pop, aim, frees, step}
+use types.Kit.{Item, Goal, Step, ‵, ⋆, mean, push, pop, aim, frees, step}
 
 -- What a local occupied.
 pub data Cell : Type 0 where
