@@ -13,9 +13,7 @@ use Rattle.model.proofs.Laws.Lists.{Ord, lt, ge, ord, le-leb, lt-leb}
 use Rattle.model.proofs.Laws.Entries.{has_append}
 use Rattle.chain_scan.specs.Scans.{ascent_from, looked, examined}
 use Rattle.chain_scan.specs.declared.Ascent.{Ascent}
-use Rattle.chain_scan.specs.declared.Ascent.TheVariants as Ascent
 use Rattle.chain_scan.specs.declared.Scan.{Scan}
-use Rattle.chain_scan.specs.declared.Scan.TheVariants as Scan
 
 -- ---- Two lists together
 

@@ -7,10 +7,8 @@ use Rattle.model.specs.Sizes.{most_records, record_words}
 use Rattle.model.specs.Entries.{key_of, has_key, setting_in, ascending}
 use Rattle.model.specs.Chains.{Checked, damaged, sound, Chain}
 use Rattle.chain_scan.specs.declared.Ascent.{Ascent}
-use Rattle.chain_scan.specs.declared.Ascent.TheVariants as Ascent
 use Rattle.chain_scan.specs.declared.Looked.{Looked}
 use Rattle.chain_scan.specs.declared.Scan.{Scan}
-use Rattle.chain_scan.specs.declared.Scan.TheVariants as Scan
 
 -- Of the records es of page w, that at place i has key k and the setting that is found; where i is past the last place none has the key.
 pub record PlaceIn (w : List ℕ) (es : List Entry) (k i : ℕ) : Type 0 where
