@@ -4,7 +4,6 @@ use Rattle.std.specs.Prelude.{List, ℕ}
 use Rattle.model.specs.Chains.{Checked, damaged, sound}
 use Rattle.model.specs.FreeList.{Taken}
 use Rattle.free_list.specs.declared.Drawn.{Drawn}
-use Rattle.free_list.specs.declared.Drawn.TheVariants as Drawn
 
 -- The pages taken and the head that the code found, or damage.
 abbrev pub drawn_as : Drawn → List ℕ → Checked Taken
