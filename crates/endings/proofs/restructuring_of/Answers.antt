@@ -5,8 +5,7 @@ use native.Mathlib.Omega.{arith}
 use borrow.Author.Tests.{eq-eqb, ne_eqb}
 use Rattle.model.specs.declared.Restructuring.TheVariants as Restructuring
 use Rattle.model.specs.Answers.{restructuring_of}
-use Rattle.endings.proofs.restructuring_of.Statement.{statement}
-use Rattle.endings.proofs.restructuring_of.Tie as tie
+use Rattle.endings.proofs.restructuring_of.Goals as goal
 
 owed-3-is-split : (n : ℕ) → n ≡ 3 → Restructuring.Split ≡ restructuring_of n
 unfolding restructuring_of
@@ -16,11 +15,8 @@ else-none : (n : ℕ) → (n ≡ 3 → ⊥) → Restructuring.None ≡ restructu
 unfolding restructuring_of
 else-none n h = rw (ne_eqb n 3 h) refl
 
-returns : tie.Need-returns
-returns c = owed-3-is-split c.before.args.owed (omega arith)
+pub returns-then-owed-eq3 : goal.returns-then-owed-eq3
+returns-then-owed-eq3 c = owed-3-is-split c.args.owed (omega arith)
 
-returns-2 : tie.Need-returns-2
-returns-2 c = else-none c.before.args.owed c.if1.false
-
-pub restructuring-of-spec : {M : Type 1} → statement M
-restructuring-of-spec = tie.close (tie.spec returns returns-2)
+pub returns-else-owed-eq3 : goal.returns-else-owed-eq3
+returns-else-owed-eq3 c = else-none c.args.owed c.if-owed-eq3.false
