@@ -6,7 +6,6 @@ use Prim.Native.Nat.{ℕ, zero, suc}
 use Rattle.model.specs.declared.Root.{Root}
 use Rattle.model.specs.declared.Party.{Party}
 use Rattle.marks.specs.declared.Mark.{Mark}
-use Rattle.marks.specs.declared.Mark.TheVariants as Mark
 use Rattle.marks.specs.Marks.{moved_in, root_by, party_by}
 
 -- The place of a mark among the variants, and the mark at a place.
