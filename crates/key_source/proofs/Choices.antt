@@ -9,35 +9,25 @@ use native.Mathlib.Omega.{arith}
 use lib.ListN.{length}
 use lib.Dec.{eqb}
 use borrow.Author.Tests.{lt-ltb, le-ltb}
-use mathlib.Core.Logic.{inl, inr}
-use types.Run.{OneOf}
-use denote.Enum.Declared.{tag_of}
 use Rattle.model.specs.Addresses.{hash}
 use Rattle.model.specs.declared.Entry.{Entry}
 use Rattle.model.specs.Entries.{key_of, inserted_into, removed_from, staying, going}
 use Rattle.model.proofs.Laws.Changes.{length_inserted}
 use Rattle.key_source.specs.declared.Halving.{Halving}
 use Rattle.key_source.specs.declared.Choice.{Choice}
-use Rattle.key_source.specs.contracts.Choice.{the_type}
 use Rattle.key_source.specs.declared.Choice.TheVariants.{All, With, Without, Staying, Going}
 use Rattle.key_source.specs.Sources.{chosen, kept, extra_records}
 
 -- ---- No record in addition
 
 -- A choice that is not With, as a match tells it.
-pub no_extra : (c : Choice) → OneOf (0 ∷ (2 ∷ (3 ∷ (4 ∷ [])))) (tag_of the_type c) → extra_records c ≡ 0
+pub no_extra : (c : Choice) → ((x : Entry) → c ≡ With x → ⊥) → extra_records c ≡ 0
 unfolding extra_records
-no_extra All o = refl
-no_extra (With k) o = absurd (never o)
-  where
-    never : OneOf (0 ∷ (2 ∷ (3 ∷ (4 ∷ [])))) 1 → ⊥
-    never (inl e) = omega (arith, e)
-    never (inr (inl e)) = omega (arith, e)
-    never (inr (inr (inl e))) = omega (arith, e)
-    never (inr (inr (inr e))) = omega (arith, e)
-no_extra (Without k) o = refl
-no_extra (Staying h) o = refl
-no_extra (Going h) o = refl
+no_extra All other = refl
+no_extra (With x) other = absurd (other x refl)
+no_extra (Without k) other = refl
+no_extra (Staying h) other = refl
+no_extra (Going h) other = refl
 
 pub chosen_none : (c : Choice) → extra_records c ≡ 0 → chosen c [] ≡ []
 unfolding chosen extra_records removed_from staying going
