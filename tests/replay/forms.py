@@ -13,11 +13,11 @@ PATTERNS = {
     "begin": re.compile(rb"\(begin " + NUMBER + rb" \((?:(find|delete) " + NUMBER + rb"|(insert) " + NUMBER + rb" " + NUMBER + rb")\)\)"),
     "step": re.compile(rb"\(step " + NUMBER + rb"\)"),
     "withdraw": re.compile(rb"\(withdraw " + NUMBER + rb"\)"),
-    "takeUp": re.compile(rb"\(take-up\)"),
+    "take_up": re.compile(rb"\(take-up\)"),
 }
 # The kinds of form that print another word than their name, and those that name no party.
-WORDS = {"takeUp": "take-up"}
-NO_PARTY = ("format", "takeUp")
+WORDS = {"take_up": "take-up"}
+NO_PARTY = ("format", "take_up")
 PRINTED = rb"(0|[1-9][0-9]{0,9})"
 REFUSED = re.compile(rb"\(refused " + PRINTED + rb"\)")
 FOUND = re.compile(rb"\(done \(found " + PRINTED + rb"\) none\)")
@@ -43,7 +43,7 @@ REPLIES = {
     "begin": {"ok": "BeginAnswer.Begun"},
     "step": {"waiting": "StepAnswer.Waiting", "moved": "StepAnswer.Moved", **DONE},
     "withdraw": {"ok": "WithdrawAnswer.Withdrawn"},
-    "takeUp": {"ok": "TakeUpAnswer.TakenUp"},
+    "take_up": {"ok": "TakeUpAnswer.TakenUp"},
 }
 
 
@@ -60,7 +60,7 @@ class Form:
 
     # How the kind stands in a longer name: TakeUp.
     def title(self):
-        return self.kind[0].upper() + self.kind[1:]
+        return ''.join(word.capitalize() for word in self.kind.split('_'))
 
     # How every reply to the form begins: the call, then the party without leading zeros where one is named.
     def heading(self):

@@ -16,18 +16,18 @@ BOUND = 500_000
 # Tests of a run that must be true of every stretch of begins, steps and withdraws after a format: `m` is the memory that the format left, `calls` the stretch.
 # A test is passed over where the definitions do not have its names; those without a module stand in HARNESS.
 CHECKS = [
-    "Book.bookAgrees Book.emptyBook (Runs.events m calls)",
-    "Links.linksFresh Links.clockStart m calls",
-    "Progress.alwaysProgresses (m .root .parties) Book.emptyBook m calls",
-    "Holds.grantsRight (m .root) Book.emptyBook [] [] m calls",
-    "NoPage.noPageKept NoPage.noneWrote (Runs.events m calls)",
-    "Withdrawals.withdrawnUnwritten NoPage.noneWrote (Runs.events m calls)",
-    "FittingMerges.mergesFit FittingMerges.nothingHad m calls",
-    "TakenUp.alwaysTaken (m .root .parties) Book.emptyBook m calls",
-    "mapAscends Book.emptyBook m calls",
-    "mapSaved Book.emptyBook m calls",
-    "CallsBounded.callsBounded (CallsBounded.mostCalls (m .root)) CallsBounded.noneCounted (Runs.events m calls)",
-    "CallsBounded.callsBounded (CallsBounded.mostBySizes (m .root)) CallsBounded.noneCounted (Runs.events m calls)",
+    "Book.book_agrees Book.empty_book (Runs.events m calls)",
+    "Links.links_fresh Links.clock_start m calls",
+    "Progress.always_progresses m.root.parties Book.empty_book m calls",
+    "Holds.grants_right m.root Book.empty_book [] [] m calls",
+    "NoPage.no_page_kept NoPage.none_wrote (Runs.events m calls)",
+    "Withdrawals.withdrawn_unwritten NoPage.none_wrote (Runs.events m calls)",
+    "FittingMerges.merges_fit FittingMerges.nothing_had m calls",
+    "TakenUp.always_taken m.root.parties Book.empty_book m calls",
+    "map_ascends Book.empty_book m calls",
+    "map_saved Book.empty_book m calls",
+    "CallsBounded.calls_bounded (CallsBounded.most_calls m.root) CallsBounded.none_counted (Runs.events m calls)",
+    "CallsBounded.calls_bounded (CallsBounded.most_by_sizes m.root) CallsBounded.none_counted (Runs.events m calls)",
 ]
 
 # The fields of a root record and of a party's record, in the order of the words in a file of single calls.
@@ -35,12 +35,8 @@ ROOT_FIELDS = "originals capacity primaries overflow parties level next head fre
 PARTY_FIELDS = "operation key step lev chain other old owed answer setting".split()
 
 HEADER = """\
-use mathlib.Core.Path.{_≡_, refl}
-use mathlib.Core.List.{List, [], _∷_}
-use mathlib.Core.Bool.{Bool, true, false, cond, _&&_}
-use Prim.Native.Nat.{ℕ, _+_, _*_}
-use lib.ListN.{replicate}
-use lib.Dec.{eqb}
+use mathlib.Core.Path.{refl}
+use Rattle.std.specs.Prelude.{Bool, true, false, cond, eqb, ◌&&◌, List, [], ◌∷◌, replicate, ℕ, ◌+◌, ◌*◌, ◌≡◌}
 """
 MODULES = ["Sizes", "Records", "Mixing", "Memory", "Calls", "TakeUp", "Runs", "Entries", "Book", "Progress"]
 ANSWER_TYPES = ["FormatAnswer", "BeginAnswer", "StepAnswer", "WithdrawAnswer", "TakeUpAnswer"]
@@ -51,64 +47,67 @@ HARNESS = """
 data Form : Type 0 where
   format : ℕ → ℕ → ℕ → ℕ → ℕ → Form
   call : Runs.Call → Form
-  takeUp : Form
+  take_up : Form
 
 data Reply : Type 0 where
-  toFormat : FormatAnswer → Reply
-  toBegin : BeginAnswer → Reply
-  toStep : StepAnswer → Reply
-  toWithdraw : WithdrawAnswer → Reply
-  toTakeUp : TakeUpAnswer → Reply
+  to_format : FormatAnswer → Reply
+  to_begin : BeginAnswer → Reply
+  to_step : StepAnswer → Reply
+  to_withdraw : WithdrawAnswer → Reply
+  to_take_up : TakeUpAnswer → Reply
 
 abbrev memory : Root → List Party → List ℕ → List ℕ → List ℕ → Memory.Memory
 memory r ps ls ws row = record { root = r; parties = ps; locks = ls; pages = ws; waiting = row }
 
 -- "memory starts zero".
 abbrev blank : Memory.Memory
-blank = memory (Records.rootOfSizes 0 0 0 0 0) [] [] [] []
+blank = memory (Records.root_of_sizes 0 0 0 0 0) [] [] [] []
 
 -- Memory of the lengths that the sizes ask for. Sizes outside their limits are refused whatever is lent: the memory stays as it was.
 abbrev lent : Memory.Memory → ℕ → ℕ → ℕ → ℕ → ℕ → Memory.Memory
-lent m n b p v q = elim (Sizes.withinLimits (Records.rootOfSizes n b p v q)) [
-    true ↦ memory (m .root) (replicate q Records.idle) (replicate (p + 1) 0) (replicate (16 * (p + v + q)) 0) (replicate q 0)
-  | false ↦ m ]
+lent m n b p v q =
+    cond (Sizes.within_limits (Records.root_of_sizes n b p v q)) (memory m.root (replicate q Records.idle) (replicate (p + 1) 0) (replicate (16 * (p + v + q)) 0) (replicate q 0)) m
 
 -- After a refused format the earlier file stays.
-abbrev kept : Memory.Memory → Calls.Called FormatAnswer → Memory.Memory
-kept m c = elim (c .answer) [ FormatAnswer.Formatted ↦ c .memory | FormatAnswer.Refused n ↦ m ]
+abbrev kept_by : FormatAnswer → Memory.Memory → Memory.Memory → Memory.Memory
+kept_by FormatAnswer.Formatted m formatted = formatted
+kept_by (FormatAnswer.Refused n) m formatted = m
 
-abbrev afterFormat : ℕ → ℕ → ℕ → ℕ → ℕ → Memory.Memory
-afterFormat n b p v q = kept blank (Calls.formatCall (lent blank n b p v q) n b p v q)
+abbrev kept : Memory.Memory → Calls.Called FormatAnswer → Memory.Memory
+kept m c = kept_by c.answer m c.memory
+
+abbrev after_format : ℕ → ℕ → ℕ → ℕ → ℕ → Memory.Memory
+after_format n b p v q = kept blank (Calls.format_call (lent blank n b p v q) n b p v q)
 
 abbrev replies : Memory.Memory → List Form → List Reply
 replies m [] = []
-replies m (format n b p v q ∷ fs) = (let c = Calls.formatCall (lent m n b p v q) n b p v q in toFormat (c .answer) ∷ replies (kept m c) fs)
-replies m (call (Runs.beginFor q o k) ∷ fs) = (let c = Calls.beginCall m q o k in toBegin (c .answer) ∷ replies (c .memory) fs)
-replies m (call (Runs.stepFor q) ∷ fs) = (let c = Calls.stepCall m q in toStep (c .answer) ∷ replies (c .memory) fs)
-replies m (call (Runs.withdrawFor q) ∷ fs) = (let c = Calls.withdrawCall m q in toWithdraw (c .answer) ∷ replies (c .memory) fs)
-replies m (takeUp ∷ fs) = (let c = TakeUp.takeUpCall m in toTakeUp (c .answer) ∷ replies (c .memory) fs)
+replies m (format n b p v q ∷ fs) = (let c = Calls.format_call (lent m n b p v q) n b p v q in to_format c.answer ∷ replies (kept m c) fs)
+replies m (call (Runs.begin_for q o k) ∷ fs) = (let c = Calls.begin_call m q o k in to_begin c.answer ∷ replies c.memory fs)
+replies m (call (Runs.step_for q) ∷ fs) = (let c = Calls.step_call m q in to_step c.answer ∷ replies c.memory fs)
+replies m (call (Runs.withdraw_for q) ∷ fs) = (let c = Calls.withdraw_call m q in to_withdraw c.answer ∷ replies c.memory fs)
+replies m (take_up ∷ fs) = (let c = TakeUp.take_up_call m in to_take_up c.answer ∷ replies c.memory fs)
 
 -- The book's map ascends, before every call and after the last.
-abbrev mapAscends : Book.Book → Memory.Memory → List Runs.Call → Bool
-mapAscends b m [] = Entries.ascending (b .contents)
-mapAscends b m (c ∷ cs) =
-    Entries.ascending (b .contents) && mapAscends (Progress.bookAfterCall b m c) (Runs.afterCall m c) cs
+abbrev map_ascends : Book.Book → Memory.Memory → List Runs.Call → Bool
+map_ascends b m [] = Entries.ascending b.contents
+map_ascends b m (c ∷ cs) =
+    Entries.ascending b.contents && map_ascends (Progress.book_after_call b m c) (Runs.after_call m c) cs
 
-abbrev sameRecords : List Entry → List Entry → Bool
-sameRecords [] [] = true
-sameRecords [] (e ∷ es) = false
-sameRecords (d ∷ ds) [] = false
-sameRecords (d ∷ ds) (e ∷ es) = eqb (d .key) (e .key) && (eqb (d .setting) (e .setting) && sameRecords ds es)
+abbrev same_records : List Entry → List Entry → Bool
+same_records [] [] = true
+same_records [] (e ∷ es) = false
+same_records (d ∷ ds) [] = false
+same_records (d ∷ ds) (e ∷ es) = eqb d.key e.key && (eqb d.setting e.setting && same_records ds es)
 
 -- Where nobody is under way, the records of the file are the book's map; likewise.
-abbrev savedNow : Book.Book → Memory.Memory → Bool
-savedNow b m =
-    let busy = Progress.someBelow (m .root .parties) (Progress.underWay b) in
-    cond busy true (sameRecords (TakeUp.recordsSaved m) (b .contents))
+abbrev saved_now : Book.Book → Memory.Memory → Bool
+saved_now b m =
+    let busy = Progress.some_below m.root.parties (Progress.under_way b) in
+    cond busy true (same_records (TakeUp.records_saved m) b.contents)
 
-abbrev mapSaved : Book.Book → Memory.Memory → List Runs.Call → Bool
-mapSaved b m [] = savedNow b m
-mapSaved b m (c ∷ cs) = savedNow b m && mapSaved (Progress.bookAfterCall b m c) (Runs.afterCall m c) cs
+abbrev map_saved : Book.Book → Memory.Memory → List Runs.Call → Bool
+map_saved b m [] = saved_now b m
+map_saved b m (c ∷ cs) = saved_now b m && map_saved (Progress.book_after_call b m c) (Runs.after_call m c) cs
 """
 
 
@@ -125,27 +124,27 @@ def spaced(numbers):
 
 def run_call(form):
     if form.kind == "begin":
-        return f"Runs.beginFor {form.numbers[0]} {form.operation_term()} {form.numbers[1]}"
-    return f"Runs.{form.kind}For {form.numbers[0]}"
+        return f"Runs.begin_for {form.numbers[0]} {form.operation_term()} {form.numbers[1]}"
+    return f"Runs.{form.kind}_for {form.numbers[0]}"
 
 
 def form_term(form):
     if form.kind == "format":
         return f"format {spaced(form.numbers)}"
-    return form.kind if form.kind == "takeUp" else f"call ({run_call(form)})"
+    return form.kind if form.kind == "take_up" else f"call ({run_call(form)})"
 
 
 # The call that a form makes on the memory named.
 def call_on(form, memory):
     if form.kind == "begin":
-        return f"Calls.beginCall {memory} {form.numbers[0]} {form.operation_term()} {form.numbers[1]}"
-    module = "TakeUp" if form.kind == "takeUp" else "Calls"
-    return f"{module}.{form.kind}Call {memory} {spaced(form.numbers)}"
+        return f"Calls.begin_call {memory} {form.numbers[0]} {form.operation_term()} {form.numbers[1]}"
+    module = "TakeUp" if form.kind == "take_up" else "Calls"
+    return f"{module}.{form.kind}_call {memory} {spaced(form.numbers)}"
 
 
 def memory_term(memory):
-    root = f"(rootOf {spaced(words(memory['root'], len(ROOT_FIELDS)))})"
-    parties = listed(f"partyOf {spaced(words(party, len(PARTY_FIELDS)))}" for party in memory["parties"])
+    root = f"(root_of {spaced(words(memory['root'], len(ROOT_FIELDS)))})"
+    parties = listed(f"party_of {spaced(words(party, len(PARTY_FIELDS)))}" for party in memory["parties"])
     rows = " ".join(listed(map(str, words(memory[row]))) for row in ("locks", "pages", "row"))
     return f"memory {root} {parties} {rows}"
 
@@ -182,7 +181,7 @@ class Replies:
     def text(self, name, count):
         items = self.items[:count]
         forms = listed(form_term(form) for _, form, _ in items)
-        answers = listed(f"to{form.title()} ({answer})" for _, form, answer in items)
+        answers = listed(f"to_{form.kind} ({answer})" for _, form, answer in items)
         given = defined(f"forms-{name}", "List Form", forms) + defined(f"right-{name}", "List Reply", answers)
         return given + claimed(name, f"replies blank forms-{name}", f"right-{name}")
 
@@ -199,7 +198,7 @@ class Stretch:
     def text(self, name, count):
         calls = listed(run_call(form) for _, form in self.items[:count])
         given = defined(f"calls-{name}", "List Runs.Call", calls)
-        return given + claimed(name, f"{self.check} (afterFormat {spaced(self.format.numbers)}) calls-{name}", "true")
+        return given + claimed(name, f"{self.check} (after_format {spaced(self.format.numbers)}) calls-{name}", "true")
 
 
 # That a call on given words leaves the reply and the words given: one item, its line. `after` is None where nothing changes.
@@ -304,7 +303,7 @@ def exported_names(crates):
             for mark, name in re.findall(r"^ *(unfoldable )?(?:abbrev )?pub (\S+)(?: \{[^}]*\})? :", file.read_text(encoding="utf-8"), re.M):
                 names.add(f"{module}.{name}")
                 if mark:
-                    unfoldable.append(f"Rattle·{crate}.specs.{module}.{name}")
+                    unfoldable.append(f"Rattle.{crate}.specs.{module}.{name}")
     return names, unfoldable, homes
 
 
@@ -320,9 +319,9 @@ def outputs(count):
 
 
 # The checker works a definition out anew in each claim: so the copy has the table written out, and TABLE_CLAIM says that this alters nothing.
-MADE_TABLE = "\ntable = outputs tableWords seed\n"
+MADE_TABLE = "\ntable = outputs table_words seed\n"
 TABLE_CLAIM = """
-table-written-out : Mixing.table ≡ Mixing.outputs Mixing.tableWords Mixing.seed
+table-written-out : Mixing.table ≡ Mixing.outputs Mixing.table_words Mixing.seed
 unfolding opened
 table-written-out = refl
 """
@@ -351,7 +350,7 @@ class Scratch:
             (self.replay / part).mkdir(parents=True)
         (folder / "crates.txt").write_text("model:\ntheory: model\nreplay: model theory\n")
         write_table_out(folder / "crates/model/specs/Mixing.antt")
-        (self.replay / "src/lib.rt").write_text("// Claims about the definitions. There is no code.\n")
+        (self.replay / "src/lib.rt").write_text("// Claims about the definitions. There is no code.\n\n#![tactic(auto)]\n")
         (self.replay / "specs/Lib.antt").write_text("pub mod Claims\n")
         names, self.unfoldable, self.homes = exported_names(crates)
         known = [check for check in CHECKS if names.issuperset(names_in(check))]
@@ -360,10 +359,10 @@ class Scratch:
     # What stands above the claims. `opened` unfolds every definition where it is named.
     def preamble(self):
         modules = MODULES + [name.split(".")[0] for check in self.checks.values() for name in names_in(check)]
-        uses = [f"use Rattle·{self.homes[module]}.specs.{module}" for module in dict.fromkeys(modules)]
-        uses += [f"use Rattle·model.specs.declared.{name}.{{{name}}}" for name in TYPES]
-        uses += [f"use Rattle·model.specs.declared.{name}.the-variants as {name}" for name in ENUMS]
-        parts = [HEADER, "\n".join(uses), "\n", HARNESS, record_maker("rootOf", "Root", ROOT_FIELDS), record_maker("partyOf", "Party", PARTY_FIELDS)]
+        uses = [f"use Rattle.{self.homes[module]}.specs.{module}" for module in dict.fromkeys(modules)]
+        uses += [f"use Rattle.model.specs.declared.{name}.{{{name}}}" for name in TYPES]
+        uses += [f"use Rattle.model.specs.declared.{name}.TheVariants as {name}" for name in ENUMS]
+        parts = [HEADER, "\n".join(uses), "\n", HARNESS, record_maker("root_of", "Root", ROOT_FIELDS), record_maker("party_of", "Party", PARTY_FIELDS)]
         parts += [f"\nabbrev {name} : Memory.Memory → List Runs.Call → Bool\n{name} m calls = {check}\n" for name, check in self.checks.items()]
         parts += ["\nopened : ℕ\nunfolding " + " ".join(self.unfoldable) + "\nopened = 0\n", TABLE_CLAIM]
         return "".join(parts)
@@ -372,7 +371,7 @@ class Scratch:
     def refused_among(self, claims, counts):
         texts = [claim.text(f"claim-{i}", count) for i, (claim, count) in enumerate(zip(claims, counts))]
         (self.replay / "specs/Claims.antt").write_text(self.preamble() + "".join(texts), encoding="utf-8")
-        run = subprocess.run(["rt", "check", "replay"], cwd=self.folder, capture_output=True, encoding="utf-8", errors="replace")
+        run = subprocess.run(["rt", "check"], cwd=self.replay, capture_output=True, encoding="utf-8", errors="replace")
         errors = re.findall(r"^.*: error: `claim-(\d+)`: (.*)", run.stdout, re.M)
         if run.returncode != 0 and (not errors or len(errors) != run.stdout.count(": error: ")):
             raise CheckerTrouble(run.stdout + run.stderr)
