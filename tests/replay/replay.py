@@ -376,7 +376,7 @@ class Scratch:
         if run.returncode != 0 and (not errors or len(errors) != run.stdout.count(": error: ")):
             raise CheckerTrouble(run.stdout + run.stderr)
         no_verdict = "rattle: no verdict" in run.stdout
-        limit = {int(i) for i, said in errors if no_verdict or "step limit" in said}
+        limit = {int(i) for i, said in errors if no_verdict or "step limit" in said or "ran out of" in said}
         return {int(i) for i, _ in errors} - limit, limit
 
 
