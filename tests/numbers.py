@@ -23,8 +23,8 @@ def numbers(source):
 
 def figures(source):
     """The most calls of each operation: the figure by sizes, of the most rehashes that there can be; a find's without its overflow pages."""
-    rehashes = int(re.search(r"^mostRehashes r = doubledFrom (\d+) 0 ", source, re.M)[1])
-    first = re.findall(r"^mostWith n r \(?Operation\.(\w+).* = (\d+) \+ 3 \* n", source, re.M)
+    rehashes = int(re.search(r"^most_rehashes r = doubled_from (\d+) 0 ", source, re.M)[1])
+    first = re.findall(r"^most_with n r \(?Operation\.(\w+).* = (\d+) \+ 3 \* n", source, re.M)
     return {f"MOST_{name.upper()}": int(calls) + 3 * rehashes for name, calls in first}
 
 

@@ -19,7 +19,7 @@ def layers_of(text):
     layers, seen = [], set()
     for paragraph in text.split('\n\n'):
         lines = paragraph.strip().split('\n')
-        crates = {name.strip(): [other for other in uses.split() if other not in KIT] for name, _, uses in (line.partition(':') for line in lines if line and not line.startswith('#'))}
+        crates = {name.split()[0]: [other for other in uses.split() if other not in KIT] for name, _, uses in (line.partition(':') for line in lines if line and not line.startswith('#'))}
         says = ' '.join(line.lstrip('# ') for line in lines if line.startswith('#'))
         if crates and not says:
             raise Wrong(f'crates.txt: the layer of {next(iter(crates))} has no comment that says what it is')

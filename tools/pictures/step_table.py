@@ -1,5 +1,5 @@
 """The thirty steps as the picture has them, read from the definitions: of each its lane, the locks held when its turn comes, those that it requests and gives up,
-where it leads (rowTable), whether an operation can be withdrawn before it (isDecided), and its words (docs/STEPS.md). What docs/SPECIFICATION.md says of the next
+where it leads (row_table), whether an operation can be withdrawn before it (is_decided), and its words (docs/STEPS.md). What docs/SPECIFICATION.md says of the next
 steps is read beside it, and a difference is an error.
 A lock is a word and a mode: R read, S selective, X exclusive; R/S is an operation's own mode, read for a find and selective otherwise."""
 import re
@@ -10,17 +10,17 @@ Step = namedtuple('Step', 'number lane holds asks gives to ends withdrawn words'
 # The names that the definitions have, and what the picture says: who has a step, lists of locks, locks requested, next steps.
 LANES = {'everybody': 'locate', 'finds': 'find', 'changes': 'change', 'inserts': 'split', 'deletes': 'merge'}
 CLAIMS = {
-    'noLock': '', 'onRoot rootRead': 'root R', 'onRootAndChain': 'root R, chain R/S', 'onChain': 'chain R/S', 'onOther': 'other R/S',
-    'onBoth': 'other R/S, chain R/S', 'onChainExclusive': 'chain X', 'onRoot rootSelective': 'root S', 'splitting': 'root S, chain S',
-    'onRoot rootExclusive': 'root X', 'mergingTarget': 'root X, chain X', 'merging rootExclusive': 'root X, chain X, other X',
-    'merging rootSelective': 'root S, chain X, other X', 'λ p. chainSelective p ∷ []': 'chain S',
+    'no_lock': '', 'on_root root_read': 'root R', 'on_root_and_chain': 'root R, chain R/S', 'on_chain': 'chain R/S', 'on_other': 'other R/S',
+    'on_both': 'other R/S, chain R/S', 'on_chain_exclusive': 'chain X', 'on_root root_selective': 'root S', 'splitting': 'root S, chain S',
+    'on_root root_exclusive': 'root X', 'merging_target': 'root X, chain X', 'merging root_exclusive': 'root X, chain X, other X',
+    'merging root_selective': 'root S, chain X, other X', 'λ p. chain_selective p ∷ []': 'chain S',
 }
 WANTS = {
-    'wantsNone': '', 'wantsRoot rootRead': 'root R', 'wantsRoot rootSelective': 'root S', 'wantsRoot rootExclusive': 'root X', 'wantsChain': 'chain R/S',
-    'wantsChainExclusive': 'chain X', 'wantsNext': 'chain S', 'wantsTarget': 'chain X', 'wantsOther': 'other X',
+    'wants_none': '', 'wants_root root_read': 'root R', 'wants_root root_selective': 'root S', 'wants_root root_exclusive': 'root X', 'wants_chain': 'chain R/S',
+    'wants_chain_exclusive': 'chain X', 'wants_next': 'chain S', 'wants_target': 'chain X', 'wants_other': 'other X',
 }
-TURNS = {'none': '', 'some rootSelective': ' → S'}
-NEXT = {'toSevenOrOn': (7, 9, 10)}
+TURNS = {'none': '', 'some root_selective': ' → S'}
+NEXT = {'to_seven_or_on': (7, 9, 10)}
 
 
 def words_of_rows(text):
@@ -46,7 +46,7 @@ def next_steps(text):
 def known(names, name):
     """What the picture says for a name of the definitions."""
     if name not in names:
-        raise Wrong(f'rowTable has {name}, which the picture of the steps does not know')
+        raise Wrong(f'row_table has {name}, which the picture of the steps does not know')
     return names[name]
 
 
@@ -57,21 +57,21 @@ def shown(locks, lane):
 
 
 def columns(text):
-    """Of each row of rowTable, by number: its other columns, without the brackets round them."""
+    """Of each row of row_table, by number: its other columns, without the brackets round them."""
     rows = {}
     for number, rest in re.findall(r'^ *∷ row (\d+) step\d+ (.*)$', text, re.M):
         rows[int(number)] = [inner or word for inner, word in re.findall(r'\(((?:[^()]|\([^()]*\))*)\)|(\S+)', rest)]
     if not rows:
-        raise Wrong('no rowTable in specs/Steps/Table.antt')
+        raise Wrong('no row_table in specs/Steps/Table.antt')
     return rows
 
 
 def decided(text):
-    """A test of a step number, from isDecided: whether the decisive step is taken before it, a find's at one number, a change's from one on."""
-    definition = re.search(r'^isDecided p =\n(.*?)\n\n', text, re.M | re.S)
-    find, change = (re.search(pattern, definition[1] if definition else '') for pattern in (r'eqb \(p \.step\) (\d+)', r'leb (\d+) \(p \.step\)'))
+    """A test of a step number, from is_decided: whether the decisive step is taken before it, a find's at one number, a change's from one on."""
+    definition = re.search(r'^is_decided p =\n(.*?)\n\n', text, re.M | re.S)
+    find, change = (re.search(pattern, definition[1] if definition else '') for pattern in (r'eqb p\.step (\d+)', r'leb (\d+) p\.step'))
     if not (find and change):
-        raise Wrong('no isDecided in specs/Withdraw.antt that the picture of the steps can read')
+        raise Wrong('no is_decided in specs/Withdraw.antt that the picture of the steps can read')
     return lambda number: number == int(find[1]) or number >= int(change[1])
 
 
@@ -90,11 +90,11 @@ def read_steps(root):
     rows, taken = columns((specs / 'Steps/Table.antt').read_text()), decided((specs / 'Withdraw.antt').read_text())
     words = words_of_rows((root / 'docs/STEPS.md').read_text())
     for number in sorted(rows.keys() ^ words.keys()):
-        raise Wrong(f'step {number} has no row in ' + ('docs/STEPS.md' if number in rows else 'rowTable'))
+        raise Wrong(f'step {number} has no row in ' + ('docs/STEPS.md' if number in rows else 'row_table'))
     steps = [step_of(number, row, taken, words[number]) for number, row in sorted(rows.items())]
     after = next_steps((root / 'docs/SPECIFICATION.md').read_text())
     for step in steps:
         to, ends = after.get(step.number, (set(), False))
         if (set(step.to), step.ends) != (to, ends):
-            raise Wrong(f'step {step.number} leads to {sorted(to)} in docs/SPECIFICATION.md and to {list(step.to)} in rowTable, or ends in one of them only')
+            raise Wrong(f'step {step.number} leads to {sorted(to)} in docs/SPECIFICATION.md and to {list(step.to)} in row_table, or ends in one of them only')
     return steps
