@@ -1,16 +1,14 @@
 -- Step 10 by its cases, over what the code says became of the chain.
 -- Main statements: key-inserted, key-present, key-deleted, key-absent (change_of); split-owed, no-split-owed, merge_owed_lem, no_merge_owed (owed_by);
 -- chain-refused, change-kept, no-page-answered, change-written (step10); ready_can_change.
-use mathlib.Core.Path.{◌≡◌, refl, ap}
+use mathlib.Core.Path.{◌≡◌, refl}
 use mathlib.Core.Bool.{true, false}
 use mathlib.Core.List.{List, [], ◌∷◌}
-use Prim.Native.Nat.{ℕ, ◌-◌, ◌≤◌, ◌<◌}
+use Prim.Native.Nat.{ℕ, ◌≤◌, ◌<◌}
 use native.Mathlib.Omega.{arith}
 use lib.ListN.{length}
 use borrow.Author.Tests.{eq-eqb, ne_eqb, lt-ltb, le-ltb}
-use Rattle.model.specs.declared.Root.{Root}
 use Rattle.model.specs.Answers.{answer_number}
-use Rattle.model.specs.Records.{with_free_list}
 use Rattle.model.specs.declared.Entry.{Entry}
 use Rattle.model.specs.Entries.{entry_of, has_key, inserted_into, removed_from, is_empty}
 use Rattle.model.specs.Pages.{page_of, with_page, link_of, primary_page, scratch_page}

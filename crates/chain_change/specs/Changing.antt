@@ -2,14 +2,12 @@
 -- Main definitions: kept_answer and changed_answer (an operation's answer), after_change (the memory after a change), CanChange (what every change may take for granted).
 use Rattle.std.specs.Prelude.{cond, List, ℕ, ◌+◌, ◌-◌, ◌*◌, ◌≤◌, ◌<◌, length, eqb}
 use Rattle.model.specs.declared.Root.{Root}
-use Rattle.model.specs.declared.Party.{Party}
 use Rattle.model.specs.Sizes.{page_words, most_records}
 use Rattle.model.specs.Records.{at_step, with_answer, with_old, with_owed, with_free_list}
 use Rattle.model.specs.Pages.{page_of, link_of, primary_page}
 use Rattle.model.specs.Outcome.{View, Outcome, refuse, damage, moved, with_root, with_party, with_pages}
 use Rattle.endings.specs.Scratch.{HasScratch}
 use Rattle.chain_change.specs.declared.Changed.{Changed}
-use Rattle.chain_change.specs.declared.Changed.TheVariants as Changed
 
 -- The answer's number of an operation that changes nothing, and of one that changes its chain.
 unfoldable pub kept_answer : ℕ → ℕ
