@@ -11,15 +11,12 @@ use lib.Seq.{sets}
 use lib.Dec.{lit≤}
 use Rattle.model.specs.declared.FileSizes.{FileSizes}
 use Rattle.model.specs.declared.Operation.{Operation}
-use Rattle.model.specs.declared.Operation.TheVariants as Operation
 use Rattle.patterns.specs.Numbers.{is_digit}
 use Rattle.patterns.specs.Patterns.{padded}
 use Rattle.patterns.specs.Grammar.{Derives, plain, holes, Plain}
 use Rattle.patterns.proofs.Theorems.{Small, filled_derived, longest, filled_short}
 use Rattle.forms.specs.declared.Form.{Form}
-use Rattle.forms.specs.declared.Form.TheVariants as Form
 use Rattle.forms.specs.declared.FormRead.{FormRead}
-use Rattle.forms.specs.declared.FormRead.TheVariants as FormRead
 use Rattle.forms.specs.Forms.{step_form, withdraw_form, take_up_form, format_form, find_form, insert_form, delete_form, begin_form, form_pattern, size_numbers, operation_numbers, form_numbers, FormLine, form_text}
 use Rattle.forms.specs.Reading.{as_step, as_begin, as_insert, as_withdraw, as_format, as_take_up, read_take_up, read_format, read_withdraw, read_begin, read_form}
 use Rattle.forms.specs.Printing.{longest_form, given}

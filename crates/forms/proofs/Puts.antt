@@ -18,18 +18,21 @@ pub room : (p ns : List ℕ) (at most n : ℕ) → T (leb (longest p) most) → 
 room p ns at most n h fits = omega (arith, leb→le (longest p) most h, filled_short p ns)
 
 -- What is known where a text was put at a place: the place behind it, and the bytes.
-pub put_as : {r : ℕ} {out : List ℕ} (at : ℕ) (first t u : List ℕ) → t ≡ u → (r ≡ at + length t) × (out ≡ sets first at t) → (r ≡ at + length u) × (out ≡ sets first at u)
-put_as at first t u e put = (put.0 ∙ ap (λ (x : List ℕ). at + length x) e, put.1 ∙ ap (sets first at) e)
+abbrev pub IsPut : ℕ → List ℕ → ℕ → List ℕ → List ℕ → Type 0
+IsPut r out at first t = record { value : r ≡ at + length t; out_after : out ≡ sets first at t }
+
+pub put_as : {r : ℕ} {out : List ℕ} (at : ℕ) (first t u : List ℕ) → t ≡ u → IsPut r out at first t → IsPut r out at first u
+put_as at first t u e put = record { value = put.value ∙ ap (λ (x : List ℕ). at + length x) e; out_after = put.out_after ∙ ap (sets first at) e }
 
 -- A text, and another behind it.
-pub put_then : {r s : ℕ} {out mid : List ℕ} (at : ℕ) (first t u : List ℕ) → (s ≡ at + length t) × (mid ≡ sets first at t) → (r ≡ s + length u) × (out ≡ sets mid s u)
-    → (r ≡ at + length (t ++ u)) × (out ≡ sets first at (t ++ u))
+pub put_then : {r s : ℕ} {out mid : List ℕ} (at : ℕ) (first t u : List ℕ) → IsPut s mid at first t → IsPut r out s mid u
+    → IsPut r out at first (t ++ u)
 put_then at first t u one other =
-    (omega (arith, one.0, other.0, length-append t u), other.1 ∙ rw (one.0, one.1) (sym (sets_append first at t u)))
+    record { value = omega (arith, one.value, other.value, length-append t u); out_after = other.out_after ∙ rw (one.value, one.out_after) (sym (sets_append first at t u)) }
 
 -- Nothing put.
-pub put_nothing : (at : ℕ) (first t : List ℕ) → t ≡ [] → (at ≡ at + length t) × (first ≡ sets first at t)
-put_nothing at first t e = rw e (omega arith, refl)
+pub put_nothing : (at : ℕ) (first t : List ℕ) → t ≡ [] → IsPut at first at first t
+put_nothing at first t e = rw e (record { value = omega arith; out_after = refl })
 
 -- The text is given where there is room, and only there.
 pub is-given : (n at most : ℕ) (text : List ℕ) → at + most ≤ n → given n at most text ≡ text

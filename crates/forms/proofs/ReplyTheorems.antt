@@ -11,28 +11,20 @@ use lib.ListN.{length, get_or, take, drop, length-append}
 use lib.Seq.{sets}
 use lib.Dec.{lit≤}
 use Rattle.model.specs.declared.BeginAnswer.{BeginAnswer}
-use Rattle.model.specs.declared.BeginAnswer.TheVariants as BeginAnswer
 use Rattle.model.specs.declared.FormatAnswer.{FormatAnswer}
-use Rattle.model.specs.declared.FormatAnswer.TheVariants as FormatAnswer
 use Rattle.model.specs.declared.OperationAnswer.{OperationAnswer}
 use Rattle.model.specs.declared.Restructuring.{Restructuring}
 use Rattle.model.specs.declared.StepAnswer.{StepAnswer}
-use Rattle.model.specs.declared.StepAnswer.TheVariants as StepAnswer
 use Rattle.model.specs.declared.TakeUpAnswer.{TakeUpAnswer}
-use Rattle.model.specs.declared.TakeUpAnswer.TheVariants as TakeUpAnswer
 use Rattle.model.specs.declared.WithdrawAnswer.{WithdrawAnswer}
-use Rattle.model.specs.declared.WithdrawAnswer.TheVariants as WithdrawAnswer
 use Rattle.patterns.specs.Numbers.{is_digit}
 use Rattle.patterns.specs.Patterns.{Matching, no, yes, match_from, padded, filled}
 use Rattle.patterns.specs.Grammar.{Derives, plain, holes, Plain}
 use Rattle.patterns.proofs.Numerals.{stops}
 use Rattle.patterns.proofs.Theorems.{Small, stops_derived, match_complete, match_sound, derives_holes, derives_append, derives_split, literal_line, literal_derived, filled_derived, longest, filled_short}
 use Rattle.forms.specs.declared.Reply.{Reply}
-use Rattle.forms.specs.declared.Reply.TheVariants as Reply
 use Rattle.forms.specs.declared.ReplyRead.{ReplyRead}
-use Rattle.forms.specs.declared.ReplyRead.TheVariants as ReplyRead
 use Rattle.forms.specs.declared.RestructuringRead.{RestructuringRead}
-use Rattle.forms.specs.declared.RestructuringRead.TheVariants as RestructuringRead
 use Rattle.forms.specs.Replies.{
   unread_reply,
   format_ok,

@@ -7,14 +7,11 @@ use Prim.Native.Nat.{ℕ, ◌-◌, ◌≤◌}
 use native.Mathlib.Omega.{arith}
 use lib.ListN.{length, get_or, drop}
 use Rattle.model.specs.declared.OperationAnswer.{OperationAnswer}
-use Rattle.model.specs.declared.OperationAnswer.TheVariants as OperationAnswer
 use Rattle.patterns.specs.declared.Match.{Match}
 use Rattle.patterns.specs.Patterns.{Matching, no, yes, matched, padded, match_from}
 use Rattle.forms.specs.declared.AnswerRead.{AnswerRead}
-use Rattle.forms.specs.declared.AnswerRead.TheVariants as AnswerRead
 use Rattle.patterns.proofs.Matching.{EndOf, match_rest_lem, end_from, end_later}
 use Rattle.forms.specs.declared.ReplyRead.{ReplyRead}
-use Rattle.forms.specs.declared.ReplyRead.TheVariants as ReplyRead
 use Rattle.forms.specs.Replies.{step_done, found_answer, answer_pattern}
 use Rattle.forms.specs.Reading.{or_else, AnswerAt, none, at, or_next, answer_in, found_in, read_answer, answer_read, done_from, done_after, read_done}
 

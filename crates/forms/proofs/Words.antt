@@ -9,9 +9,7 @@ use native.Mathlib.Omega.{arith}
 use lib.ListN.{length, get_or}
 use lib.Dec.{lit≤}
 use Rattle.model.specs.declared.OperationAnswer.{OperationAnswer}
-use Rattle.model.specs.declared.OperationAnswer.TheVariants as OperationAnswer
 use Rattle.model.specs.declared.Restructuring.{Restructuring}
-use Rattle.model.specs.declared.Restructuring.TheVariants as Restructuring
 use Rattle.model.specs.declared.StepAnswer.TheVariants as StepAnswer
 use Rattle.patterns.specs.Numbers.{is_digit}
 use Rattle.patterns.specs.Patterns.{Matching, no, yes, and_then, byte_in, symbol_in, match_from, to_end, padded, filled, symbol_text, numbers_after}
@@ -19,7 +17,6 @@ use Rattle.patterns.specs.Grammar.{Derives, holes, plain}
 use Rattle.patterns.proofs.Numerals.{stops}
 use Rattle.patterns.proofs.Theorems.{filled_append, filled_literal, filled_short, longest, literal_line, match_complete, match_sound, derives_holes}
 use Rattle.forms.specs.declared.RestructuringRead.{RestructuringRead}
-use Rattle.forms.specs.declared.RestructuringRead.TheVariants as RestructuringRead
 use Rattle.forms.specs.declared.Reply.TheVariants as Reply
 use Rattle.forms.specs.Replies.{step_done, found_answer, answer_pattern, answer_numbers, answer_text, restructuring_text, step_pattern, step_numbers, reply_pattern, reply_numbers, reply_text}
 use Rattle.forms.specs.Reading.{or_else, wholly, AnswerAt, none, at, or_next, answer_in, found_in, read_answer, restructuring_in, read_restructuring}

@@ -5,12 +5,10 @@
 use Rattle.std.specs.Prelude.{List, [], ◌∷◌, ℕ}
 use Rattle.model.specs.declared.FileSizes.{FileSizes}
 use Rattle.model.specs.declared.Operation.{Operation}
-use Rattle.model.specs.declared.Operation.TheVariants as Operation
 use Rattle.patterns.specs.Texts.{bytes}
 use Rattle.patterns.specs.Patterns.{filled}
 use Rattle.patterns.specs.Grammar.{Derives}
 use Rattle.forms.specs.declared.Form.{Form}
-use Rattle.forms.specs.declared.Form.TheVariants as Form
 
 abbrev pub step_form : List ℕ
 step_form = bytes "(step #)"

@@ -4,27 +4,18 @@ use Rattle.std.specs.Prelude.{List, [], ℕ, ◌-◌, length, get_or}
 use Rattle.model.specs.declared.BeginAnswer.TheVariants as BeginAnswer
 use Rattle.model.specs.declared.FormatAnswer.TheVariants as FormatAnswer
 use Rattle.model.specs.declared.Operation.{Operation}
-use Rattle.model.specs.declared.Operation.TheVariants as Operation
 use Rattle.model.specs.declared.OperationAnswer.{OperationAnswer}
-use Rattle.model.specs.declared.OperationAnswer.TheVariants as OperationAnswer
 use Rattle.model.specs.declared.Restructuring.{Restructuring}
-use Rattle.model.specs.declared.Restructuring.TheVariants as Restructuring
 use Rattle.model.specs.declared.StepAnswer.TheVariants as StepAnswer
 use Rattle.model.specs.declared.TakeUpAnswer.TheVariants as TakeUpAnswer
 use Rattle.model.specs.declared.WithdrawAnswer.TheVariants as WithdrawAnswer
 use Rattle.patterns.specs.Patterns.{Matching, no, yes, match_from, to_end, padded}
 use Rattle.forms.specs.declared.Form.{Form}
-use Rattle.forms.specs.declared.Form.TheVariants as Form
 use Rattle.forms.specs.declared.Reply.{Reply}
-use Rattle.forms.specs.declared.Reply.TheVariants as Reply
 use Rattle.forms.specs.declared.FormRead.{FormRead}
-use Rattle.forms.specs.declared.FormRead.TheVariants as FormRead
 use Rattle.forms.specs.declared.ReplyRead.{ReplyRead}
-use Rattle.forms.specs.declared.ReplyRead.TheVariants as ReplyRead
 use Rattle.forms.specs.declared.AnswerRead.{AnswerRead}
-use Rattle.forms.specs.declared.AnswerRead.TheVariants as AnswerRead
 use Rattle.forms.specs.declared.RestructuringRead.{RestructuringRead}
-use Rattle.forms.specs.declared.RestructuringRead.TheVariants as RestructuringRead
 use Rattle.forms.specs.Forms.{step_form, withdraw_form, take_up_form, format_form, find_form, insert_form, delete_form}
 use Rattle.forms.specs.Replies.{unread_reply, format_ok, format_refused, begin_ok, begin_refused, withdraw_ok, withdraw_refused, take_up_ok, take_up_refused, step_moved, step_waiting, step_refused, step_done, found_answer, answer_pattern, restructuring_text}
 

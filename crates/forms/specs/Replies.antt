@@ -4,24 +4,16 @@
 -- and one for the restructuring; ReplyLine, reply_text.
 use Rattle.std.specs.Prelude.{List, [], ◌∷◌, ◌++◌, ℕ}
 use Rattle.model.specs.declared.BeginAnswer.{BeginAnswer}
-use Rattle.model.specs.declared.BeginAnswer.TheVariants as BeginAnswer
 use Rattle.model.specs.declared.FormatAnswer.{FormatAnswer}
-use Rattle.model.specs.declared.FormatAnswer.TheVariants as FormatAnswer
 use Rattle.model.specs.declared.OperationAnswer.{OperationAnswer}
-use Rattle.model.specs.declared.OperationAnswer.TheVariants as OperationAnswer
 use Rattle.model.specs.declared.Restructuring.{Restructuring}
-use Rattle.model.specs.declared.Restructuring.TheVariants as Restructuring
 use Rattle.model.specs.declared.StepAnswer.{StepAnswer}
-use Rattle.model.specs.declared.StepAnswer.TheVariants as StepAnswer
 use Rattle.model.specs.declared.TakeUpAnswer.{TakeUpAnswer}
-use Rattle.model.specs.declared.TakeUpAnswer.TheVariants as TakeUpAnswer
 use Rattle.model.specs.declared.WithdrawAnswer.{WithdrawAnswer}
-use Rattle.model.specs.declared.WithdrawAnswer.TheVariants as WithdrawAnswer
 use Rattle.patterns.specs.Texts.{bytes}
 use Rattle.patterns.specs.Patterns.{filled}
 use Rattle.patterns.specs.Grammar.{Derives}
 use Rattle.forms.specs.declared.Reply.{Reply}
-use Rattle.forms.specs.declared.Reply.TheVariants as Reply
 
 -- ---- Patterns
 
