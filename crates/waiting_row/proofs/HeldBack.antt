@@ -1,5 +1,5 @@
 -- A step that requests a lock for which its party stands behind another: it waits, but at 13 damage goes before waiting.
--- Main statements: held_back (what code answers without running the step); behind_asks (who stands behind another
+-- Main statements: held_back_lem (what code answers without running the step); behind_asks (who stands behind another
 -- requests a lock).
 use mathlib.Core.Path.{◌≡◌, refl, sym, ap, ◌∙◌}
 use mathlib.Core.Bool.{Bool, true, false, cond, not, ◌&&◌, and-false, false≢true}
@@ -76,9 +76,9 @@ module _ (v : View) (c : Claim) (behind : v.behind ≡ true) where
   held_rows = ((λ e w. absurd (none-some w)), ((λ e w. request-waits _ _ ∙ other_waits 1 refl e), ((λ e w. absurd (none-some w)), ((λ e w. absurd (none-some w)), ((λ e w. request-waits _ _ ∙ other_waits 4 refl e), ((λ e w. absurd (none-some w)), ((λ e w. absurd (none-some w)), ((λ e w. request-waits _ _ ∙ other_waits 7 refl e), ((λ e w. absurd (none-some w)), ((λ e w. absurd (none-some w)), ((λ e w. absurd (none-some w)), ((λ e w. absurd (none-some w)), ((λ e w. absurd (none-some w)), ((λ e w. held13 e), ((λ e w. absurd (none-some w)), ((λ e w. request-waits _ _ ∙ other_waits 15 refl e), ((λ e w. held16 e w), ((λ e w. absurd (none-some w)), ((λ e w. absurd (none-some w)), ((λ e w. absurd (none-some w)), ((λ e w. absurd (none-some w)), ((λ e w. absurd (none-some w)), ((λ e w. absurd (none-some w)), ((λ e w. request-waits _ _ ∙ other_waits 23 refl e), ((λ e w. held24 e w), ((λ e w. request-waits _ _ ∙ other_waits 25 refl e), ((λ e w. absurd (none-some w)), ((λ e w. absurd (none-some w)), ((λ e w. absurd (none-some w)), ((λ e w. absurd (none-some w)), ((λ e w. absurd (none-some w)), tt)))))))))))))))))))))))))))))))
 
   -- What the step does then.
-  pub held_back : wants v.root v.party ≡ some c → step_of v.party.step v ≡ held_back v
+  pub held_back_lem : wants v.root v.party ≡ some c → step_of v.party.step v ≡ held_back v
   unfolding step_of step_table wants want_table
-  held_back w = row_of v.party.step ∙ at_row v.party.step refl (sym (want_of v.party.step) ∙ w)
+  held_back_lem w = row_of v.party.step ∙ at_row v.party.step refl (sym (want_of v.party.step) ∙ w)
     where
       at_row : (k : ℕ) → v.party.step ≡ k → (get_or row_table k no_row).wants v.root v.party ≡ some c → (get_or row_table k no_row).runs v ≡ held_back v
       at_row k = numbered_at Held no_row (λ n e w. absurd (none-some w)) row_table held_rows k

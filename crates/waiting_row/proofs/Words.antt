@@ -19,12 +19,10 @@ use Rattle.model.specs.WaitingRow.{waiters_in, all_zero, appended, row_with, row
 use Rattle.model.specs.declared.OperationAnswer.{OperationAnswer}
 use Rattle.model.specs.declared.Restructuring.{Restructuring}
 use Rattle.model.specs.declared.StepAnswer.{StepAnswer}
-use Rattle.model.specs.declared.StepAnswer.TheVariants as StepAnswer
 use Rattle.model.specs.declared.WithdrawAnswer.{WithdrawAnswer}
-use Rattle.model.specs.declared.WithdrawAnswer.TheVariants as WithdrawAnswer
 use Rattle.model.specs.FreeList.{is_among}
 use Rattle.model.proofs.Laws.Booleans.{eq_of_iff}
-use Rattle.model.proofs.Laws.Lists.{Cmp, same, diff, cmp, eqb_same, eqb-diff, lt-ltb, le-ltb, ltb-true, ltb-false, and_both, both-and, or_neither}
+use Rattle.model.proofs.Laws.Lists.{Cmp, same, diff, cmp, eqb_same, eqb-diff, lt-ltb, ltb-true, ltb-false, and_both, both-and, or_neither}
 use Rattle.waiting_row.specs.Entry.{first_of, row_by}
 
 -- ---- Words or-ed

@@ -6,7 +6,6 @@ use Rattle.std.proofs.Math.Option.{Option}
 use Rattle.model.specs.declared.Root.{Root}
 use Rattle.model.specs.declared.Party.{Party}
 use Rattle.model.specs.declared.StepAnswer.{StepAnswer}
-use Rattle.model.specs.declared.StepAnswer.TheVariants as StepAnswer
 use Rattle.model.specs.Records.{idle}
 use Rattle.model.specs.LockWords.{Claim, field_of, with_field}
 use Rattle.model.specs.FreeList.{is_among}

@@ -4,7 +4,6 @@ use Rattle.std.specs.Prelude.{cond, not, ◌&&◌, eqb}
 use Rattle.model.specs.declared.Root.{Root}
 use Rattle.model.specs.declared.Party.{Party}
 use Rattle.model.specs.declared.StepAnswer.{StepAnswer}
-use Rattle.model.specs.declared.StepAnswer.TheVariants as StepAnswer
 use Rattle.model.specs.Pages.{names_overflow}
 use Rattle.model.specs.Outcome.{View, Outcome, outcome, damage}
 
