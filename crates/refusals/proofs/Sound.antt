@@ -7,6 +7,7 @@ use mathlib.Core.Logic.{◌≢◌}
 use mathlib.Core.Bool.{Bool, true, false, not, ◌||◌, true≢false}
 use Prim.Native.Nat.{ℕ, ◌+◌, ◌≤◌, ◌<◌}
 use lib.Dec.{ltb, eqb}
+use native.Mathlib.Omega.{arith}
 use borrow.Author.Tests.{leb-true, ltb-true, le-leb, lt-ltb, le-ltb, eq-eqb, ne_eqb}
 use Rattle.model.specs.declared.Root.{Root}
 use Rattle.model.specs.declared.Party.{Party}
@@ -94,3 +95,26 @@ module _ (r : Root) (p : Party) where
             lt-ltb p.chain r.primaries f.chain_fits,
             lt-ltb p.other r.primaries f.other_fits,
           )
+
+  -- The same from the six tests, before step 12 and with an answer.
+  pub decides_early : p.lev ≤ 9 → p.owed ≤ 3 → p.answer ≤ 5 → p.step < 12 → p.chain < r.primaries → p.other < r.primaries → has_step p.operation p.step ≡ party_sound r p
+  decides_early l o a s c d =
+      step_decides record {
+        lev_fits = l;
+        owed_fits_ok = o;
+        answer_fits = a;
+        answer_given = λ h. absurd (omega arith);
+        chain_fits = c;
+        other_fits = d;
+      }
+
+  pub decides_answered : p.lev ≤ 9 → p.owed ≤ 3 → p.answer ≤ 5 → p.answer ≢ 0 → p.chain < r.primaries → p.other < r.primaries → has_step p.operation p.step ≡ party_sound r p
+  decides_answered l o a n c d =
+      step_decides record {
+        lev_fits = l;
+        owed_fits_ok = o;
+        answer_fits = a;
+        answer_given = λ h. n;
+        chain_fits = c;
+        other_fits = d;
+      }

@@ -23,6 +23,7 @@ use model::{
 
 // "N original chains, 1 to P. P chains at most, 1 to 256. V overflow pages, 0 to 752. Q parties, 1 to 16." "b is 1 to
 // 6".
+#[tactic(auto, unfolding(model::specs::Sizes::within_limits))]
 pub fn within_limits(root: Root) -> bool
     ensures { result ≡ within_limits root }
 {
@@ -113,6 +114,7 @@ pub fn has_step(operation: u32, step: u32) -> bool
 // a chain or other chain at or above P" is damage.
 // An operation above 3 has no step. The answer is asked for after the step number, so that an early step makes one
 // test less.
+#[tactic(auto, using(crate::proofs::Sound::decides_early, crate::proofs::Sound::decides_answered), unfolding(model::specs::Refusals::party_sound))]
 pub fn party_sound(root: Root, party: Party) -> bool
     ensures { result ≡ party_sound root party }
 {
