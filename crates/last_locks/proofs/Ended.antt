@@ -2,11 +2,10 @@
 -- Main statements: unheld-refused and held-ends, over any list of locks; first-unheld, first-held, none_unheld (how the list is tested, lock by lock);
 -- first-left, none_left (the words that giving up leaves, lock by lock).
 use mathlib.Core.Path.{◌≡◌, refl}
-use mathlib.Core.Bool.{Bool, true, false, not}
+use mathlib.Core.Bool.{Bool, true, false}
 use mathlib.Core.List.{List, [], ◌∷◌}
 use Prim.Native.Nat.{ℕ}
 use lib.ListN.{get_or, set}
-use borrow.Author.Tests.{not-true, not-false}
 use Rattle.model.specs.declared.Root.{Root}
 use Rattle.model.specs.declared.Party.{Party}
 use Rattle.model.specs.declared.OperationAnswer.{OperationAnswer}
@@ -30,13 +29,13 @@ module _ (v : View) (cs : List Claim) (s : Restructuring) where
 
 -- The tests, lock by lock: b is what the code's test of the first lock answered.
 module _ (v : View) (c : Claim) (cs : List Claim) {b : Bool} (e : b ≡ holds (get_or v.locks c.word 0) v.number c.mode) where
-  pub first_unheld : not b ≡ true → held_all v (c ∷ cs) ≡ false
+  pub first_unheld : b ≡ false → held_all v (c ∷ cs) ≡ false
   unfolding held_all is_held
-  first_unheld h = rw (← e, not-true b h) refl
+  first_unheld h = rw (← e, h) refl
 
-  pub first_held : not b ≡ false → held_all v (c ∷ cs) ≡ held_all v cs
+  pub first_held : b ≡ true → held_all v (c ∷ cs) ≡ held_all v cs
   unfolding held_all is_held
-  first_held h = rw (← e, not-false b h) refl
+  first_held h = rw (← e, h) refl
 
 pub none_unheld : (v : View) → held_all v [] ≡ true
 unfolding held_all
