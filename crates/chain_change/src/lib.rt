@@ -29,6 +29,7 @@ pub enum Changed {
 }
 
 // "Insert of a present key answers present, delete of a missing one absent".
+#[tactic(auto, unfolding(crate::specs::Changing::kept_answer))]
 pub fn kept_answer(operation: u32) -> u32
     ensures { result ≡ kept_answer operation }
 {
@@ -36,6 +37,7 @@ pub fn kept_answer(operation: u32) -> u32
 }
 
 // Inserted or deleted.
+#[tactic(auto, unfolding(crate::specs::Changing::changed_answer))]
 pub fn changed_answer(operation: u32) -> u32
     ensures { result ≡ changed_answer operation }
 {
@@ -47,6 +49,7 @@ pub fn changed_answer(operation: u32) -> u32
 }
 
 // Restructure owed: "An insert whose new chain has more overflow pages than the old owes a split, a delete that emptied its chain a merge". `count` is the new chain's records.
+#[tactic(auto, using(crate::proofs::Changes::split_owed_ok, crate::proofs::Changes::no_split_owed, crate::proofs::Changes::merge_owed_lem, crate::proofs::Changes::no_merge_owed))]
 pub fn owed_by(operation: u32, before: u32, after: u32, count: u32) -> u32
     ensures { (es : List Entry) → length es ≡ count → result ≡ Rebuild.owed_by operation before after es }
 {
