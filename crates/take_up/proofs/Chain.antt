@@ -32,7 +32,6 @@ use Rattle.model.proofs.TakingUp.Complete.{chain_packed}
 use Rattle.chains.specs.Links.{linked_pages}
 use Rattle.chains.specs.Walks.{counted}
 use Rattle.chains.specs.declared.Walked.{Walked}
-use Rattle.chains.specs.declared.Walked.TheVariants as Walked
 use Rattle.chains.proofs.Links.{chained_pages}
 use Rattle.chain_keys.specs.Gathering.{overflow_of, Followed}
 use Rattle.chain_keys.proofs.Following.{walked_walks}

@@ -13,7 +13,6 @@ use Rattle.model.specs.Chains.{Checked, damaged, sound, list_from, Chain, read_c
 use Rattle.model.specs.TakeUp.{fits_if_sound, chains_fit}
 use Rattle.model.proofs.Laws.Walks.{walked_chained, chain_reads}
 use Rattle.chains.specs.declared.Walked.{Walked}
-use Rattle.chains.specs.declared.Walked.TheVariants as Walked
 use Rattle.take_up.specs.Seen.{chain_saved, pages_counted, chains_saved}
 
 module _ (r : Root) (ps : List ℕ) where

@@ -17,7 +17,6 @@ use Rattle.model.specs.WaitingRow.{all_zero}
 use Rattle.model.specs.TakeUp.{fits_if_sound, chains_fit}
 use Rattle.chains.specs.Links.{linked_pages}
 use Rattle.chains.specs.declared.Walked.{Walked}
-use Rattle.chains.specs.declared.Walked.TheVariants as Walked
 use Rattle.take_up.specs.declared.Home.{Home}
 use Rattle.take_up.specs.declared.Seen.{Seen}
 
