@@ -1,9 +1,12 @@
 """Must-fail edits: what one changes, and how it was refused, from what the check said.
 
-- values: an arithmetic fails, with the numbers at which it does, or two sides compute to different numbers or constructors;
+- values: numbers or constructors are named at which a goal fails, or two sides compute to different ones;
 - terms: two sides, computed as far as they go or compared part by part, are different terms, and a definition that stays shut is not all in which they differ;
-- text: a proof no longer goes through, and no such line says why: a claim of another form, a rewriting step that finds no place, a search that finds no proof;
-- no fact: a field, a clause or a name is gone, or the source does not compile."""
+- goal: what a function ensures, a callee requires or a loop keeps is no longer proved, and the search for a proof came to no end and found no values either;
+- text: a proof no longer goes through, and no such line says why: a claim of another form, a rewriting step that finds no place;
+- no fact: a field, a clause or a name is gone, the source does not compile, or a limit of the prover's own was met.
+
+`said` goes by the one line that `rt ci` and `rt must-fail` print of an edit, `judged` by all that a check of it says (tests/trying.py)."""
 import re
 from itertools import zip_longest
 from pathlib import Path
@@ -11,24 +14,39 @@ from pathlib import Path
 ROOT = Path(__file__).resolve().parent.parent
 # A text that no longer fits.
 UNFIT = re.compile(r'has no field|missing field|has no clause|has no `|not in scope|unknown name')
-SAID = re.compile(r'^(\S+?):(\d+):\d+: error: (.*(?:\n  .*)*)', re.M)
+SAID = re.compile(r'^(?:\./)?(\S+?):(\d+):\d+: error: (.*(?:\n  .*)*)', re.M)
+# A goal that is open, with what is known of it; and one of which values are known at which it fails.
+OPEN = re.compile(r'^note: (?:\./)?(\S+?):(\d+):\d+: it is not proved that ([^\n]*)', re.M)
+FAILS_AT = re.compile(r'allow values at which this goal is false')
+MAY_BE_FALSE = re.compile(r'^note: `[^`]*` of (?:\./)?(\S+) may be false: the known facts allow ', re.M)
+# What rt prints of an edit, and what it says where no contract was tried.
+LINE = re.compile(r'^(?:rt: )?must-fail (\w+)/([\w.-]+)\.edit: (.*)', re.M)
+# The kinds that are facts.
+FACTS = ('values', 'terms', 'goal')
+REFUSED = 'refused, as it must be'
+NAMES_ALONE, LIMIT = ' (only because a proof file names ', ' (only by a limit '
 COUNTEREXAMPLE = re.compile(r'`omega`: the goal does not follow from what it read\. All of that holds, and the goal fails(?:, at `.*?`\s+= \d+|\. It read)', re.S)
 # What a type asked for has and a type at hand has in its place.
-DIFFER = re.compile(r'the two (?:types|indices) (?:first differ where one has|differ only where one has|are) `(.*?)`\s*'
-                    r'\((?:expected|the constructor\'s)\)(?:, right after `.*?`|, at the start)?'
-                    r',?\s*and (?:the other has )?`(.*?)`\s*\((?:found|the expected type\'s)\)', re.S)
+DIFFER = re.compile(r'the two (?:types|indices|sides) (?:first differ where one has|differ only where one has|are) `(.*?)`\s*'
+                    r'\((?:expected|the constructor\'s|left)\)(?:, right after `.*?`|, at the start)?'
+                    r',?\s*and (?:the other has )?`(.*?)`\s*\((?:found|the expected type\'s|right)\)', re.S)
 STATED = re.compile(r'expected type `(.*?)`,?\s*but this has type `(.*?)`(?:\n|$)', re.S)
 LEFT = re.compile(r'`(?:rw|simp)` has no last argument, so what it leaves must be a path whose two ends are equal, and `.*?`\s*is none', re.S)
+# How these begin, in the line that rt prints.
+COUNTEREXAMPLE_BEGINS = re.compile(r'`omega`: the goal does not follow from what it read\. All of that holds, and the goal')
+FAILS_AT_BEGINS = re.compile(r'it is not proved that .*; the facts known there allow')
+DIFFERS_BEGINS = re.compile(r'(?:computed as far as they go|compared part by part|as printed), the two (?:types|indices|sides) (?:first differ where one has|differ only where one has|are) `')
+LEFT_BEGINS = re.compile(r'give a proof of that as the last argument, `(?:rw|simp) ')
 SHUT = re.compile(r'^  ((?:`\S+`(?:, )?)+) do(?:es)? not unfold here', re.M)
 TRIED = re.compile(r'trial runs? of this declaration was refused too.*?had the line `unfolding (.*?)`', re.S)
 TOKEN = re.compile(r'[^\s(){};,]+')
 # Heads of a claim: one of these in the place of something else is a claim of another form.
-CLAIM = re.compile(r'(?:.*\.)?(?:Path|_?≡_?|_?≤_?|_?<_?|Σ|_?×_?|_?⊎_?|⊥|→|Need-.*)$|.*\.Lts\..*|:$')
+CLAIM = re.compile(r'(?:.*\.)?(?:Path|◌?≡◌?|◌?≤◌?|◌?<◌?|Σ|◌?×◌?|◌?⊎◌?|⊥|→)$|.*\.Lts\..*|:$')
 
 
 def constructors():
     """The names of the constructors that the crates declare, and of those of the kit for tests, lists and numbers."""
-    found = {'true', 'false', '[]', '_∷_', '∷', 'none', 'some', 'tt', 'inl', 'inr', 'zero', 'suc', 'record'}
+    found = {'true', 'false', '[]', '◌∷◌', '∷', 'none', 'some', 'tt', 'inl', 'inr', 'zero', 'suc', 'record'}
     for file in ROOT.glob('crates/*/specs/**/*.antt'):
         for body in re.findall(r'^pub data [^\n]*where\n((?:(?:  [^\n]*)?\n)*)', file.read_text(encoding='utf-8'), re.M):
             found |= set(re.findall(r'^  (\S+) :', body, re.M))
@@ -40,7 +58,7 @@ def last(word):
 
 
 def is_value(word):
-    return word.isdigit() or '.the-variants.' in word or re.match(r'[A-Z]\w*\.[A-Z]\w*$', word) is not None or last(word) in CONSTRUCTORS
+    return word.isdigit() or '.TheVariants.' in word or re.match(r'[A-Z]\w*\.[A-Z]\w*$', word) is not None or last(word) in CONSTRUCTORS
 
 
 def first_difference(expected, found):
@@ -51,7 +69,7 @@ def first_difference(expected, found):
 
 def ends(equation):
     """The two sides of an equation, written either way."""
-    if not re.match(r'(?:\S+\.)?_≡_ ', equation):
+    if not re.match(r'(?:\S+\.)?◌≡◌ ', equation):
         return equation.split(' ≡ ')
     arguments, depth = [''], 0
     for sign in equation:
@@ -87,31 +105,53 @@ def kind(error, tried):
     return 'terms' if computed and any(not {last(one), last(other)} & shut for one, other in pairs) else None
 
 
-def facts(log, name):
-    """The errors of a log that say a fact: their kinds and lines, in the log's order. What follows an error are the notes on it."""
+def facts(log):
+    """The errors and open goals of a log that say a fact: their kinds and lines, in the log's order. What follows an error are the notes on it."""
     said = list(SAID.finditer(log))
     for error, following in zip(said, [*said[1:], None]):
-        place = error[1].partition(f'must-fail/{name}/')[2]
         notes = log[error.end():following.start() if following else len(log)]
         tried = {last(word) for words in TRIED.findall(notes) for word in words.split()}
-        if place.startswith('proofs/') and (found := kind(error[3], tried)):
-            yield found, f'{place}:{error[2]}'
+        if error[1].startswith('proofs/') and (found := kind(error[3], tried)):
+            yield found, f'{error[1]}:{error[2]}'
+    for note in OPEN.finditer(log):
+        yield 'values' if FAILS_AT.search(note[3]) else 'goal', f'{note[1]}:{note[2]}'
+    for note in MAY_BE_FALSE.finditer(log):
+        yield 'values', note[1]
 
 
-def by_text(log, name):
+def by_text(log):
     """The line of a proof that no longer goes through, where that is the log's first error and no name or field is gone."""
     first = SAID.search(log)
-    place = first[1].partition(f'must-fail/{name}/')[2] if first else ''
-    return f'{place}:{first[2]}' if place.startswith('proofs/') and not UNFIT.search(first[3]) else None
+    return f'{first[1]}:{first[2]}' if first and first[1].startswith('proofs/') and not UNFIT.search(first[3]) else None
 
 
-def judged(log, name):
-    """How an edit was refused, and where its log says so."""
-    found = list(facts(log, name))
+def judged(log):
+    """How an edit was refused, and where its log says so: by values, else by the first fact."""
+    found = list(facts(log))
     if found:
-        return next((fact for fact in found if fact[0] == 'values'), found[0])
-    place = by_text(log, name)
-    return ('text', place) if place else ('no fact', 'see its log')
+        return next((fact for fact in found if fact[0] == 'values'), next((fact for fact in found if fact[0] == 'terms'), found[0]))
+    place = by_text(log)
+    return ('text', place) if place else ('no fact', 'see what tests/edit says')
+
+
+def said(line):
+    """The same from the line that rt prints: None where it does not tell, as it is cut off after some 160 characters."""
+    if not line.startswith(REFUSED):
+        return 'no fact', line[:200]
+    rest = line[len(REFUSED):]
+    if rest.startswith((NAMES_ALONE, LIMIT)):
+        return 'no fact', rest[2:200]
+    place = re.match(r': (?:note: )?(?:\./)?(\S+?:\d+):\d+: ', rest)
+    if not place:
+        return None
+    what = rest[place.end():]
+    if COUNTEREXAMPLE_BEGINS.search(what) or FAILS_AT_BEGINS.search(what):
+        return 'values', place[1]
+    if (sides := STATED.search(what)) and all(all(is_value(word) for word in ends(side)) for side in sides.groups()):
+        return 'values', place[1]
+    if DIFFERS_BEGINS.search(what) or LEFT_BEGINS.search(what):
+        return 'terms', place[1]
+    return ('goal', place[1]) if OPEN.match(f'note: {place[1]}:1: {what}') else None
 
 
 def changed(edit, crate):
