@@ -11,8 +11,6 @@ ghost use Rattle.mixing.specs.Places.{words_of};
 ghost use Rattle.mixing.specs.Constant.{constant};
 ghost use Rattle.generator.specs.Printed.{line_bytes, lines_of};
 
-use libc::STDOUT_FILENO;
-
 const SEED: u32 = 2463534242;
 
 const TABLE_WORDS: usize = 1024;
@@ -56,14 +54,14 @@ fn put_table(out: &mut [u8]) -> usize
 }
 
 // Writes the table's lines to standard output.
-fn write_table(text: &[u8])
+fn write_table(rt: &impl Print, text: &[u8])
     requires { text.now ≡ lines_of table }
 {
-    io::write_all(STDOUT_FILENO, text);
+    let _ = rt.write_all(text);
 }
 
-fn main() {
+fn main(rt: HostRuntime) {
     let mut out = [0u8; 11264];
     let end = put_table(&mut out[..]);
-    write_table(&out[0..end]);
+    write_table(&rt, &out[0..end]);
 }
