@@ -23,7 +23,6 @@ use Rattle.model.proofs.Laws.RecordWords.{length_records, records_front}
 use Rattle.entries.proofs.Places.{place_inside}
 use Rattle.chain_keys.specs.declared.Front.{Front}
 use Rattle.chain_keys.specs.declared.Gathered.{Gathered}
-use Rattle.chain_keys.specs.declared.Gathered.TheVariants as Gathered
 use Rattle.chain_keys.specs.Gathering.{CanGather, gathered, in_front, entries_in}
 use Rattle.chain_keys.proofs.WholeChain.{sound_ascends, Whole, gathered-whole, front_is}
 use Rattle.chain_change.specs.Changing.{kept_answer}
