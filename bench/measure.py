@@ -54,7 +54,7 @@ def processor_time():
 
 def turns(say):
     """Lines a second of processor time of the turns program on the stored runs that begin with a format, over and over; None where it is not built."""
-    program = ROOT / 'target/bin/turns'
+    program = ROOT / 'crates/turns/out/turns'
     if not program.exists():
         return None
     runs = [run for run in sorted((ROOT / 'tests/transcripts').glob('run-*.out')) if run.read_text().startswith('(format ok)')]

@@ -61,7 +61,7 @@ def machine():
 
 def of_turns(found):
     if found is None:
-        return 'Lines a second of `turns`: not measured, since target/bin/turns is not built.'
+        return 'Lines a second of `turns`: not measured, since crates/turns/out/turns is not built.'
     return f'Lines a second of `turns`: {spread(found, lambda value: f"{value:,.0f}")}.'
 
 

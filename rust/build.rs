@@ -38,7 +38,7 @@ fn archive() -> PathBuf {
         Some(path) => PathBuf::from(path),
         None => {
             let here = env::var_os("CARGO_MANIFEST_DIR").expect("cargo sets CARGO_MANIFEST_DIR");
-            PathBuf::from(here).join("../target/staticlib/libbead.a")
+            PathBuf::from(here).join("../crates/bead/out/libbead.a")
         }
     }
 }
