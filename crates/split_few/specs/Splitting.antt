@@ -26,7 +26,6 @@ use Rattle.chain_change.specs.Changing.{CanChange}
 use Rattle.key_source.specs.declared.Halving.{Halving}
 use Rattle.key_source.specs.Sources.{CanHalve}
 use Rattle.split_few.specs.declared.Divided.{Divided}
-use Rattle.split_few.specs.declared.Divided.TheVariants as Divided
 
 -- ---- Both halves
 
