@@ -1,11 +1,11 @@
 -- Step 12 by its cases.
 -- Main statements: unchanged-ends, no-old-goes-on, old-first (where 12 leads); held-leaves, unheld-refused.
 use mathlib.Core.Path.{◌≡◌, refl, ap, ◌∙◌}
-use mathlib.Core.Bool.{Bool, true, false, not}
+use mathlib.Core.Bool.{Bool, true, false}
 use mathlib.Core.List.{List, [], ◌∷◌}
 use Prim.Native.Nat.{ℕ}
 use lib.ListN.{get_or}
-use borrow.Author.Tests.{not-true, not-false, eq-eqb, ne_eqb}
+use borrow.Author.Tests.{eq-eqb, ne_eqb}
 use Rattle.model.specs.declared.Root.{Root}
 use Rattle.model.specs.declared.Party.{Party}
 use Rattle.model.specs.declared.Mode.TheVariants.{Selective}
@@ -22,16 +22,16 @@ use Rattle.write.specs.Leaving.{after_leaving}
 
 -- b is what the code's test of the answer said.
 module _ (v : View) {b : Bool} (e : b ≡ is_change v.party.answer) where
-  pub unchanged_ends : not b ≡ true → finished v ≡ after_leaving v
-  unchanged_ends h = rw (← e, not-true b h) refl
+  pub unchanged_ends : b ≡ false → finished v ≡ after_leaving v
+  unchanged_ends h = rw (← e, h) refl
 
-  pub no_old_goes_on : not b ≡ false → v.party.old ≡ 0 → onward v ≡ after_leaving v
+  pub no_old_goes_on : b ≡ true → v.party.old ≡ 0 → onward v ≡ after_leaving v
   unfolding old_pages_first
-  no_old_goes_on h z = rw (← e, not-false b h, eq-eqb v.party.old 0 z) refl
+  no_old_goes_on h z = rw (← e, h, eq-eqb v.party.old 0 z) refl
 
-  pub old_first : not b ≡ false → (v.party.old ≡ 0 → ⊥) → {p : Party} → p ≡ at_step 13 v.party → moved (with_party p v) ≡ after_leaving v
+  pub old_first : b ≡ true → (v.party.old ≡ 0 → ⊥) → {p : Party} → p ≡ at_step 13 v.party → moved (with_party p v) ≡ after_leaving v
   unfolding old_pages_first
-  old_first h n ep = rw (← e, not-false b h, ne_eqb v.party.old 0 n, ep) refl
+  old_first h n ep = rw (← e, h, ne_eqb v.party.old 0 n, ep) refl
 
 module _ (r : Root) (p : Party) (q : ℕ) (ls ps : List ℕ) {i : ℕ} (ei : i ≡ chain_word p.chain) {b : Bool} (eb : b ≡ holds (get_or ls i 0) q Selective) {ls' : List ℕ} (el : ls' ≡ left_after ls i q Selective) where
   pub held_leaves : b ≡ true → after_leaving (viewing r p q ls' ps) ≡ step12 (viewing r p q ls ps)
