@@ -18,15 +18,12 @@ use lib.Dec.{eqb}
 use Rattle.model.specs.declared.Party.{Party}
 use Rattle.model.specs.declared.Operation.{Operation}
 use Rattle.model.specs.declared.StepAnswer.{StepAnswer}
-use Rattle.model.specs.declared.StepAnswer.TheVariants as StepAnswer
 use Rattle.model.specs.declared.BeginAnswer.{BeginAnswer}
-use Rattle.model.specs.declared.BeginAnswer.TheVariants as BeginAnswer
 use Rattle.model.specs.Sizes.{page_words}
 use Rattle.model.specs.Records.{idle, begun}
 use Rattle.model.specs.Answers.{operation_number, performs, setting_given}
 use Rattle.model.specs.LockWords.{Claim, permits}
 use Rattle.model.specs.Pages.{page_of, with_page, link_of, link_to_first, scratch_page, linked_page}
-use Rattle.model.specs.Chains.{sound}
 use Rattle.model.specs.Outcome.{View, Outcome, moved}
 use Rattle.model.specs.ScratchPages.{scratch_of}
 use Rattle.model.specs.LockRequests.{is_granted}

@@ -9,7 +9,6 @@ use Prim.Native.Nat.{ℕ}
 use Rattle.model.specs.declared.Operation.{Operation}
 use Rattle.model.specs.declared.BeginAnswer.TheVariants as BeginAnswer
 use Rattle.model.specs.declared.WithdrawAnswer.{WithdrawAnswer}
-use Rattle.model.specs.declared.WithdrawAnswer.TheVariants as WithdrawAnswer
 use Rattle.model.specs.Memory.{Memory, party_at}
 use Rattle.model.specs.Calls.{begin_call, withdraw_call}
 use Rattle.model.specs.Runs.{Call, begin_for, reply_to, after_call, Event, event_of, events, final_memory}

@@ -17,15 +17,11 @@ use Rattle.model.specs.WaitingRow.{row_after, row_left, row_without}
 use Rattle.model.specs.declared.Root.{Root}
 use Rattle.model.specs.declared.Party.{Party}
 use Rattle.model.specs.declared.Operation.{Operation}
-use Rattle.model.specs.declared.Operation.TheVariants as Operation
 use Rattle.model.specs.declared.OperationAnswer.{OperationAnswer}
 use Rattle.model.specs.declared.Restructuring.{Restructuring}
 use Rattle.model.specs.declared.StepAnswer.{StepAnswer}
-use Rattle.model.specs.declared.StepAnswer.TheVariants as StepAnswer
 use Rattle.model.specs.declared.BeginAnswer.{BeginAnswer}
-use Rattle.model.specs.declared.BeginAnswer.TheVariants as BeginAnswer
 use Rattle.model.specs.declared.WithdrawAnswer.{WithdrawAnswer}
-use Rattle.model.specs.declared.WithdrawAnswer.TheVariants as WithdrawAnswer
 use Rattle.model.specs.Sizes.{within_limits}
 use Rattle.model.specs.Addresses.{span}
 use Rattle.model.specs.Records.{begun}
@@ -60,7 +56,8 @@ use Rattle.theory.proofs.Alters.{nothing_altered}
 use Rattle.theory.proofs.UnderWay.{entered_under, unentered_under, Met, no_party, nothing-begun, under_way_lem, meets}
 use Rattle.theory.proofs.Withdraws.{withdrawn-not_refused, WithdrawTested, turned_away, let_through, withdraw_tested, withdraws, WithdrawMet, stranger, unbegun, too_late, taken_back, withdraw_meets}
 use Rattle.theory.proofs.Linearization.Notes.{noted_elsewhere, noted_own}
-use Rattle.theory.proofs.CallsLeft.{left, left_at, left-begun, left-some, left_alike, Nearer, stays, goes, ends, step_nearer}
+use Rattle.theory.proofs.CallsLeft.{left, left_at, left-begun, left-some, left_alike, Nearer, stays, goes, ends}
+use Rattle.theory.proofs.StepsNearer.{step_nearer}
 
 -- ---- One party
 

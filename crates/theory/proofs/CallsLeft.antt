@@ -1,7 +1,6 @@
 -- How many calls an operation has left, at most: a number by step number and record that every step performed lowers.
 -- Main statements: left_table, left (where an operation is led on at most `most` times); left-begun, left-some,
--- left-alike; Nearer (what an outcome leaves of it); nearer-01 to nearer-30 (all but 6, 9 and 10 on all memory);
--- step-nearer (every step of a party under way).
+-- left-alike; Nearer (what an outcome leaves of it); nearer-01 to nearer-30 (all but 6, 9 and 10 on all memory).
 use mathlib.Core.Path.{◌≡◌, refl, sym, ap, ◌∙◌, subst}
 use mathlib.Core.Logic.{◌≢◌}
 use mathlib.Core.Bool.{Bool, true, false, cond, not, ◌&&◌}
@@ -13,7 +12,6 @@ use lib.Dec.{eqb, leb, ltb}
 use Rattle.model.specs.declared.Root.{Root}
 use Rattle.model.specs.declared.Party.{Party}
 use Rattle.model.specs.declared.Operation.{Operation}
-use Rattle.model.specs.declared.Operation.TheVariants as Operation
 use Rattle.model.specs.declared.OperationAnswer.{OperationAnswer}
 use Rattle.model.specs.declared.Restructuring.{Restructuring}
 use Rattle.model.specs.declared.StepAnswer.TheVariants as StepAnswer
@@ -21,7 +19,7 @@ use Rattle.model.specs.Records.{begun, at_step, with_lev, with_chain, with_other
 use Rattle.model.specs.Answers.{operation_number, performs}
 use Rattle.model.specs.LockWords.{Claim}
 use Rattle.model.specs.Mixing.{mixed}
-use Rattle.model.specs.Addresses.{span, hash_of, level_for, address_level, split_barred, count_of_chains}
+use Rattle.model.specs.Addresses.{hash_of, level_for, address_level, split_barred, count_of_chains}
 use Rattle.model.specs.Pages.{page_of, link_of, level_of, page_sound, names_overflow, linked_page, link_to_first, entries_of, with_page, primary_page, scratch_page}
 use Rattle.model.specs.Chains.{Checked, damaged, sound, and_then, sound_if, Chain, chain_of, overflow_from, list_from, pages_listed}
 use Rattle.model.specs.declared.Entry.{Entry}
@@ -46,16 +44,14 @@ use Rattle.model.proofs.Laws.Lists.{Told, holds, fails, tell, cond_ind, ◌▸�
 use Rattle.model.proofs.Effects.GiveUps.{given_up_rest}
 use Rattle.model.specs.Sizes.{page_words}
 use Rattle.model.specs.Entries.{has_key}
-use Rattle.model.specs.Memory.{Memory, party_at, view_of}
+use Rattle.model.specs.Memory.{Memory, view_of}
 use Rattle.model.specs.Book.{Book}
 use Rattle.model.specs.Steps.Find.{answered, looked_on, step09}
-use Rattle.model.specs.Steps.Dispatch.{no_step, step_table, step_of}
-use Rattle.model.proofs.Laws.Filling.{IsOverflow, chain_level}
+use Rattle.model.proofs.Laws.Filling.{IsOverflow}
 use Rattle.model.proofs.Laws.Pages.{Has, page_same, page_other, length_page_of}
 use Rattle.model.proofs.Laws.Structure.{Linked, SameOn, linked_frame}
 use Rattle.model.proofs.Laws.Reading.{first_linked}
-use Rattle.model.proofs.Invariant.Ghost.{in_chain, count, local_level}
-use Rattle.model.proofs.Invariant.Extents.{local_fits}
+use Rattle.model.proofs.Invariant.Ghost.{count}
 use Rattle.model.proofs.Invariant.Statement.{Walking}
 use Rattle.model.proofs.Invariant.Turn.{Turn, me, before}
 use Rattle.model.proofs.Invariant.Ahead.{ahead_in, ahead_linked, ahead_walked, walk_overflow}
@@ -251,7 +247,7 @@ module _ (most : ℕ) where
   Nexts n k u = (x : ℕ) → suc (left_at k u.root u.party x) ≤ n
 
   module _ {n : ℕ} (v : View) where
-    refused_nearer : (c : ℕ) → Nearer n (refuse c v)
+    pub refused_nearer : (c : ℕ) → Nearer n (refuse c v)
     unfolding performs
     refused_nearer c = stays refl
 
@@ -307,36 +303,36 @@ module _ (most : ℕ) where
 
   -- ---- Every step but 6 and 9
 
-  abbrev NearerStep : ℕ → (View → Outcome) → Type 0
+  abbrev pub NearerStep : ℕ → (View → Outcome) → Type 0
   NearerStep k f = (v : View) (x : ℕ) → Nearer (left_at k v.root v.party x) (f v)
 
-  nearer_01 : NearerStep 1 step01
+  pub nearer_01 : NearerStep 1 step01
   unfolding step01 left_at left_table six_for tail_of change_tail
   nearer_01 v x = request_nearer v _ _ (λ y. omega arith)
 
-  nearer_02 : NearerStep 2 step02
+  pub nearer_02 : NearerStep 2 step02
   unfolding step02 left_at left_table six_for tail_of
   nearer_02 v x = moved_nearer v _ (λ y. omega arith)
 
-  nearer_03 : NearerStep 3 step03
+  pub nearer_03 : NearerStep 3 step03
   unfolding step03 located left_at left_table six_for tail_of
   nearer_03 v x =
       let up = level_up v.root.originals v.party.lev v.root.next v.party.key in
       guarded_nearer v (ltb (located v.root v.party).chain v.root.primaries) (moved_nearer v _ (λ y. omega (arith, up)))
 
-  nearer_04 : NearerStep 4 step04
+  pub nearer_04 : NearerStep 4 step04
   unfolding step04 left_at left_table six_for tail_of
   nearer_04 v x = request_nearer v _ _ (λ y. omega arith)
 
-  nearer_05 : NearerStep 5 step05
+  pub nearer_05 : NearerStep 5 step05
   unfolding step05 left_at left_table six_for tail_of
   nearer_05 v x = release_nearer v _ _ (λ y. omega arith)
 
-  nearer_07 : NearerStep 7 step07
+  pub nearer_07 : NearerStep 7 step07
   unfolding step07 left_at left_table six_for tail_of
   nearer_07 v x = request_nearer v _ _ (λ y. omega arith)
 
-  nearer_08 : NearerStep 8 step08
+  pub nearer_08 : NearerStep 8 step08
   unfolding step08 left_at left_table six_for tail_of
   nearer_08 v x = release_nearer v _ _ (λ y. omega arith)
 
@@ -356,15 +352,15 @@ module _ (most : ℕ) where
       either_nearer v (too_few v.root k) (λ _. nothing_nearer v _ e) (λ _. checked_nearer v (pages_taken v.root v.pages k) (λ t. rebuilt_nearer v c a es t))
 
   -- Nothing is owed before it.
-  nearer_10 : (v : View) (x : ℕ) → v.party.owed ≡ 0 → Nearer (left_at 10 v.root v.party x) (step10 v)
+  pub nearer_10 : (v : View) (x : ℕ) → v.party.owed ≡ 0 → Nearer (left_at 10 v.root v.party x) (step10 v)
   unfolding step10 left_at left_table
   nearer_10 v x e = checked_nearer v (chain_of v.root v.pages v.party.chain) (λ c. rebuild_nearer v c _ e)
 
-  nearer_11 : NearerStep 11 step11
+  pub nearer_11 : NearerStep 11 step11
   unfolding step11 left_at left_table
   nearer_11 v x = written_nearer v 12 (λ y. omega arith)
 
-  nearer_12 : NearerStep 12 step12
+  pub nearer_12 : NearerStep 12 step12
   unfolding step12 left_at left_table
   nearer_12 v x =
       let cs = chain_selective v.party ∷ [] in
@@ -373,11 +369,11 @@ module _ (most : ℕ) where
       guarded_nearer v (held_all v cs)
       (either_nearer v (is_change v.party.answer) (λ _. old_pages_nearer v u (omega (arith, e)) (onward_nearer v u (omega (arith, e)))) (λ _. finished_nearer v u (omega arith)))
 
-  nearer_13 : NearerStep 13 step13
+  pub nearer_13 : NearerStep 13 step13
   unfolding step13 left_at left_table
   nearer_13 v x = guarded_nearer v (names_overflow v.root v.party.old) (request_nearer v _ _ (λ y. omega arith))
 
-  nearer_14 : NearerStep 14 step14
+  pub nearer_14 : NearerStep 14 step14
   unfolding step14 old_given_back pages_given_back left_at left_table
   nearer_14 v x =
       let old = v.party.old in
@@ -386,11 +382,11 @@ module _ (most : ℕ) where
       (checked_nearer v (list_from v.root v.pages old)
       (λ xs. guarded_nearer v (room_to_give_back v.root (length xs) && held_all v cs) (onward_nearer v (with_party (with_old 0 v.party) (given_up cs (pages_given_back xs v))) (omega arith))))
 
-  nearer_15 : NearerStep 15 step15
+  pub nearer_15 : NearerStep 15 step15
   unfolding step15 left_at left_table
   nearer_15 v x = request_nearer v _ _ (λ y. omega arith)
 
-  nearer_16 : NearerStep 16 step16
+  pub nearer_16 : NearerStep 16 step16
   unfolding step16 splitting left_at left_table
   nearer_16 v x = either_nearer v (split_barred (count_of_chains v.root) v.root.primaries) (λ _. ended_nearer v _ _ (omega arith)) (λ _. request_nearer v _ _ (λ y. omega arith))
 
@@ -400,44 +396,44 @@ module _ (most : ℕ) where
       let n = halves_need v.root.capacity h in
       either_nearer v (too_few v.root n) (λ _. ended_nearer v _ _ (omega arith)) (λ _. checked_nearer v (pages_taken v.root v.pages n) (λ t. moved_nearer v _ (λ y. omega arith)))
 
-  nearer_17 : NearerStep 17 step17
+  pub nearer_17 : NearerStep 17 step17
   unfolding step17 left_at left_table
   nearer_17 v x =
       guarded_nearer v (not (split_barred (count_of_chains v.root) v.root.primaries))
       (checked_nearer v (chain_of v.root v.pages v.party.chain) (λ c. divide_nearer v c _))
 
-  nearer_18 : NearerStep 18 step18
+  pub nearer_18 : NearerStep 18 step18
   unfolding step18 left_at left_table
   nearer_18 v x = written_nearer v 19 (λ y. omega arith)
 
-  nearer_19 : NearerStep 19 step19
+  pub nearer_19 : NearerStep 19 step19
   unfolding step19 left_at left_table
   nearer_19 v x = release_nearer v _ _ (λ y. omega arith)
 
-  nearer_20 : NearerStep 20 step20
+  pub nearer_20 : NearerStep 20 step20
   unfolding step20 left_at left_table
   nearer_20 v x = moved_nearer v _ (λ y. omega arith)
 
-  nearer_21 : NearerStep 21 step21
+  pub nearer_21 : NearerStep 21 step21
   unfolding step21 left_at left_table
   nearer_21 v x = moved_nearer v _ (λ y. omega arith)
 
-  nearer_22 : NearerStep 22 step22
+  pub nearer_22 : NearerStep 22 step22
   unfolding step22 left_at left_table owing
   nearer_22 v x =
       let cs = root_selective ∷ [] in
       let u = with_party (with_owed 3 v.party) (given_up cs v) in
       guarded_nearer v (held_all v cs) (old_pages_nearer v u (omega arith) (finished_nearer v u (omega arith)))
 
-  nearer_23 : NearerStep 23 step23
+  pub nearer_23 : NearerStep 23 step23
   unfolding step23 left_at left_table
   nearer_23 v x = request_nearer v _ _ (λ y. omega arith)
 
-  nearer_24 : NearerStep 24 step24
+  pub nearer_24 : NearerStep 24 step24
   unfolding step24 merging left_at left_table
   nearer_24 v x = either_nearer v (merge_stops v.root) (λ _. ended_nearer v _ _ (omega arith)) (λ _. request_nearer v _ _ (λ y. omega arith))
 
-  nearer_25 : NearerStep 25 step25
+  pub nearer_25 : NearerStep 25 step25
   unfolding step25 left_at left_table
   nearer_25 v x = request_nearer v _ _ (λ y. omega arith)
 
@@ -445,24 +441,24 @@ module _ (most : ℕ) where
   unfolding combine_with combined left_at left_table
   combine_nearer v m = either_nearer v (merge_goes v.root m) (λ _. moved_nearer v _ (λ y. omega arith)) (λ _. ended_nearer v _ _ (omega arith))
 
-  nearer_26 : NearerStep 26 step26
+  pub nearer_26 : NearerStep 26 step26
   unfolding step26 left_at left_table
   nearer_26 v x =
       guarded_nearer v (not (merge_stops v.root)) (checked_nearer v (pair_of v.root v.pages v.party.chain v.party.other) (λ m. combine_nearer v m))
 
-  nearer_27 : NearerStep 27 step27
+  pub nearer_27 : NearerStep 27 step27
   unfolding step27 left_at left_table
   nearer_27 v x = guarded_nearer v (not (merge_stops v.root) && is_held v root_exclusive) (moved_nearer v _ (λ y. omega arith))
 
-  nearer_28 : NearerStep 28 step28
+  pub nearer_28 : NearerStep 28 step28
   unfolding step28 left_at left_table
   nearer_28 v x = guarded_nearer v (page_sound v.root (scratch_of v) && not (eqb (level_of (scratch_of v)) 0)) (moved_nearer v _ (λ y. omega arith))
 
-  nearer_29 : NearerStep 29 step29
+  pub nearer_29 : NearerStep 29 step29
   unfolding step29 partner_cleared pages_given_back left_at left_table
   nearer_29 v x = checked_nearer v (merged_away v.root v.pages v.party) (λ xs. moved_nearer v _ (λ y. omega arith))
 
-  nearer_30 : NearerStep 30 step30
+  pub nearer_30 : NearerStep 30 step30
   unfolding step30 left_at left_table
   nearer_30 v x = ended_nearer v _ _ (omega arith)
 
@@ -560,35 +556,3 @@ module _ (most : ℕ) where
         guarded_nearer seen (page_sound m.root (scratch_of seen))
         (either_nearer seen (has_key (me t).key (entries_of (scratch_of seen))) (λ _. answered_nearer _)
         (λ _. either_nearer seen (eqb (link_of (scratch_of seen)) 0) (λ _. answered_nearer _) (λ e. looks_nearer walk.rest refl (eqb-false (link_of (scratch_of seen)) 0 e))))
-
-  -- ---- Every step of a party under way
-
-  module _ (m : Memory) (b : Book) (q : ℕ) (room : m.root.primaries ≤ span m.root.originals most) where
-    abbrev NearerAt : ℕ → (View → Outcome) → Type 0
-    NearerAt n f = Turn m b q n → Nearer (left_at n m.root (party_at m.parties q) (pages_ahead (view_of m q))) (f (view_of m q))
-
-    on_all : (n : ℕ) (f : View → Outcome) → NearerStep n f → NearerAt n f
-    on_all n f g t = g (view_of m q) (pages_ahead (view_of m q))
-
-    -- At 6 the chain's page has its local level.
-    level_most : (t : Turn m b q 6) → level_of (page_of m.pages (primary_page (party_at m.parties q).chain)) ≤ most
-    level_most t =
-        let c = (me t).chain in
-        let live = t.inv.ghost.live in
-        let inside = t.facts.1.inside in
-        let page = chain_level m.root.capacity m.pages c (local_level m.root.originals live c) (t.inv.ghost.records c) (t.inv.ghost.held (in_chain c)) (t.inv.pages_ok.chain c inside) in
-        omega (arith, page, local_fits m.root.originals most m.root.primaries live c t.inv.limits.some_original room t.inv.extents_ok.live_fits inside)
-
-    all_nearer : Numbered NearerAt 0 step_table
-    unfolding step_table
-    all_nearer =
-        (λ (t : Turn m b q 0). absurd t.facts) ▸ on_all 1 step01 nearer_01 ▸ on_all 2 step02 nearer_02 ▸ on_all 3 step03 nearer_03 ▸ on_all 4 step04 nearer_04 ▸ on_all 5 step05 nearer_05
-        ▸ (λ (t : Turn m b q 6). nearer_06 (view_of m q) _ (level_most t)) ▸ on_all 7 step07 nearer_07 ▸ on_all 8 step08 nearer_08 ▸ (λ (t : Turn m b q 9). nearer_09 t)
-        ▸ (λ (t : Turn m b q 10). nearer_10 (view_of m q) _ t.facts.0.nothing_owed) ▸ on_all 11 step11 nearer_11 ▸ on_all 12 step12 nearer_12 ▸ on_all 13 step13 nearer_13
-        ▸ on_all 14 step14 nearer_14 ▸ on_all 15 step15 nearer_15 ▸ on_all 16 step16 nearer_16 ▸ on_all 17 step17 nearer_17 ▸ on_all 18 step18 nearer_18 ▸ on_all 19 step19 nearer_19
-        ▸ on_all 20 step20 nearer_20 ▸ on_all 21 step21 nearer_21 ▸ on_all 22 step22 nearer_22 ▸ on_all 23 step23 nearer_23 ▸ on_all 24 step24 nearer_24 ▸ on_all 25 step25 nearer_25
-        ▸ on_all 26 step26 nearer_26 ▸ on_all 27 step27 nearer_27 ▸ on_all 28 step28 nearer_28 ▸ on_all 29 step29 nearer_29 ▸ on_all 30 step30 nearer_30 ▸ tt
-
-    pub step_nearer : (k : ℕ) → NearerAt k (step_of k)
-    unfolding step_of
-    step_nearer k = numbered_at NearerAt no_step (λ n t. refused_nearer (view_of m q) damage) step_table all_nearer k

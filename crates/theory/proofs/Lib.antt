@@ -28,6 +28,7 @@ pub mod StepReads
 pub mod Singly
 pub mod Linearization
 pub mod CallsLeft
+pub mod StepsNearer
 pub mod CallsBounded
 pub mod Settings
 pub mod Withdrawals

@@ -14,11 +14,9 @@ use Rattle.model.specs.WaitingRow.{row_after}
 use Rattle.model.specs.declared.Party.{Party}
 use Rattle.model.specs.declared.Operation.{Operation}
 use Rattle.model.specs.declared.StepAnswer.{StepAnswer}
-use Rattle.model.specs.declared.StepAnswer.TheVariants as StepAnswer
 use Rattle.model.specs.declared.Root.{Root}
 use Rattle.model.specs.declared.BeginAnswer.{BeginAnswer}
 use Rattle.model.specs.declared.WithdrawAnswer.{WithdrawAnswer}
-use Rattle.model.specs.declared.WithdrawAnswer.TheVariants as WithdrawAnswer
 use Rattle.model.specs.declared.Mode.TheVariants.{Exclusive}
 use Rattle.model.specs.Records.{idle, begun}
 use Rattle.model.specs.Answers.{operation_number, is_moved, performs, setting_given}

@@ -15,7 +15,6 @@ use Rattle.model.specs.declared.Root.{Root}
 use Rattle.model.specs.declared.Party.{Party}
 use Rattle.model.specs.declared.Mode.{Mode}
 use Rattle.model.specs.declared.StepAnswer.{StepAnswer}
-use Rattle.model.specs.declared.StepAnswer.TheVariants as StepAnswer
 use Rattle.model.specs.Sizes.{lock_words}
 use Rattle.model.specs.Records.{idle}
 use Rattle.model.specs.Answers.{refusal_number, performs}

@@ -24,7 +24,6 @@ use Rattle.model.specs.Refusals.{lengths_fit}
 use Rattle.model.specs.Calls.{Called, called}
 use Rattle.model.specs.TakeUp.{is_saved, records_saved, open_book, saved_book, take_up_call}
 use Rattle.model.specs.declared.TakeUpAnswer.{TakeUpAnswer}
-use Rattle.model.specs.declared.TakeUpAnswer.TheVariants as TakeUpAnswer
 use Rattle.theory.specs.Demands.{Sizes, sizes_given, Start, start, sizes_of, Reached, book_reached, book_start, AtRest, file_reached}
 use Rattle.theory.specs.PlainMap.{empty_map}
 use Rattle.theory.specs.Sequential.{records_at, start_file, file_of}

@@ -16,7 +16,6 @@ use lib.Dec.{eqb}
 use Rattle.model.specs.WaitingRow.{row_left, row_without}
 use Rattle.model.specs.declared.Party.{Party}
 use Rattle.model.specs.declared.WithdrawAnswer.{WithdrawAnswer}
-use Rattle.model.specs.declared.WithdrawAnswer.TheVariants as WithdrawAnswer
 use Rattle.model.specs.Sizes.{within_limits}
 use Rattle.model.specs.Records.{idle}
 use Rattle.model.specs.LockWords.{Claim}

@@ -7,9 +7,7 @@
 -- each step, and a withdraw, follows, reads and gives back); links_fresh (over a whole list).
 use Rattle.std.specs.Prelude.{Bool, true, false, cond, ◌&&◌, List, [], ◌∷◌, ◌++◌, map, ℕ, ◌+◌, ltb, eqb}
 use Rattle.model.specs.declared.StepAnswer.{StepAnswer}
-use Rattle.model.specs.declared.StepAnswer.TheVariants as StepAnswer
 use Rattle.model.specs.declared.WithdrawAnswer.{WithdrawAnswer}
-use Rattle.model.specs.declared.WithdrawAnswer.TheVariants as WithdrawAnswer
 use Rattle.model.specs.Answers.{is_moved, performs}
 use Rattle.model.specs.Pages.{page_of, link_of, primary_page, linked_page}
 use Rattle.model.specs.Chains.{chain_of, list_from, pages_in, pages_listed}

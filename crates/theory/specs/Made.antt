@@ -12,7 +12,6 @@ use Rattle.model.specs.declared.BeginAnswer.{BeginAnswer}
 use Rattle.model.specs.declared.StepAnswer.{StepAnswer}
 use Rattle.model.specs.declared.WithdrawAnswer.{WithdrawAnswer}
 use Rattle.model.specs.declared.TakeUpAnswer.{TakeUpAnswer}
-use Rattle.model.specs.declared.TakeUpAnswer.TheVariants as TakeUpAnswer
 use Rattle.model.specs.Memory.{Memory, party_at}
 use Rattle.model.specs.Calls.{called, format_call, begin_call, step_call, withdraw_call}
 use Rattle.model.specs.Runs.{Call, begin_for, step_for, withdraw_for, Reply, to_begin, to_step, to_withdraw, caller_of, Event}

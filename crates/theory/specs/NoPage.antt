@@ -2,9 +2,7 @@
 -- Main definitions: wrote_after (which operations have performed step 11), no_page_right (one event), no_page_kept (over a whole list).
 use Rattle.std.specs.Prelude.{Bool, true, false, cond, not, ◌&&◌, List, [], ◌∷◌, ℕ, eqb}
 use Rattle.model.specs.declared.StepAnswer.{StepAnswer}
-use Rattle.model.specs.declared.StepAnswer.TheVariants as StepAnswer
 use Rattle.model.specs.declared.BeginAnswer.{BeginAnswer}
-use Rattle.model.specs.declared.BeginAnswer.TheVariants as BeginAnswer
 use Rattle.model.specs.Runs.{Call, begin_for, step_for, withdraw_for, Reply, to_begin, to_step, to_withdraw, Event}
 use Rattle.model.specs.Book.{changed_at}
 use Rattle.model.specs.Answers.{performs}

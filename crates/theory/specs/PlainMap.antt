@@ -4,9 +4,7 @@
 -- What an operation leaves of each key is plain_setting of proofs/Meanings.antt.
 use Rattle.std.specs.Prelude.{Bool, false, cond, not, ◌&&◌, ◌||◌, List, [], ℕ, eqb}
 use Rattle.model.specs.declared.Operation.{Operation}
-use Rattle.model.specs.declared.Operation.TheVariants as Operation
 use Rattle.model.specs.declared.OperationAnswer.{OperationAnswer}
-use Rattle.model.specs.declared.OperationAnswer.TheVariants as OperationAnswer
 use Rattle.model.specs.declared.Entry.{Entry}
 use Rattle.model.specs.Answers.{answer_number, found_or_absent, same_answer}
 use Rattle.model.specs.Entries.{entry_of, has_key, setting_in, inserted_into, removed_from}

@@ -9,7 +9,6 @@ use Rattle.std.specs.Prelude.{◌≡◌, Bool, true, false, cond, not, ◌&&◌,
 use Rattle.model.specs.declared.Party.{Party}
 use Rattle.model.specs.declared.BeginAnswer.TheVariants as BeginAnswer
 use Rattle.model.specs.declared.WithdrawAnswer.{WithdrawAnswer}
-use Rattle.model.specs.declared.WithdrawAnswer.TheVariants as WithdrawAnswer
 use Rattle.model.specs.Refusals.{decided_refusal}
 use Rattle.model.specs.Withdraw.{is_decided}
 use Rattle.model.specs.Memory.{Memory, party_at}

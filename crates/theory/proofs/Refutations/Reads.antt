@@ -13,7 +13,6 @@ use lib.ListN.{length}
 use lib.Dec.{leb}
 use Rattle.model.specs.declared.Root.{Root}
 use Rattle.model.specs.declared.StepAnswer.{StepAnswer}
-use Rattle.model.specs.declared.StepAnswer.TheVariants as StepAnswer
 use Rattle.model.specs.Sizes.{page_words}
 use Rattle.model.specs.Pages.{page_of, with_page, link_of}
 use Rattle.model.specs.Chains.{damaged, sound, Chain, chain_of}

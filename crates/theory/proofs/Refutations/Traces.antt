@@ -8,7 +8,6 @@ use lib.ListN.{replicate}
 use Rattle.model.specs.declared.OperationAnswer.TheVariants as OperationAnswer
 use Rattle.model.specs.declared.Restructuring.TheVariants as Restructuring
 use Rattle.model.specs.declared.StepAnswer.{StepAnswer}
-use Rattle.model.specs.declared.StepAnswer.TheVariants as StepAnswer
 use Rattle.model.specs.Outcome.{View}
 use Rattle.theory.specs.Links.{Trace, trace, no_trace, follow, trace_of}
 use Rattle.model.proofs.Refutations.Memories.{root_of, party_of}

@@ -11,9 +11,7 @@ use Rattle.model.specs.declared.Root.{Root}
 use Rattle.model.specs.declared.Entry.{Entry}
 use Rattle.model.specs.declared.Operation.TheVariants as Operation
 use Rattle.model.specs.declared.OperationAnswer.{OperationAnswer}
-use Rattle.model.specs.declared.OperationAnswer.TheVariants as OperationAnswer
 use Rattle.model.specs.declared.Restructuring.{Restructuring}
-use Rattle.model.specs.declared.Restructuring.TheVariants as Restructuring
 use Rattle.model.specs.Mixing.{mixed}
 use Rattle.model.specs.Answers.{found_or_absent}
 use Rattle.model.specs.Entries.{entry_of, has_key, setting_in, inserted_into, removed_from, joined}

@@ -19,7 +19,6 @@ use Rattle.model.specs.declared.Mode.{Mode}
 use Rattle.model.specs.declared.OperationAnswer.{OperationAnswer}
 use Rattle.model.specs.declared.Restructuring.{Restructuring}
 use Rattle.model.specs.declared.StepAnswer.{StepAnswer}
-use Rattle.model.specs.declared.StepAnswer.TheVariants as StepAnswer
 use Rattle.model.specs.Sizes.{page_words, lock_words, within}
 use Rattle.model.specs.Records.{idle, with_free_list}
 use Rattle.model.specs.Answers.{refusal_number}

@@ -10,7 +10,6 @@ use lib.Dec.{eqb}
 use Rattle.model.specs.declared.Root.{Root}
 use Rattle.model.specs.declared.Party.{Party}
 use Rattle.model.specs.declared.OperationAnswer.{OperationAnswer}
-use Rattle.model.specs.declared.OperationAnswer.TheVariants as OperationAnswer
 use Rattle.model.specs.declared.Restructuring.TheVariants as Restructuring
 use Rattle.model.specs.Entries.{has_key, setting_in}
 use Rattle.model.specs.Pages.{page_of, with_page, link_of, link_to_first, entries_of, page_sound, scratch_page, linked_page}

@@ -13,7 +13,6 @@ use Rattle.model.specs.declared.Party.{Party}
 use Rattle.model.specs.declared.Mode.{Mode}
 use Rattle.model.specs.declared.OperationAnswer.{OperationAnswer}
 use Rattle.model.specs.declared.Restructuring.{Restructuring}
-use Rattle.model.specs.declared.Restructuring.TheVariants as Restructuring
 use Rattle.model.specs.Records.{at_step, with_old, with_owed, with_next, with_level, with_free_list}
 use Rattle.model.specs.Answers.{answer_of, restructuring_of}
 use Rattle.model.specs.LockWords.{Claim}

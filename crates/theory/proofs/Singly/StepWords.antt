@@ -8,9 +8,7 @@ use lib.ListN.{set, take}
 use lib.Dec.{ltb}
 use Rattle.model.specs.declared.Root.{Root}
 use Rattle.model.specs.declared.Operation.{Operation}
-use Rattle.model.specs.declared.Operation.TheVariants as Operation
 use Rattle.model.specs.declared.OperationAnswer.{OperationAnswer}
-use Rattle.model.specs.declared.OperationAnswer.TheVariants as OperationAnswer
 use Rattle.model.specs.declared.Restructuring.TheVariants as Restructuring
 use Rattle.model.specs.Addresses.{address_of, chain_count, split_next, split_level, merge_target, merge_partner, merge_level, split_barred, merge_barred}
 use Rattle.model.specs.Answers.{found_or_absent}

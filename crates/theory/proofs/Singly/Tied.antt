@@ -11,9 +11,7 @@ use lib.ListN.{length}
 use lib.Dec.{eqb, ltb}
 use Rattle.model.specs.declared.Root.{Root}
 use Rattle.model.specs.declared.Operation.{Operation}
-use Rattle.model.specs.declared.Operation.TheVariants as Operation
 use Rattle.model.specs.declared.OperationAnswer.{OperationAnswer}
-use Rattle.model.specs.declared.OperationAnswer.TheVariants as OperationAnswer
 use Rattle.model.specs.declared.Entry.{Entry}
 use Rattle.model.specs.Mixing.{mixed}
 use Rattle.model.specs.Addresses.{span, hash_of, level_for, address_for, chain_count, split_next, split_level, merge_target, merge_partner, merge_level, split_barred, merge_barred}

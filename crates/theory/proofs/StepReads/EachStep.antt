@@ -8,7 +8,6 @@ use native.Mathlib.Omega.{arith}
 use lib.ListN.{length, take, drop}
 use lib.Dec.{eqb, leb, ltb}
 use Rattle.model.specs.declared.OperationAnswer.{OperationAnswer}
-use Rattle.model.specs.declared.OperationAnswer.TheVariants as OperationAnswer
 use Rattle.model.specs.declared.Restructuring.TheVariants as Restructuring
 use Rattle.model.specs.Records.{with_owed}
 use Rattle.model.specs.Addresses.{split_barred, count_of_chains}

@@ -9,7 +9,6 @@ use Prim.Native.Nat.{ℕ, ◌+◌, ◌≤◌, ◌<◌}
 use lib.Dec.{eqb, leb}
 use Rattle.model.specs.declared.Root.{Root}
 use Rattle.model.specs.declared.StepAnswer.{StepAnswer}
-use Rattle.model.specs.declared.StepAnswer.TheVariants as StepAnswer
 use Rattle.model.specs.Pages.{page_of, link_of, primary_page}
 use Rattle.model.specs.FreeList.{is_among}
 use Rattle.model.specs.Outcome.{View, with_pages, outcome}

@@ -10,7 +10,6 @@ use lib.ListN.{length, length-reverse}
 use lib.Dec.{eqb}
 use Rattle.model.specs.WaitingRow.{row_left, row_without}
 use Rattle.model.specs.declared.WithdrawAnswer.{WithdrawAnswer}
-use Rattle.model.specs.declared.WithdrawAnswer.TheVariants as WithdrawAnswer
 use Rattle.model.specs.Pages.{page_of, link_of, page_sound, scratch_page, zero_page}
 use Rattle.model.specs.Chains.{Checked, damaged, sound, list_from, pages_listed}
 use Rattle.model.specs.FreeList.{is_among, room_to_give_back, given_back}
