@@ -3,13 +3,9 @@
 use Rattle.std.specs.Prelude.{cond, ℕ, set, eqb}
 use Rattle.model.specs.declared.Operation.{Operation}
 use Rattle.model.specs.declared.StepAnswer.{StepAnswer}
-use Rattle.model.specs.declared.StepAnswer.TheVariants as StepAnswer
 use Rattle.model.specs.declared.BeginAnswer.{BeginAnswer}
-use Rattle.model.specs.declared.BeginAnswer.TheVariants as BeginAnswer
 use Rattle.model.specs.declared.WithdrawAnswer.{WithdrawAnswer}
-use Rattle.model.specs.declared.WithdrawAnswer.TheVariants as WithdrawAnswer
 use Rattle.model.specs.declared.FormatAnswer.{FormatAnswer}
-use Rattle.model.specs.declared.FormatAnswer.TheVariants as FormatAnswer
 use Rattle.model.specs.Records.{root_of_sizes, begun}
 use Rattle.model.specs.Answers.{operation_number, setting_given}
 use Rattle.model.specs.Memory.{Memory, party_at, view_of, after_step, with_waiting, formatted}

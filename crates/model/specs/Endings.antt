@@ -4,7 +4,6 @@ use Rattle.std.specs.Prelude.{cond, List, eqb}
 use Rattle.model.specs.declared.OperationAnswer.{OperationAnswer}
 use Rattle.model.specs.declared.Restructuring.{Restructuring}
 use Rattle.model.specs.declared.StepAnswer.{StepAnswer}
-use Rattle.model.specs.declared.StepAnswer.TheVariants as StepAnswer
 use Rattle.model.specs.Records.{idle, at_step, owes_split, owes_merge}
 use Rattle.model.specs.Answers.{answer_of, restructuring_of}
 use Rattle.model.specs.LockWords.{Claim}

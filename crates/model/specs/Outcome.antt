@@ -4,7 +4,6 @@ use Rattle.std.specs.Prelude.{Bool, true, false, List, ℕ}
 use Rattle.model.specs.declared.Party.{Party}
 use Rattle.model.specs.declared.Root.{Root}
 use Rattle.model.specs.declared.StepAnswer.{StepAnswer}
-use Rattle.model.specs.declared.StepAnswer.TheVariants as StepAnswer
 use Rattle.model.specs.Chains.{Checked, damaged, sound}
 
 -- The root, one party's record and number, the lock words and the page words.

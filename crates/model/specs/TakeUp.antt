@@ -8,7 +8,6 @@ use Rattle.model.specs.declared.Root.{Root}
 use Rattle.model.specs.declared.Party.{Party}
 use Rattle.model.specs.declared.Entry.{Entry}
 use Rattle.model.specs.declared.TakeUpAnswer.{TakeUpAnswer}
-use Rattle.model.specs.declared.TakeUpAnswer.TheVariants as TakeUpAnswer
 use Rattle.model.specs.Addresses.{span, hash, count_of_chains}
 use Rattle.model.specs.Entries.{key_of, joined_all, is_empty}
 use Rattle.model.specs.Pages.{page_of, link_of, filled_page, free_page, zero_page, link_to_first, primary_page, scratch_page}

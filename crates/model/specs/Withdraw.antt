@@ -5,7 +5,6 @@
 use Rattle.std.specs.Prelude.{Bool, cond, ◌&&◌, ◌||◌, List, [], reverse, ℕ, length, eqb, leb}
 use Rattle.model.specs.declared.Party.{Party}
 use Rattle.model.specs.declared.WithdrawAnswer.{WithdrawAnswer}
-use Rattle.model.specs.declared.WithdrawAnswer.TheVariants as WithdrawAnswer
 use Rattle.model.specs.Records.{find_operation, insert_operation, delete_operation, idle}
 use Rattle.model.specs.Pages.{link_of, page_sound, zero_page}
 use Rattle.model.specs.Chains.{Checked, damaged, sound, and_then, sound_if, list_from}

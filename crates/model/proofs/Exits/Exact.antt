@@ -13,7 +13,6 @@ use lib.Dec.{eqb}
 use Rattle.model.specs.declared.Root.{Root}
 use Rattle.model.specs.declared.Party.{Party}
 use Rattle.model.specs.declared.StepAnswer.{StepAnswer}
-use Rattle.model.specs.declared.StepAnswer.TheVariants as StepAnswer
 use Rattle.model.specs.Records.{find_operation, insert_operation, with_level, with_next, with_free_list, root_of_sizes, begun, at_step, with_chain, with_other, with_old, with_owed, with_answer}
 use Rattle.model.specs.Answers.{is_moved}
 use Rattle.model.specs.Outcome.{View}

@@ -5,7 +5,6 @@ use mathlib.Core.Bool.{true, cond}
 use Prim.Native.Nat.{ℕ}
 use lib.Dec.{eqb}
 use Rattle.model.specs.declared.OperationAnswer.{OperationAnswer}
-use Rattle.model.specs.declared.OperationAnswer.TheVariants as OperationAnswer
 use Rattle.model.specs.Answers.{answer_number, answer_of, setting_found, same_answer}
 use Rattle.model.proofs.Laws.Lists.{and_both, both-and, eqb-true, eqb_same}
 

@@ -13,7 +13,6 @@ use native.Mathlib.Omega.{arith}
 use lib.ListN.{length}
 use lib.Dec.{ltb, eqb}
 use Rattle.model.specs.declared.Operation.{Operation}
-use Rattle.model.specs.declared.Operation.TheVariants as Operation
 use Rattle.model.specs.Answers.{operation_number, setting_given, answer_number, answer_of}
 use Rattle.model.specs.declared.Entry.{Entry}
 use Rattle.model.specs.Entries.{key_of, setting_of, entry_of, has_key, setting_in, below_first, ascending, inserted_into, removed_from}

@@ -2,7 +2,7 @@
 -- Main statements: xor_assoc, xor-swap; same_left_out, same_right_out; xor-shl.
 use mathlib.Core.Path.{◌≡◌, refl, sym, ap, ap₂, ◌∙◌}
 use Prim.Native.Nat.{ℕ, zero, suc, ◌+◌, ◌*◌, ◌/◌, ◌%◌, ◌^◌, ◌<◌}
-use native.Mathlib.Nat.{add-zero, mod-lt, not-suc-le-zero, le_of_suc-le-suc}
+use native.Mathlib.Nat.{add-zero, mod-lt}
 use native.Mathlib.Omega.{arith}
 use lib.Arith.{bin_ind, digits_div, digits_mod}
 use lib.Pow.{pow_pos}

@@ -1,6 +1,6 @@
 -- Words read as records, two a record, key first: how many there are, parts of the words, the record passed next, a record written over another.
 -- Main statements: length_records; records_take, records_drop, records_front, records_slice (parts of the words); records_append; record_at_lem, key_at and next_record; record_stored; words_key, words_setting, words_back (records as words again).
-use mathlib.Core.Path.{◌≡◌, refl, sym, ap, ◌∙◌}
+use mathlib.Core.Path.{◌≡◌, refl, ap, ◌∙◌}
 use mathlib.Core.List.{List, [], ◌∷◌, ◌++◌}
 use Prim.Native.Nat.{ℕ, zero, suc, ◌+◌, ◌-◌, ◌*◌, ◌/◌, ◌<◌}
 use native.Mathlib.Numerals.{add-one}

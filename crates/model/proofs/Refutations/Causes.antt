@@ -2,7 +2,7 @@
 -- (document 01, "Refused calls"). proofs/Theorems/RefusalOrder.antt has the same of every memory.
 -- Main statements: begin_first, step-first, withdraw_first.
 use mathlib.Core.Path.{◌≡◌, refl}
-use mathlib.Core.List.{List, [], ◌∷◌}
+use mathlib.Core.List.{[], ◌∷◌}
 use Prim.Native.Nat.{ℕ}
 use lib.ListN.{replicate}
 use Rattle.model.specs.declared.Root.{Root}

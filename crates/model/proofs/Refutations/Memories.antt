@@ -10,7 +10,6 @@ use Prim.Native.Nat.{ℕ}
 use Rattle.model.specs.declared.Root.{Root}
 use Rattle.model.specs.declared.Party.{Party}
 use Rattle.model.specs.declared.Operation.{Operation}
-use Rattle.model.specs.declared.Operation.TheVariants as Operation
 use Rattle.model.specs.declared.Mode.TheVariants as Mode
 use Rattle.model.specs.Records.{idle}
 use Rattle.model.specs.Memory.{Memory}

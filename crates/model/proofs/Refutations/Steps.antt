@@ -16,7 +16,6 @@ use Rattle.model.specs.declared.Operation.TheVariants as Operation
 use Rattle.model.specs.declared.OperationAnswer.TheVariants as OperationAnswer
 use Rattle.model.specs.declared.Restructuring.TheVariants as Restructuring
 use Rattle.model.specs.declared.StepAnswer.{StepAnswer}
-use Rattle.model.specs.declared.StepAnswer.TheVariants as StepAnswer
 use Rattle.model.specs.Addresses.{level_for}
 use Rattle.model.specs.Pages.{page_of, level_of}
 use Rattle.model.specs.Outcome.{View, Outcome}

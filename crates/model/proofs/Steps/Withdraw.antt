@@ -15,7 +15,6 @@ use lib.Dec.{eqb, leb}
 use Rattle.model.specs.declared.Party.{Party}
 use Rattle.model.specs.declared.Root.{Root}
 use Rattle.model.specs.declared.WithdrawAnswer.{WithdrawAnswer}
-use Rattle.model.specs.declared.WithdrawAnswer.TheVariants as WithdrawAnswer
 use Rattle.model.specs.Sizes.{lock_words, within}
 use Rattle.model.specs.Records.{idle, with_free_list}
 use Rattle.model.specs.LockWords.{Claim}

@@ -30,7 +30,7 @@ use Rattle.model.proofs.Laws.Structure.{FreePages, ChainIs}
 use Rattle.model.proofs.Laws.Filling.{IsOverflow}
 use Rattle.model.proofs.Laws.Walks.{chain_reads, read_ascends, walked_chained, linked_overflow}
 use Rattle.model.proofs.Laws.Together.{Apart, setting_home, ascends_all, chains_at_ok, on_chain, chains_apart}
-use Rattle.model.proofs.Invariant.Ghost.{free, old_of, partner_of, built_by, new_by, count, root_extent, size, local_level, Ghost, Owned}
+use Rattle.model.proofs.Invariant.Ghost.{old_of, partner_of, built_by, new_by, count, root_extent, size, local_level, Ghost, Owned}
 use Rattle.model.proofs.Invariant.Extents.{home_is}
 use Rattle.model.proofs.Invariant.Claims.{is_claimed, claimed, LocksOk}
 use Rattle.model.proofs.Invariant.LockMoves.{locks_same, locks_start}

@@ -10,7 +10,6 @@ use lib.Dec.{eqb}
 use Rattle.model.specs.declared.OperationAnswer.{OperationAnswer}
 use Rattle.model.specs.declared.Restructuring.{Restructuring}
 use Rattle.model.specs.declared.StepAnswer.{StepAnswer}
-use Rattle.model.specs.declared.StepAnswer.TheVariants as StepAnswer
 use Rattle.model.specs.Answers.{is_moved}
 use Rattle.model.specs.LockWords.{Claim, permits}
 use Rattle.model.specs.Outcome.{View, Outcome, refuse, damage}

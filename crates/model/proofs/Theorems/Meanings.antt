@@ -15,9 +15,7 @@ use lib.Dec.{eqb, leb}
 use borrow.Author.Tests.{ne_eqb, lt-ltb, le-ltb, le-leb, lt-leb}
 use Rattle.model.specs.declared.Party.{Party}
 use Rattle.model.specs.declared.OperationAnswer.{OperationAnswer}
-use Rattle.model.specs.declared.OperationAnswer.TheVariants as OperationAnswer
 use Rattle.model.specs.declared.Operation.{Operation}
-use Rattle.model.specs.declared.Operation.TheVariants as Operation
 use Rattle.model.specs.declared.Restructuring.TheVariants as Restructuring
 use Rattle.model.specs.Records.{root_of_sizes, idle, begun, at_step, with_lev, with_chain, with_other, with_old, with_owed, with_answer}
 use Rattle.model.specs.Answers.{answer_of, setting_given, setting_found, restructuring_number, begin_refusal, format_refusal, withdraw_refusal}

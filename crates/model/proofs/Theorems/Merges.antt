@@ -11,7 +11,6 @@ use lib.Dec.{eqb}
 use Rattle.model.specs.declared.Root.{Root}
 use Rattle.model.specs.declared.Party.{Party}
 use Rattle.model.specs.declared.Restructuring.{Restructuring}
-use Rattle.model.specs.declared.Restructuring.TheVariants as Restructuring
 use Rattle.model.specs.Sizes.{page_words}
 use Rattle.model.specs.Records.{at_step, with_old}
 use Rattle.model.specs.Answers.{is_moved, answer_of}

@@ -22,7 +22,6 @@ use Rattle.model.specs.Claims.{claims}
 use Rattle.model.specs.Outcome.{View, Outcome}
 use Rattle.model.specs.Memory.{Memory, party_at, view_of, after_step, with_waiting}
 use Rattle.model.specs.declared.StepAnswer.{StepAnswer}
-use Rattle.model.specs.declared.StepAnswer.TheVariants as StepAnswer
 use Rattle.model.specs.WaitingRow.{stands_behind, row_after, row_without}
 use Rattle.model.specs.Calls.{stepped, with_begun}
 use Rattle.model.specs.Book.{Book}

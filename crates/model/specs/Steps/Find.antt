@@ -2,9 +2,7 @@
 -- Main definition: step09.
 use Rattle.std.specs.Prelude.{cond, [], ◌∷◌, eqb}
 use Rattle.model.specs.declared.OperationAnswer.{OperationAnswer}
-use Rattle.model.specs.declared.OperationAnswer.TheVariants as OperationAnswer
 use Rattle.model.specs.declared.Restructuring.{Restructuring}
-use Rattle.model.specs.declared.Restructuring.TheVariants as Restructuring
 use Rattle.model.specs.Answers.{found_or_absent}
 use Rattle.model.specs.Entries.{has_key, setting_in}
 use Rattle.model.specs.Pages.{page_of, link_of, linked_page, page_sound, entries_of}

@@ -2,7 +2,6 @@
 -- Main definitions: Pair and pair_of (the two chains), merge_goes; step26.
 use Rattle.std.specs.Prelude.{Bool, cond, not, List, [], ℕ}
 use Rattle.model.specs.declared.Restructuring.{Restructuring}
-use Rattle.model.specs.declared.Restructuring.TheVariants as Restructuring
 use Rattle.model.specs.declared.Root.{Root}
 use Rattle.model.specs.Records.{at_step, with_old}
 use Rattle.model.specs.declared.Entry.{Entry}

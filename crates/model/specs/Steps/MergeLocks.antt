@@ -4,7 +4,6 @@ use Rattle.std.specs.Prelude.{Bool, cond, List, [], ◌∷◌, ℕ}
 use Rattle.model.specs.declared.Mode.TheVariants.{Exclusive}
 use Rattle.model.specs.declared.Party.{Party}
 use Rattle.model.specs.declared.Restructuring.{Restructuring}
-use Rattle.model.specs.declared.Restructuring.TheVariants as Restructuring
 use Rattle.model.specs.declared.Root.{Root}
 use Rattle.model.specs.Records.{at_step, with_chain, with_other}
 use Rattle.model.specs.LockWords.{Claim, claim, chain_word}

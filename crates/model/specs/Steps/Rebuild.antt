@@ -2,7 +2,6 @@
 -- Main definitions: Change and change_of (what an operation makes of a chain's records), split_owed, merge_owed; step10.
 use Rattle.std.specs.Prelude.{Bool, cond, List, ℕ, eqb, ltb, length}
 use Rattle.model.specs.declared.OperationAnswer.{OperationAnswer}
-use Rattle.model.specs.declared.OperationAnswer.TheVariants as OperationAnswer
 use Rattle.model.specs.declared.Party.{Party}
 use Rattle.model.specs.Records.{at_step, with_answer, with_old, with_owed, insert_operation, owes_none, owes_split, owes_merge}
 use Rattle.model.specs.Answers.{answer_number}

@@ -2,7 +2,6 @@
 -- Main definitions: Halves and halves_of (its two halves); step17.
 use Rattle.std.specs.Prelude.{cond, not, List, [], ◌∷◌, ℕ, ◌+◌, take, drop}
 use Rattle.model.specs.declared.Restructuring.{Restructuring}
-use Rattle.model.specs.declared.Restructuring.TheVariants as Restructuring
 use Rattle.model.specs.Records.{at_step, with_old}
 use Rattle.model.specs.Addresses.{count_of_chains, split_barred}
 use Rattle.model.specs.declared.Entry.{Entry}

@@ -2,7 +2,6 @@
 -- Main definitions: is_change, step11, step12.
 use Rattle.std.specs.Prelude.{Bool, cond, ◌||◌, [], ◌∷◌, ℕ, eqb}
 use Rattle.model.specs.declared.OperationAnswer.{OperationAnswer}
-use Rattle.model.specs.declared.OperationAnswer.TheVariants as OperationAnswer
 use Rattle.model.specs.Answers.{answer_number}
 use Rattle.model.specs.Outcome.{View, Outcome, guarded}
 use Rattle.model.specs.LockRequests.{chain_selective, held_all, given_up}

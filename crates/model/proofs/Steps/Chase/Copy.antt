@@ -11,7 +11,6 @@ use lib.ListN.{length, set, drop}
 use lib.Dec.{eqb, leb}
 use Rattle.model.specs.declared.Party.{Party}
 use Rattle.model.specs.declared.Operation.{Operation}
-use Rattle.model.specs.declared.Operation.TheVariants as Operation
 use Rattle.model.specs.Sizes.{page_words}
 use Rattle.model.specs.Records.{at_step, with_lev, with_chain, with_other}
 use Rattle.model.specs.Answers.{operation_number, setting_given, found_or_absent}
