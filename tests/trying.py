@@ -17,7 +17,16 @@ def crates():
     os.chdir(ROOT)
     rt = loaded('rt')
     rt.rtlib.guarded()
-    return rt, {it.name: it for it in rt.rtlib.crates_below(str(ROOT))}
+    known = {it.name: it for it in rt.rtlib.crates_below(str(ROOT))}
+    for crate in known.values():
+        # What a library's build says; where it fails, `rt check` says it again.
+        crate.out = open(os.devnull, 'w', encoding='utf-8')
+    return rt, known
+
+
+def lanes(rt, crate):
+    """How many checks of the crate fit the processors and the memory at once."""
+    return max(1, min(rt.processors(), int(0.8 * rt.free() / rt.need(crate))))
 
 
 @contextmanager
@@ -40,7 +49,7 @@ def tried(rt, crate, edit, room):
     texts, why = rt.read_edit(str(edit), crate.folder)
     if why:
         return None, why
-    over = f'{room}/over'
+    over = f'{room}/{Path(edit).stem}'
     try:
         rt.linked(f'{room}/seed', over)
         ran = rt.checked(crate, texts, ['--jobs', '1'], over)
