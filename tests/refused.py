@@ -2,7 +2,7 @@
 
 - values: numbers or constructors are named at which a goal fails, or two sides compute to different ones;
 - terms: two sides, computed as far as they go or compared part by part, are different terms, and a definition that stays shut is not all in which they differ;
-- goal: what a function ensures, a callee requires or a loop keeps is no longer proved, and the search for a proof came to no end and found no values either;
+- goal: what a function ensures, a callee requires or a loop keeps is no longer proved, no name is gone, and the search for a proof found no values either;
 - text: a proof no longer goes through, and no such line says why: a claim of another form, a rewriting step that finds no place;
 - no fact: a field, a clause or a name is gone, the source does not compile, or a limit of the prover's own was met.
 
@@ -113,8 +113,11 @@ def facts(log):
         tried = {last(word) for words in TRIED.findall(notes) for word in words.split()}
         if error[1].startswith('proofs/') and (found := kind(error[3], tried)):
             yield found, f'{error[1]}:{error[2]}'
+    # A goal may also be open because a lemma that it wants names what is gone.
+    is_fit = not any(UNFIT.search(error[3]) for error in said)
     for note in OPEN.finditer(log):
-        yield 'values' if FAILS_AT.search(note[3]) else 'goal', f'{note[1]}:{note[2]}'
+        if is_fit or FAILS_AT.search(note[3]):
+            yield 'values' if FAILS_AT.search(note[3]) else 'goal', f'{note[1]}:{note[2]}'
     for note in MAY_BE_FALSE.finditer(log):
         yield 'values', note[1]
 
@@ -151,7 +154,7 @@ def said(line):
         return 'values', place[1]
     if DIFFERS_BEGINS.search(what) or LEFT_BEGINS.search(what):
         return 'terms', place[1]
-    return ('goal', place[1]) if OPEN.match(f'note: {place[1]}:1: {what}') else None
+    return None
 
 
 def changed(edit, crate):
