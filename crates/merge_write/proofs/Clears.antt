@@ -2,12 +2,12 @@
 -- Main statements: partner_there; no-room-refused, all-cleared (both lists are given back); first-damaged,
 -- second-damaged, both-walked (both are walked); unsound-link-refused, unsound-page-refused, sound-cleared (29).
 use mathlib.Core.Path.{◌≡◌, refl, ap}
-use mathlib.Core.Bool.{Bool, true, false, not}
+use mathlib.Core.Bool.{Bool, true, false}
 use mathlib.Core.List.{List, ◌++◌}
 use Prim.Native.Nat.{ℕ, ◌+◌, ◌*◌, ◌≤◌, ◌<◌}
 use native.Mathlib.Omega.{arith}
 use lib.ListN.{length}
-use borrow.Author.Tests.{not-true, not-false, le-leb, lt-leb}
+use borrow.Author.Tests.{le-leb, lt-leb}
 use Rattle.model.specs.declared.Root.{Root}
 use Rattle.model.specs.declared.Party.{Party}
 use Rattle.model.specs.Sizes.{page_words}
@@ -75,15 +75,15 @@ module _ (v : View) where
 
 -- w is the partner's primary page as the code read it; b and c are what its tests of the old link and of w answered.
 module _ (v : View) {w : List ℕ} (ew : w ≡ page_of v.pages v.party.other) {b : Bool} (eb : b ≡ link_sound v.root v.party.old) where
-  pub unsound_link_refused : not b ≡ true → refuse damage v ≡ step29 v
+  pub unsound_link_refused : b ≡ false → refuse damage v ≡ step29 v
   unfolding step29 merged_away
-  unsound_link_refused h = rw (← eb, not-true b h) refl
+  unsound_link_refused h = rw (← eb, h) refl
 
-  module _ (h : not b ≡ false) {c : Bool} (ec : c ≡ page_sound v.root w) where
-    pub unsound_page_refused : not c ≡ true → refuse damage v ≡ step29 v
+  module _ (h : b ≡ true) {c : Bool} (ec : c ≡ page_sound v.root w) where
+    pub unsound_page_refused : c ≡ false → refuse damage v ≡ step29 v
     unfolding step29 merged_away
-    unsound_page_refused k = rw (← eb, not-false b h, ← ew, ← ec, not-true c k) refl
+    unsound_page_refused k = rw (← eb, h, ← ew, ← ec, k) refl
 
-    pub sound_cleared : not c ≡ false → {l : ℕ} → l ≡ link_of w → both_cleared v l ≡ step29 v
+    pub sound_cleared : c ≡ true → {l : ℕ} → l ≡ link_of w → both_cleared v l ≡ step29 v
     unfolding step29 merged_away
-    sound_cleared k el = rw (← eb, not-false b h, ← ew, ← ec, not-false c k, el) refl
+    sound_cleared k el = rw (← eb, h, ← ew, ← ec, k, el) refl

@@ -1,12 +1,12 @@
 -- Steps 27 and 28 of a merge by their cases, over what the code's tests and calls answered.
 -- Main statements: barred_refused, unheld-refused, root-moved-back, moved_back_written (27); first_word_set, unsound-refused, level-0-refused, lowered-written (28).
 use mathlib.Core.Path.{◌≡◌, refl, ap, ◌∙◌}
-use mathlib.Core.Bool.{Bool, true, false, not}
+use mathlib.Core.Bool.{Bool, true, false}
 use mathlib.Core.List.{List, [], ◌∷◌}
 use Prim.Native.Nat.{ℕ, ◌-◌, ◌<◌}
 use native.Mathlib.Omega.{arith}
 use lib.ListN.{length, get_or, drop, set, length-set}
-use borrow.Author.Tests.{not-true, not-false, eq-eqb, ne_eqb}
+use borrow.Author.Tests.{eq-eqb, ne_eqb}
 use Rattle.model.specs.declared.Root.{Root}
 use Rattle.model.specs.declared.Party.{Party}
 use Rattle.model.specs.declared.Mode.TheVariants.{Exclusive}
@@ -60,18 +60,18 @@ first_word_set w {x} h e = set_first w x h ∙ ap (λ (z : ℕ). z ∷ drop 1 w)
 
 -- w is the scratch page as the code read it, b what its test of w answered, and n the local level that it read.
 module _ (v : View) {w : List ℕ} (ew : w ≡ scratch_of v) {b : Bool} (eb : b ≡ page_sound v.root w) where
-  pub unsound_refused : not b ≡ true → refuse damage v ≡ step28 v
+  pub unsound_refused : b ≡ false → refuse damage v ≡ step28 v
   unfolding step28
-  unsound_refused h = rw (← ew, ← eb, not-true b h) refl
+  unsound_refused h = rw (← ew, ← eb, h) refl
 
-  module _ (h : not b ≡ false) {n : ℕ} (en : n ≡ level_of w) where
+  module _ (h : b ≡ true) {n : ℕ} (en : n ≡ level_of w) where
     pub level_0_refused : n ≡ 0 → refuse damage v ≡ step28 v
     unfolding step28
-    level_0_refused z = rw (← ew, ← eb, not-false b h, ← en, eq-eqb n 0 z) refl
+    level_0_refused z = rw (← ew, ← eb, h, ← en, eq-eqb n 0 z) refl
 
     pub lowered_written : (n ≡ 0 → ⊥) → {w' ps : List ℕ} {p : Party} → w' ≡ with_local_level (level_of w - 1) w → ps ≡ with_page v.pages v.party.chain w' → p ≡ at_step 29 v.party
         → moved (with_party p (with_pages ps v)) ≡ step28 v
     unfolding step28
     lowered_written z e' es ep =
         let some : (level_of w ≡ 0 → ⊥) = λ y. z (en ∙ y) in
-        rw (← ew, ← eb, not-false b h, ne_eqb (level_of w) 0 some, es, e', ep) refl
+        rw (← ew, ← eb, h, ne_eqb (level_of w) 0 some, es, e', ep) refl
