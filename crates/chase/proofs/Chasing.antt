@@ -1,6 +1,6 @@
 -- A chase turn by turn, over the model's chase, and the record after it.
--- Main statements: chase_ends, chase-leaves, chase-goes-on (one turn); leaving_written (the words of a record that goes on);
--- leaving-follows, found-looks, found-changes (the record after a chase).
+-- Main statements: chase_ends, chase-leaves, chase_goes_on (one turn); leaving_written (the words of a record that goes on);
+-- leaving_follows, found_looks, found_changes (the record after a chase).
 use mathlib.Core.Path.{◌≡◌, refl, ap, ◌∙◌}
 use mathlib.Core.List.{List}
 use Prim.Native.Nat.{ℕ, suc, ◌+◌, ◌-◌, ◌<◌}

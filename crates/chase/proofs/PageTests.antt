@@ -1,5 +1,5 @@
 -- Step 6 by its tests: which one refuses it, and what it leaves where none does. The code's page is w.
--- Main statements: unsound-refused, level-below-refused, chain-beyond-refused, all-sound-moves.
+-- Main statements: unsound_refused, level_below_refused, chain_beyond_refused, all_sound_moves.
 use mathlib.Core.Path.{◌≡◌, refl, ap, ◌∙◌}
 use mathlib.Core.Bool.{true, false}
 use mathlib.Core.List.{List}

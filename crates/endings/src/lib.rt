@@ -31,6 +31,7 @@ pub fn answer_of(n: u32) -> OperationAnswer
 }
 
 // "Done at 12, 14 or 22 reports split where owed is 3, else none."
+#[tactic(auto, unfolding(model::specs::Answers::restructuring_of))]
 pub fn restructuring_of(owed: u32) -> Restructuring
     ensures { result ≡ restructuring_of owed }
 {

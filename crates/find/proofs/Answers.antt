@@ -1,5 +1,5 @@
 -- A find's answer, over the lock words that give_up leaves.
--- Main statements: held-answers, not-held-refused.
+-- Main statements: held_answers, not_held_refused.
 use mathlib.Core.Path.{◌≡◌, ap₂, ◌∙◌}
 use mathlib.Core.Bool.{Bool, true, false}
 use mathlib.Core.List.{List}

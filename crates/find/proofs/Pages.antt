@@ -1,5 +1,5 @@
 -- Step 9 by its cases: the scratch page s that was looked at, and the linked page w that is copied over it.
--- Main statements: next-unsound-refused, next-copied (the linked page); unsound-refused, key-found, no-link-absent, else-looked-on (the scratch page).
+-- Main statements: next_unsound_refused, next_copied (the linked page); unsound_refused, key_found, no_link_absent, else_looked_on (the scratch page).
 use mathlib.Core.Path.{◌≡◌, refl}
 use mathlib.Core.Bool.{true, false}
 use mathlib.Core.List.{List}

@@ -1,5 +1,5 @@
 -- An operation that ends with locks given up, by its cases: one lock is not held, or all are.
--- Main statements: unheld-refused and held-ends, over any list of locks; first-unheld, first-held, none_unheld (how the list is tested, lock by lock);
+-- Main statements: unheld_refused and held_ends, over any list of locks; first_unheld, first_held, none_unheld (how the list is tested, lock by lock);
 -- first-left, none_left (the words that giving up leaves, lock by lock).
 use mathlib.Core.Path.{◌≡◌, refl}
 use mathlib.Core.Bool.{Bool, true, false}

@@ -1,5 +1,5 @@
 -- Step 3 by its cases: whether there is a chain with the number worked out, c, at the level l.
--- Main statements: chain-there-moves, chain-beyond-refused.
+-- Main statements: chain_there_moves, chain_beyond_refused.
 use mathlib.Core.Path.{◌≡◌, refl}
 use Prim.Native.Nat.{ℕ, ◌≤◌, ◌<◌}
 use borrow.Author.Tests.{lt-ltb, le-ltb}

@@ -1,5 +1,5 @@
 -- One lock given up, over the lock words that give_up leaves: what follows a held lock, and that a lock not held is damage.
--- Main laws: held-goes-on and not-held-refused, whatever follows; release_at_equals and release_on_equals, for the steps that call release_step.
+-- Main laws: held_goes_on and not_held_refused, whatever follows; release_at_equals and release_on_equals, for the steps that call release_step.
 use mathlib.Core.Path.{◌≡◌, refl, ap, ap₂, ◌∙◌}
 use mathlib.Core.Bool.{Bool, true, false}
 use mathlib.Core.List.{List, [], ◌∷◌}

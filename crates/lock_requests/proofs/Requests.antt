@@ -1,5 +1,5 @@
 -- The model's request by its two outcomes, over the lock words that lock_words' request leaves.
--- Main laws: granted-request-moves, other-request-waits; request_at_equals and request_on_equals, for the steps that
+-- Main laws: granted_request_moves, other_request-waits; request_at_equals and request_on_equals, for the steps that
 -- call request_step; locks_there.
 use mathlib.Core.Path.{◌≡◌, refl, ap, ap₂, ◌∙◌}
 use mathlib.Core.Bool.{Bool, true, false}

@@ -44,6 +44,7 @@ pub fn mode_of(party: &[u32]) -> Mode
 }
 
 // A request on one lock word. Granted, the party is at step k; else it "answers waiting (no word changes)".
+#[tactic(auto, unfolding(model::specs::LockRequests::request, model::specs::LockRequests::is_granted, model::specs::LockRequests::with_hold))]
 pub fn request_step(
     party: &mut [u32],
     q: u32,

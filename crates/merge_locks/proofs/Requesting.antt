@@ -1,5 +1,5 @@
 -- The requests of a merge by their cases, over what the code's tests and calls answered.
--- Main statements: target_is_chain; barred-ends, open-requests, grant_written (24); partner_requested (25).
+-- Main statements: target_is_chain; barred_ends, open_requests, grant_written (24); partner_requested (25).
 use mathlib.Core.Path.{◌≡◌, ap, ap₂, ◌∙◌}
 use mathlib.Core.Bool.{Bool, true, false}
 use mathlib.Core.List.{List, [], ◌∷◌}

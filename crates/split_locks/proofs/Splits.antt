@@ -1,5 +1,5 @@
 -- The locking steps of a split by their cases, over what the code's tests and calls answered.
--- Main statements: next_is_chain, barred-ends, open-requests, grant_writes (16); chain_left (19); done-where-no-old, old-first (where 22 leads); held-leaves, unheld-refused (22).
+-- Main statements: next_is_chain, barred_ends, open_requests, grant_writes (16); chain_left (19); done_where_no_old, old_first (where 22 leads); held_leaves, unheld_refused (22).
 use mathlib.Core.Path.{◌≡◌, refl, ap, ◌∙◌}
 use mathlib.Core.Bool.{Bool, true, false}
 use mathlib.Core.List.{List, [], ◌∷◌}

@@ -1,4 +1,4 @@
--- A lock given up ends in one of the model's two outcomes: Releases.held-goes-on and Releases.not-held-refused, over what give_up ensures.
+-- A lock given up ends in one of the model's two outcomes: Releases.held_goes_on and Releases.not_held_refused, over what give_up ensures.
 use mathlib.Core.Path.{◌∙◌}
 use Rattle.model.specs.Records.{at_step}
 use Rattle.model.specs.Outcome.{moved, with_party}
