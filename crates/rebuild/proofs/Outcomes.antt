@@ -15,7 +15,6 @@ use Rattle.records.specs.Words.{party_words, party_in}
 use Rattle.records.proofs.Words.{answer_written, old_written, owed_written}
 use Rattle.chain_change.specs.declared.Rebuilt.{Rebuilt}
 use Rattle.chain_change.specs.declared.Changed.{Changed}
-use Rattle.chain_change.specs.declared.Changed.TheVariants as Changed
 use Rattle.chain_change.specs.Changing.{after_change}
 
 -- The records by value, r and p, are those of the core's words, r₀ and p₀.
