@@ -17,7 +17,6 @@ use Rattle.model.specs.Steps.SplitBuild.{step17}
 use Rattle.records.specs.Words.{AtHand}
 use Rattle.split_few.specs.declared.Halved.{Halved}
 use Rattle.split_few.specs.declared.Divided.{Divided}
-use Rattle.split_few.specs.declared.Divided.TheVariants as Divided
 use Rattle.split_few.specs.Splitting.{after_dividing}
 
 -- The records by value, r and p, are those of the core's words, r₀ and p₀.
