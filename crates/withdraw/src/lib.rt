@@ -101,6 +101,9 @@ fn give_up_all(party: &[u32], q: u32, locks: &mut [u32])
 
 // ---- Withdraw
 
+// The step at which the scratch page leads to pages that are built and not yet written into the file.
+const BUILT: u32 = 11;
+
 // The n pages that link `first` leads to are those built. "a free count that giving back would take above V" is
 // damage.
 fn taken_back(
@@ -142,7 +145,7 @@ pub fn withdrawn(
     requires { (length root.old ≡ root_words) × (AtHand (root_in root.old) party.old q locks.old pages.old) × ((party_in party.old).step < 12) }
     ensures { Withdraw.withdrawal result (seen (root_in root.new) party.new q locks.new pages.new) ≡ Withdraw.withdrawn (seen (root_in root.old) party.old q locks.old pages.old) }
 {
-    if party[STEP] != 11 {
+    if party[STEP] != BUILT {
         return taken_back(root, party, q, 0, 0, locks, pages);
     }
     let r = records::root_of(&root[..]);

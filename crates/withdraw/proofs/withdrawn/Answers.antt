@@ -16,10 +16,10 @@ taken_back-requires c =
     let r = root_in a.root.now in
     (c.requires.0, c.requires.1, c.requires.2, none_linked r, ap counted (none-listed r a.pages.now))
 
-pub returns-then-party-ne11 : goal.returns-then-party-ne11
-returns-then-party-ne11 c =
+pub returns-then-party-ne-BUILT : goal.returns-then-party-ne-BUILT
+returns-then-party-ne-BUILT c =
     let a = c.args in
-    c.taken_back.ensures ∙ nothing_built (root_in a.root.now) (party_in a.party.now) a.q a.locks.now a.pages.now c.if-party-ne11.true
+    c.taken_back.ensures ∙ nothing_built (root_in a.root.now) (party_in a.party.now) a.q a.locks.now a.pages.now c.if-party-ne-BUILT.true
 
 pub scratch_of-w-requires : goal.scratch_of-w-requires
 scratch_of-w-requires c =
@@ -34,7 +34,7 @@ returns-then-not-page_sound c =
     let ew = rw er at c.scratch_of-w.ensures in
     let es = rw (er, ew) at c.page_sound.ensures in
     let unsound = sym es ∙ c.if-not-page_sound.true in
-    unsound_refused (root_in a.root.now) (party_in a.party.now) a.q a.locks.now a.pages.now c.if-party-ne11.false unsound
+    unsound_refused (root_in a.root.now) (party_in a.party.now) a.q a.locks.now a.pages.now c.if-party-ne-BUILT.false unsound
 
 pub count_pages-requires : goal.count_pages-requires
 count_pages-requires c =
@@ -69,7 +69,7 @@ returns-in-Damaged c =
     let el = rw ew at c.link_of-first.ensures in
     let bad = sym (rw (er, el) at c.in-Damaged.ensures) in
     let sound = sym es ∙ c.if-not-page_sound.false in
-    damaged_refused (root_in a.root.now) (party_in a.party.now) a.q a.locks.now a.pages.now c.if-party-ne11.false sound bad
+    damaged_refused (root_in a.root.now) (party_in a.party.now) a.q a.locks.now a.pages.now c.if-party-ne-BUILT.false sound bad
 
 pub returns-in-Pages : goal.returns-in-Pages
 returns-in-Pages c =
@@ -81,4 +81,4 @@ returns-in-Pages c =
     let el = rw ew at c.link_of-first.ensures in
     let good = sym (rw (er, el) at c.in-Pages.ensures) in
     let sound = sym es ∙ c.if-not-page_sound.false in
-    rw el at c.taken_back-in-Pages.ensures ∙ walked_taken_back (root_in a.root.now) (party_in a.party.now) a.q a.locks.now a.pages.now c.if-party-ne11.false sound _ good
+    rw el at c.taken_back-in-Pages.ensures ∙ walked_taken_back (root_in a.root.now) (party_in a.party.now) a.q a.locks.now a.pages.now c.if-party-ne-BUILT.false sound _ good
