@@ -2,7 +2,7 @@
 use mathlib.Core.Path.{sym, ap, subst, ◌∙◌}
 use Prim.Native.Nat.{◌+◌, ◌≤◌, ◌<◌}
 use native.Mathlib.Omega.{arith}
-use lib.ListN.{length, set, length-set}
+use lib.ListN.{length, length-set}
 use Rattle.model.specs.declared.Root.{Root}
 use Rattle.model.specs.Chains.{list_from}
 use Rattle.records.specs.Words.{root_in, party_in}
@@ -87,9 +87,7 @@ onward-requires c =
     (simp length-set pre.1.words, still_has_scratch _ _ a.q a.pages.now _ same.0 same.1 c.give_back-after.auto.pages scratch)
 
 pub shape_of-party : goal.shape_of-party
-shape_of-party c =
-    let zeroed = set c.args.party.now 6 0 in
-    ◌∙◌ {b = length zeroed} c.onward.auto.party (simp length-set)
+shape_of-party c = simp length-set at c.onward.auto.party
 
 pub returns : goal.returns
 returns c =
