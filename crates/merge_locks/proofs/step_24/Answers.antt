@@ -3,11 +3,11 @@ use mathlib.Core.Path.{◌≡◌, refl, sym, ap, ◌∙◌}
 use mathlib.Core.Bool.{false}
 use Prim.Native.Nat.{◌<◌}
 use native.Mathlib.Omega.{arith}
-use lib.ListN.{length, length-set}
+use lib.ListN.{length-set}
 use Rattle.model.specs.declared.Mode.TheVariants.{Exclusive}
 use Rattle.model.specs.LockWords.{chain_word}
 use Rattle.model.specs.Steps.MergeLocks.{merge_stops, target_of, merging}
-use Rattle.records.specs.Words.{party_words, party_in, seen}
+use Rattle.records.specs.Words.{party_in, seen}
 use Rattle.records.proofs.Words.{party_is}
 use Rattle.addresses.proofs.Limits.{ready_root_fits}
 use Rattle.lock_requests.proofs.Requests.{granted_request_moves, other_request-waits}
@@ -51,9 +51,7 @@ returns-then-not-request c =
     open_requests v c.merge_barred.ensures c.if-merge_barred.false target refl asked
 
 pub bounds-party-5 : goal.bounds-party-5
-bounds-party-5 c =
-    let long : length c.args.party.now ≡ party_words = c.requires.words in
-    omega (arith, length-set c.args.party.now 4 c.merge_target-target.result.0)
+bounds-party-5 c = simp length-set (omega (arith, c.requires.words))
 
 pub returns : goal.returns
 returns c =
