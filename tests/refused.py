@@ -33,7 +33,7 @@ DIFFER = re.compile(r'the two (?:types|indices|sides) (?:first differ where one 
 STATED = re.compile(r'expected type `(.*?)`,?\s*but this has type `(.*?)`(?:\n|$)', re.S)
 LEFT = re.compile(r'`(?:rw|simp)` has no last argument, so what it leaves must be a path whose two ends are equal, and `.*?`\s*is none', re.S)
 # How these begin, in the line that rt prints.
-COUNTEREXAMPLE_BEGINS = re.compile(r'`omega`: the goal does not follow from what it read\. All of that holds, and the goal')
+COUNTEREXAMPLE_BEGINS = re.compile(r'`omega`: the goal does not follow from what it read\. All of that holds')
 FAILS_AT_BEGINS = re.compile(r'it is not proved that .*; the facts known there allow')
 DIFFERS_BEGINS = re.compile(r'(?:computed as far as they go|compared part by part|as printed), the two (?:types|indices|sides) (?:first differ where one has|differ only where one has|are) `')
 LEFT_BEGINS = re.compile(r'give a proof of that as the last argument, `(?:rw|simp) ')
