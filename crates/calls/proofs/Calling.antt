@@ -12,12 +12,10 @@ use borrow.Author.Tests.{ne_eqb, ltb-true, ltb-false, not-false}
 use Rattle.model.specs.declared.Root.{Root}
 use Rattle.model.specs.declared.Party.{Party}
 use Rattle.model.specs.declared.StepAnswer.{StepAnswer}
-use Rattle.model.specs.declared.StepAnswer.TheVariants as StepAnswer
 use Rattle.model.specs.declared.Operation.{Operation}
 use Rattle.model.specs.declared.BeginAnswer.TheVariants as BeginAnswer
 use Rattle.model.specs.declared.FormatAnswer.TheVariants as FormatAnswer
 use Rattle.model.specs.declared.WithdrawAnswer.{WithdrawAnswer}
-use Rattle.model.specs.declared.WithdrawAnswer.TheVariants as WithdrawAnswer
 use Rattle.model.specs.LockWords.{Claim}
 use Rattle.model.specs.LockRequests.{is_held, held_all, without_hold, given_up}
 use Rattle.model.specs.FreeList.{pages_given_back, room_to_give_back}
@@ -44,7 +42,7 @@ use Rattle.refusals.proofs.Causes.{earlier_stands, place_stands_at_step, place_s
 use Rattle.waiting_row.specs.declared.Place.{Place}
 use Rattle.waiting_row.specs.Entry.{place_of}
 use Rattle.waiting_row.specs.HeldBack.{held_answer, held_back}
-use Rattle.waiting_row.proofs.HeldBack.{held_back, behind_asks, requests-wants}
+use Rattle.waiting_row.proofs.HeldBack.{held_back_lem, behind_asks, requests-wants}
 use Rattle.calls.specs.Lent.{lent, PlaceRight}
 
 -- ---- A step held back
@@ -246,7 +244,7 @@ module _ (r : Root) (row : List Party) (ls ps ws : List ℕ) (parties waiting : 
         unfolding step_call stepped
         step_held held a e =
             let asked = behind_asks r row ws q (sym behind_is ∙ held) in
-            let waits : step_of (view_of m q).party.step (view_of m q) ≡ held_back (view_of m q) = held_back (view_of m q) asked.0 (sym behind_is ∙ held) (requests-wants r (party_at row q) asked.0 asked.1) in
+            let waits : step_of (view_of m q).party.step (view_of m q) ≡ held_back (view_of m q) = held_back_lem (view_of m q) asked.0 (sym behind_is ∙ held) (requests-wants r (party_at row q) asked.0 asked.1) in
             let same : a ≡ held_answer r (party_at row q) = e ∙ ap (held_answer r) (sym in_row) in
             rw (first_of_step, none, waits, sym same) (ap (λ (x : List Party). called a (lent r x ls ps (row_after q ws a))) (ap (set row q) (sym in_row)))
 

@@ -13,7 +13,6 @@ use lib.Seq.{drop-cons}
 use Rattle.model.specs.declared.Root.{Root}
 use Rattle.model.specs.declared.Party.{Party}
 use Rattle.model.specs.declared.TakeUpAnswer.{TakeUpAnswer}
-use Rattle.model.specs.declared.TakeUpAnswer.TheVariants as TakeUpAnswer
 use Rattle.model.specs.Records.{idle}
 use Rattle.model.specs.Memory.{Memory}
 use Rattle.model.specs.Refusals.{first_cause, root_sound}

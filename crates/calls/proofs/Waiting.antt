@@ -1,8 +1,8 @@
 -- The waiting row after a step, as code changes it: by the answer, and by whether the party waits.
 -- Main statement: after-step (that is the row which the model's call leaves, of every memory).
 use mathlib.Core.Path.{◌≡◌, refl, sym, ap, ◌∙◌}
-use mathlib.Core.Bool.{true, ◌&&◌}
-use Prim.Native.Nat.{ℕ, ◌+◌, ◌<◌, ◌≤◌}
+use mathlib.Core.Bool.{true}
+use Prim.Native.Nat.{ℕ, ◌<◌, ◌≤◌}
 use native.Mathlib.Omega.{arith}
 use lib.ListN.{length, drop}
 use Rattle.model.specs.declared.StepAnswer.{StepAnswer}
