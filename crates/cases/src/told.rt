@@ -15,44 +15,44 @@ pub struct Tally {
     pub wrong: u32,
 }
 
-pub fn say(text: &[u8]) {
-    io::write_all(1, text);
+pub fn say(rt: &impl Print, text: &[u8]) {
+    let _ = rt.write_all(text);
 }
 
 // The text, and the number after it.
-pub fn say_number(text: &[u8], n: u32) {
-    io::write_all(1, text);
-    io::print_decimal(1, n as u64);
+pub fn say_number(rt: &impl Print, text: &[u8], n: u32) {
+    let _ = rt.write_all(text);
+    let _ = rt.print(n);
 }
 
 // What the case is: the call, the text, and the numbers.
-fn say_case(call: Call, text: &[u8], numbers: &[u32]) {
-    say_call(call);
-    say(text);
+fn say_case(rt: &impl Print, call: Call, text: &[u8], numbers: &[u32]) {
+    say_call(rt, call);
+    say(rt, text);
     let mut i: usize = 0;
     while i < numbers.len() {
-        say_number(b" ", numbers[i]);
+        say_number(rt, b" ", numbers[i]);
         i += 1;
     }
 }
 
-fn say_call(call: Call) {
+fn say_call(rt: &impl Print, call: Call) {
     match call {
-        Call::Format => say(b"format, "),
-        Call::Begin => say(b"begin, "),
-        Call::Step => say(b"step, "),
-        Call::Withdraw => say(b"withdraw, "),
-        Call::TakeUp => say(b"take-up, "),
+        Call::Format => say(rt, b"format, "),
+        Call::Begin => say(rt, b"begin, "),
+        Call::Step => say(rt, b"step, "),
+        Call::Withdraw => say(rt, b"withdraw, "),
+        Call::TakeUp => say(rt, b"take-up, "),
     }
 }
 
-fn say_came(came: Came) {
+fn say_came(rt: &impl Print, came: Came) {
     if came.refusal == ACCEPTED {
-        say(b": accepted");
+        say(rt, b": accepted");
     } else {
-        say_number(b": refused ", came.refusal);
+        say_number(rt, b": refused ", came.refusal);
     }
-    say_number(b", words altered ", came.altered);
+    say_number(rt, b", words altered ", came.altered);
 }
 
 // Whether a call that is accepted alters something: take-up tests the file, and alters nothing.
@@ -91,25 +91,26 @@ fn counted(t: Tally, wrong: u32) -> Tally
 }
 
 // Writes the verdict of what came: this text and no other.
-fn say_verdict(text: &[u8], call: Call, came: Came, expected: u32)
+fn say_verdict(rt: &impl Print, text: &[u8], call: Call, came: Came, expected: u32)
     requires { text.now ≡ Verdict.verdict (Verdict.is_right call came expected) }
 {
-    say(text);
+    say(rt, text);
 }
 
-fn compared(t: Tally, call: Call, came: Came, expected: u32) -> Tally
+fn compared(rt: &impl Print, t: Tally, call: Call, came: Came, expected: u32) -> Tally
     ensures { result ≡ Verdict.tallied t (Verdict.is_right call came expected) }
 {
     if is_right(call, came, expected) {
-        say_verdict(b", as it should be\n", call, came, expected);
+        say_verdict(rt, b", as it should be\n", call, came, expected);
         return counted(t, 0);
     }
-    say_verdict(b", WRONG\n", call, came, expected);
+    say_verdict(rt, b", WRONG\n", call, came, expected);
     counted(t, 1)
 }
 
 // The text and the numbers say what the case is.
 pub fn judged(
+    rt: &impl Print,
     t: Tally,
     call: Call,
     text: &[u8],
@@ -117,8 +118,8 @@ pub fn judged(
     s: Scene,
     expected: u32,
 ) -> Tally {
-    say_case(call, text, numbers);
+    say_case(rt, call, text, numbers);
     let came = crate::made::came_of(call, s);
-    say_came(came);
-    compared(t, call, came, expected)
+    say_came(rt, came);
+    compared(rt, t, call, came, expected)
 }

@@ -16,8 +16,8 @@ ghost use Rattle.lines.specs.Texts.{newline, line_length};
 ghost use Rattle.turns.specs.Turned.{part, AnsweredTo, RepliesTo, most_kept};
 
 use forms::LONGEST_FORM;
-use libc::{STDERR_FILENO, STDIN_FILENO, STDOUT_FILENO};
 use model::Root;
+use std::io::Read;
 
 const NEWLINE: u8 = b'\n';
 
@@ -77,6 +77,7 @@ fn no_root() -> Root {
 // Writes the replies of a turn to standard output; where that fails, says so. The state, the memory and the input
 // buffer are those that the turn left.
 fn put(
+    rt: &(impl Print + Eprint),
     text: &[u8],
     s: State,
     row: &[[u32; 10]],
@@ -87,31 +88,29 @@ fn put(
 ) -> bool
     requires { RepliesTo (part input.now s.start s.to) text.now (part input.now s.from s.to) (held_in s.root row.now locks.now pages.now waiting.now) }
 {
-    let written = io::write_all(STDOUT_FILENO, text);
+    let written = rt.write_all(text).is_ok();
     if !written {
-        io::write_all(STDERR_FILENO, b"turns: standard output cannot be written\n");
+        let _ = rt.eprint("turns: standard output cannot be written\n");
     }
     written
 }
 
 // Reads once, to behind the bytes kept; where that fails, says so. At the end of the input an unfinished line gets its
 // newline.
-fn read_on(input: &mut [u8], kept: usize) -> Input
+fn read_on(rt: &impl Eprint, reader: &mut impl Read, input: &mut [u8], kept: usize) -> Input
     requires { kept < length input.old }
     ensures kept_le_end { (kept ≤ result.end) × (result.end ≤ length input.new) }
     ensures input_unchanged { take kept input.new ≡ take kept input.old }
     ensures end_after { result.more ≡ false → result.failed ≡ false → (0 < kept → part input.new kept result.end ≡ newline ∷ []) × (kept ≡ 0 → result.end ≡ 0) }
 {
-    let got = libc::read(STDIN_FILENO, &mut input[kept..]);
-    if got < 0 {
-        io::write_all(STDERR_FILENO, b"turns: standard input cannot be read\n");
+    let Ok(n) = reader.read(&mut input[kept..]) else {
+        let _ = rt.eprint("turns: standard input cannot be read\n");
         return Input {
             more: false,
             failed: true,
             end: kept,
         };
-    }
-    let n = io::count(got, &input[kept..]);
+    };
     if 0 < n {
         return Input {
             more: true,
@@ -197,6 +196,8 @@ fn keep(input: &mut [u8], from: usize, to: usize) -> usize
 
 // Answers lines of the text that stands in the buffer; where it has no whole line, reads once first.
 fn turn(
+    rt: &impl Eprint,
+    reader: &mut impl Read,
     s: State,
     row: &mut [[u32; 10]],
     locks: &mut [u32],
@@ -230,7 +231,7 @@ fn turn(
         };
     }
     let kept = keep(input, s.from, s.to);
-    let i = read_on(input, kept);
+    let i = read_on(rt, reader, input, kept);
     let to = i.end;
     let b = answer_rest(input, 0, to, before, row, locks, pages, waiting, out);
     let left = b.root;
@@ -250,6 +251,8 @@ fn turn(
 // Turns until the input ends or a read or a write fails; the replies of each turn are written before the next. A proved
 // loop has to end, and nothing says that the input does: so it counts down, from a number that no run uses up.
 fn run(
+    rt: &(impl Print + Eprint),
+    reader: &mut impl Read,
     row: &mut [[u32; 10]],
     locks: &mut [u32],
     pages: &mut [u32],
@@ -272,9 +275,9 @@ fn run(
     };
     let mut turns = u64::MAX;
     while turns > 0 && s.goes_on {
-        s = turn(s, row, locks, pages, waiting, input, out);
+        s = turn(rt, reader, s, row, locks, pages, waiting, input, out);
         let end = s.end;
-        if !put(&out[0..end], s, row, locks, pages, waiting, input) {
+        if !put(rt, &out[0..end], s, row, locks, pages, waiting, input) {
             return;
         }
         turns -= 1;
@@ -283,14 +286,17 @@ fn run(
 
 // Memory as it starts: zero. The records, lock words, page words and waiting row of the largest file, and the two
 // buffers.
-fn main() {
+fn main(rt: HostRuntime) {
     let mut row = [[0u32; 10]; 16];
     let mut locks = [0u32; 257];
     let mut pages = [0u32; 16384];
     let mut waiting = [0u32; 16];
     let mut input = [0u8; 65600];
     let mut out = [0u8; 65536];
+    let mut stdin = rt.stdin();
     run(
+        &rt,
+        &mut stdin,
         &mut row[..],
         &mut locks[..],
         &mut pages[..],
