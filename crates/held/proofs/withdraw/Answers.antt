@@ -1,0 +1,39 @@
+-- `held::withdraw` meets its contract: inside the row by what `calls::withdraw` says of the first records, past
+-- its end by what `calls::withdraw_past` says.
+use mathlib.Core.Path.{refl}
+use Prim.Native.Nat.{◌<◌}
+use native.Mathlib.Omega.{arith}
+use lib.ListN.{length}
+use Rattle.model.specs.Calls.{withdraw_call}
+use Rattle.held.proofs.Ends.{held_kept, held_withdrawn}
+use borrow.Author.Rules.{rules}
+use Rattle.held.proofs.withdraw.Goals as goal
+
+pub standing-place-requires : goal.standing-place-requires
+standing-place-requires c = (c.records_lent-n.ensures.1, c.if-at-n.true)
+
+pub offset_bounds-row-at-then-at-n : goal.offset_bounds-row-at-then-at-n
+offset_bounds-row-at-then-at-n c =
+    let a = c.args in
+    let inside : a.q < length a.row.now = omega (arith, c.if-at-n.true, c.records_lent-n.ensures.1) in
+    search rules
+
+pub bounds-row-at : goal.bounds-row-at
+bounds-row-at c =
+    let a = c.args in
+    let inside : a.q < length a.row.now = omega (arith, c.if-at-n.true, c.records_lent-n.ensures.1) in
+    search rules
+
+pub returns-then-at-n : goal.returns-then-at-n
+returns-then-at-n c =
+    let words = c.words_of_party-words in
+    let a = c.args in
+    held_withdrawn a.root a.row.now a.locks.now a.pages.now a.waiting.now _ c.records_lent-n.ensures a.q c.if-at-n.true
+    c.standing-place.result c.standing-place.ensures _ _ c.record_in-stands.ensures c.withdraw-withdrawn.result words.result words.ensures _ _ _ c.after_withdraw.ensures
+    (λ row us many long here right. c.withdraw-withdrawn.ensures row us many long here right)
+
+pub returns : goal.returns
+returns c =
+    let a = c.args in
+    held_kept (λ m. withdraw_call m a.q) a.root a.row.now a.locks.now a.pages.now a.waiting.now _ _ c.records_lent-n.ensures
+    c.withdraw_past-answer.result a.root _ _ _ (λ row many. c.withdraw_past-answer.ensures row _ _ _ many refl refl refl (omega (arith, c.if-at-n.false)))
