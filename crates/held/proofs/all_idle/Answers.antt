@@ -1,6 +1,5 @@
 -- `held::all_idle` meets its contract. The loop's invariant: all are zero exactly where those seen are and the rest.
 use mathlib.Core.Path.{◌≡◌, refl, sym, ap, ◌∙◌}
-use Prim.Native.Nat.{◌-◌}
 use native.Mathlib.Omega.{arith}
 use lib.ListN.{length, take}
 use lib.Seq.{get_or-take}

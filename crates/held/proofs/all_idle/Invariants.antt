@@ -3,7 +3,6 @@ use mathlib.Core.Path.{◌≡◌}
 use mathlib.Core.Bool.{◌&&◌}
 use Prim.Native.Nat.{◌-◌, ◌≤◌}
 use lib.ListN.{take}
-use Rattle.model.specs.Records.{idle}
 use Rattle.model.specs.TakeUp.{all_idle}
 use Rattle.calls.proofs.TakingUp.{idle_from}
 use Rattle.held.specs.Held.{records_in}

@@ -1,7 +1,7 @@
 -- `held::clear` meets its contract. The loop's invariant: the first i records are zero, and the rest as they were.
 use mathlib.Core.Path.{◌≡◌, refl, ap, ◌∙◌}
 use mathlib.Core.List.{List, ◌++◌}
-use Prim.Native.Nat.{ℕ, ◌-◌}
+use Prim.Native.Nat.{ℕ}
 use native.Mathlib.Omega.{arith}
 use lib.ListN.{length, replicate, set, drop}
 use Rattle.model.specs.Records.{idle}

@@ -1,7 +1,7 @@
 -- `held::standing` meets its contract. The loop's invariant: what was seen is what is seen once i entries are looked
 -- at.
 use mathlib.Core.Path.{refl, ◌∙◌}
-use Prim.Native.Nat.{◌-◌, ◌<◌}
+use Prim.Native.Nat.{◌<◌}
 use native.Mathlib.Omega.{arith}
 use lib.ListN.{length, get_or}
 use Rattle.waiting_row.proofs.Looks.{inside_fits}
