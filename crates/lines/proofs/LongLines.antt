@@ -19,11 +19,8 @@ use Rattle.patterns.specs.Patterns.{hole}
 use Rattle.patterns.specs.Grammar.{Derives, end, byte, number}
 use Rattle.patterns.proofs.Theorems.{longest}
 use Rattle.forms.specs.declared.Form.{Form}
-use Rattle.forms.specs.declared.Form.TheVariants as Form
 use Rattle.forms.specs.declared.FormRead.{FormRead}
-use Rattle.forms.specs.declared.FormRead.TheVariants as FormRead
 use Rattle.forms.specs.declared.Reply.{Reply}
-use Rattle.forms.specs.declared.Reply.TheVariants as Reply
 use Rattle.forms.specs.Forms.{form_pattern, FormLine}
 use Rattle.forms.specs.Reading.{read_form}
 use Rattle.forms.specs.Printing.{longest_form}

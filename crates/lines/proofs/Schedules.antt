@@ -9,7 +9,6 @@ use lib.ListN.{length, drop}
 use lib.Seq.{take_at, length-take-le}
 use Rattle.model.specs.declared.Party.{Party}
 use Rattle.model.specs.declared.FormatAnswer.{FormatAnswer}
-use Rattle.model.specs.declared.FormatAnswer.TheVariants as FormatAnswer
 use Rattle.model.specs.Sizes.{lock_words, all_page_words}
 use Rattle.model.specs.Refusals.{lengths_fit}
 use Rattle.model.specs.Memory.{Memory, formatted, formatted_root}
@@ -26,9 +25,7 @@ use Rattle.model.proofs.Invariant.Start.{start_inv}
 use Rattle.calls.specs.Lent.{lent}
 use Rattle.held.specs.Held.{first_of}
 use Rattle.forms.specs.declared.Form.{Form}
-use Rattle.forms.specs.declared.Form.TheVariants as Form
 use Rattle.forms.specs.declared.Reply.{Reply}
-use Rattle.forms.specs.declared.Reply.TheVariants as Reply
 use Rattle.lines.specs.Lines.{words_for, performed}
 use Rattle.lines.specs.Schedules.{file_in, forms_answered, file_sizes, form_of, reply_as, reply_of}
 

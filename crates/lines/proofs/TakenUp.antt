@@ -7,7 +7,6 @@ use mathlib.Core.Path.{◌≡◌, refl, sym, ◌∙◌, ap}
 use mathlib.Core.List.{List, [], ◌∷◌, ◌++◌, map}
 use lib.ListN.{take-append-drop}
 use Rattle.model.specs.declared.TakeUpAnswer.{TakeUpAnswer}
-use Rattle.model.specs.declared.TakeUpAnswer.TheVariants as TakeUpAnswer
 use Rattle.model.specs.Sizes.{lock_words, all_page_words}
 use Rattle.model.specs.Memory.{Memory}
 use Rattle.model.specs.Calls.{Called}
@@ -19,9 +18,7 @@ use Rattle.model.proofs.Theorems.RefusalOrder.{take_up_order}
 use Rattle.theory.proofs.TakenUp.{taken_start}
 use Rattle.calls.specs.Lent.{lent}
 use Rattle.forms.specs.declared.Form.{Form}
-use Rattle.forms.specs.declared.Form.TheVariants as Form
 use Rattle.forms.specs.declared.Reply.{Reply}
-use Rattle.forms.specs.declared.Reply.TheVariants as Reply
 use Rattle.lines.specs.Lines.{performed}
 use Rattle.lines.specs.Schedules.{file_in, forms_answered, form_of, reply_of}
 use Rattle.lines.proofs.Schedules.{calls_printed}

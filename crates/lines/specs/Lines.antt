@@ -1,6 +1,6 @@
 -- A line of turns and all memory, taken to the reply and all memory afterwards (document 01, "The turns program").
 -- Main definitions: onWords (a call lent the first words alone), performed (a form), line_answered (a line).
-use Rattle.std.specs.Prelude.{List, ◌++◌, ℕ, ◌+◌, take, drop}
+use Rattle.std.specs.Prelude.{List, ◌++◌, ℕ, take, drop}
 use Rattle.model.specs.declared.Root.{Root}
 use Rattle.model.specs.Sizes.{lock_words, all_page_words}
 use Rattle.model.specs.Records.{root_sized}
@@ -9,11 +9,8 @@ use Rattle.model.specs.Calls.{Called, called}
 use Rattle.calls.specs.Lent.{lent}
 use Rattle.held.specs.Held.{held_format, held_begin, held_step, held_withdraw, held_take_up}
 use Rattle.forms.specs.declared.Form.{Form}
-use Rattle.forms.specs.declared.Form.TheVariants as Form
 use Rattle.forms.specs.declared.FormRead.{FormRead}
-use Rattle.forms.specs.declared.FormRead.TheVariants as FormRead
 use Rattle.forms.specs.declared.Reply.{Reply}
-use Rattle.forms.specs.declared.Reply.TheVariants as Reply
 use Rattle.forms.specs.Reading.{read_form}
 
 -- The memory with the first lock words, page words and words of the waiting row that the sizes in a root record ask

@@ -10,9 +10,7 @@ use Rattle.model.specs.Runs as Runs
 use Rattle.theory.specs.Demands.{Sizes}
 use Rattle.held.specs.Held.{first_of}
 use Rattle.forms.specs.declared.Form.{Form}
-use Rattle.forms.specs.declared.Form.TheVariants as Form
 use Rattle.forms.specs.declared.Reply.{Reply}
-use Rattle.forms.specs.declared.Reply.TheVariants as Reply
 use Rattle.lines.specs.Lines.{words_for, performed}
 
 -- The root record, and of the records and words held as many as its sizes ask for.

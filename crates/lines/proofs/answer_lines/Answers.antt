@@ -1,6 +1,6 @@
 -- `lines::answer_lines` meets its contract. The loop's invariant: the text is being answered line by line (proofs/Going.antt), and every lent slice keeps its length.
 use mathlib.Core.Path.{refl, ◌∙◌}
-use Prim.Native.Nat.{◌+◌, ◌-◌, ◌≤◌}
+use Prim.Native.Nat.{◌+◌, ◌≤◌}
 use native.Mathlib.Omega.{arith}
 use lib.ListN.{length, length-set}
 use Rattle.lines.specs.Texts.{newline}
