@@ -14,9 +14,7 @@ use Rattle.model.specs.declared.BeginAnswer.TheVariants as BeginAnswer
 use Rattle.model.specs.declared.OperationAnswer.{OperationAnswer}
 use Rattle.model.specs.declared.Restructuring.{Restructuring}
 use Rattle.model.specs.declared.StepAnswer.{StepAnswer}
-use Rattle.model.specs.declared.StepAnswer.TheVariants as StepAnswer
 use Rattle.model.specs.declared.TakeUpAnswer.{TakeUpAnswer}
-use Rattle.model.specs.declared.TakeUpAnswer.TheVariants as TakeUpAnswer
 use Rattle.model.specs.Answers.{answer_number, setting_found, restructuring_number, begin_refusal, withdraw_refusal, format_refusal}
 use Rattle.model.specs.Sizes.{within_limits}
 use Rattle.model.specs.Records.{root_of_sizes}
@@ -58,7 +56,8 @@ start-zero s = by-take_up (start s) (ap (numbered take_up_refusal) (start_taken 
 
 pub formats_zero : (m₀ : Memory) (n b p v q : ℕ) (m : Memory) → Formatted m₀ (sizes_of n b p v q) m → BeadOpened m
 unfolding format_refusal
-formats_zero m₀ n b p v q m is = by_format m₀ n b p v q (ap (numbered format_refusal) is)
+formats_zero m₀ n b p v q m is =
+    let says : BeadFormatted m₀ n b p v q 0 m = ap (numbered format_refusal) is in by_format m₀ n b p v q says
 
 -- ---- 0 was returned
 

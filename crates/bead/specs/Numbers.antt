@@ -3,9 +3,7 @@
 use Rattle.std.specs.Prelude.{Bool, cond, ◌||◌, ℕ, eqb}
 use Rattle.model.specs.declared.FileSizes.{FileSizes}
 use Rattle.model.specs.declared.Operation.{Operation}
-use Rattle.model.specs.declared.Operation.TheVariants as Operation
 use Rattle.model.specs.declared.StepAnswer.{StepAnswer}
-use Rattle.model.specs.declared.StepAnswer.TheVariants as StepAnswer
 use Rattle.model.specs.Records.{find_operation, insert_operation, delete_operation}
 use Rattle.model.specs.Answers.{answer_number, setting_found, restructuring_number, begin_refusal}
 use Rattle.model.specs.Memory.{Memory}

@@ -44,6 +44,7 @@ pub struct BeadReply {
 }
 
 // The number of an answer.
+#[tactic(auto, unfolding(model::specs::Answers::answer_number))]
 fn answer_number(answer: OperationAnswer) -> u32
     ensures { result ≡ answer_number answer }
 {
@@ -58,6 +59,7 @@ fn answer_number(answer: OperationAnswer) -> u32
 }
 
 // The setting that an answer carries: found's, else 0.
+#[tactic(auto, unfolding(model::specs::Answers::setting_found))]
 fn setting_found(answer: OperationAnswer) -> u32
     ensures { result ≡ setting_found answer }
 {
@@ -72,6 +74,7 @@ fn setting_found(answer: OperationAnswer) -> u32
 }
 
 // The number of a restructuring.
+#[tactic(auto, unfolding(model::specs::Answers::restructuring_number))]
 fn restructuring_number(made: Restructuring) -> u32
     ensures { result ≡ restructuring_number made }
 {
@@ -85,6 +88,7 @@ fn restructuring_number(made: Restructuring) -> u32
 }
 
 // The reply to a step.
+#[tactic(auto, unfolding(crate::specs::Numbers::reply_of))]
 fn reply_of(answer: StepAnswer) -> BeadReply
     ensures { result ≡ reply_of answer }
 {
@@ -121,6 +125,7 @@ fn reply_of(answer: StepAnswer) -> BeadReply
 }
 
 // What begin answered: 0, or the number of the refusal.
+#[tactic(auto, unfolding(model::specs::Answers::begin_refusal))]
 fn begin_number(answer: BeginAnswer) -> u32
     ensures { result ≡ begin_refusal answer }
 {
@@ -131,6 +136,7 @@ fn begin_number(answer: BeginAnswer) -> u32
 }
 
 // What withdraw answered.
+#[tactic(auto, unfolding(model::specs::Answers::withdraw_refusal))]
 fn withdraw_number(answer: WithdrawAnswer) -> u32
     ensures { result ≡ withdraw_refusal answer }
 {
@@ -141,6 +147,7 @@ fn withdraw_number(answer: WithdrawAnswer) -> u32
 }
 
 // What format answered.
+#[tactic(auto, unfolding(model::specs::Answers::format_refusal))]
 fn format_number(answer: FormatAnswer) -> u32
     ensures { result ≡ format_refusal answer }
 {
@@ -164,6 +171,7 @@ fn sizes_of(n: u32, b: u32, p: u32, v: u32, q: u32) -> FileSizes
 }
 
 // Whether a number is an operation's.
+#[tactic(auto, unfolding(crate::specs::Numbers::is_operation))]
 fn is_operation(number: u32) -> bool
     ensures { result ≡ is_operation number }
 {
@@ -176,6 +184,7 @@ fn is_operation(number: u32) -> bool
 }
 
 // The operation of a number, an insert's with its setting; a number that is no operation's is taken for a delete's, and is never asked for.
+#[tactic(auto, unfolding(crate::specs::Numbers::operation_of))]
 fn operation_of(number: u32, setting: u32) -> Operation
     ensures { result ≡ operation_of number setting }
 {
