@@ -1,6 +1,5 @@
 -- `split_write::step_20` meets its contract.
 use mathlib.Core.Path.{sym, subst, ◌∙◌}
-use lib.ListN.{length-set}
 use Rattle.model.specs.declared.Root.{Root}
 use Rattle.addresses.specs.Fits.{RootFits}
 use Rattle.addresses.proofs.Limits.{ready_root_fits}
@@ -14,10 +13,6 @@ split_next-requires c =
     subst (λ (r : Root). RootFits r) (sym c.root_of-r.ensures) (ready_root_fits _ c.requires.1.ready)
 
 -- The root's word 6 is written, next.
-pub shape_of-root : goal.shape_of-root
-shape_of-root c =
-    length-set c.args.root.now 6 c.split_next.result
-
 pub returns : goal.returns
 returns c =
     let a = c.args in

@@ -1,7 +1,6 @@
 -- `split_write::step_21` meets its contract.
 use mathlib.Core.Path.{sym, subst, ◌∙◌}
 use Prim.Native.Nat.{◌≤◌}
-use lib.ListN.{length-set}
 use Rattle.model.specs.declared.Root.{Root}
 use Rattle.records.specs.Words.{root_in, seen}
 use Rattle.records.proofs.Words.{level_written, root_is}
@@ -13,10 +12,6 @@ split_level-requires c =
     subst (λ (r : Root). r.level ≤ 8) (sym c.root_of-r.ensures) c.requires.1.ready.level_fits
 
 -- The root's word 5 is written, level.
-pub shape_of-root : goal.shape_of-root
-shape_of-root c =
-    length-set c.args.root.now 5 c.split_level.result
-
 pub returns : goal.returns
 returns c =
     let a = c.args in
