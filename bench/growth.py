@@ -1,32 +1,33 @@
 """The picture docs/pictures/growth.svg: instructions an operation by keys in the file and by parties in turn, of the library and of the C port."""
 from collections import namedtuple
 from contenders import C_PORT, LIBRARY, ROOT
-from svg import Picture, width_of
+from svg import Picture
+from widths import width_of
 
 PLACE = ROOT / 'docs/pictures/growth.svg'
-# Where the panels begin, how high they are, and the picture; how far instructions go up in them, and from line to line.
-TOP, HIGH, HEIGHT, MOST, PITCH = 136, 308, 500, 8000, 1000
+# Where the panels begin, how high they are, and the picture.
+TOP, HIGH, HEIGHT = 158, 308, 522
 
-# A panel: where it begins and how wide it is, its title, what runs along it, and the marks there.
-Panel = namedtuple('Panel', 'left wide title along marks')
-KEYS = Panel(66, 364, 'By keys in the file', 'keys', [0, 750, 1500, 2250, 3000, 3750, 4500])
-PARTIES = Panel(504, 364, 'By parties in turn, a call each, round and round', 'parties', [1, 4, 8, 12, 16])
+# A panel: where it begins and how wide it is, its title, what runs along it, the marks there, and those of instructions.
+Panel = namedtuple('Panel', 'left wide title along marks instructions')
+KEYS = Panel(66, 364, 'By keys in the file', 'keys', [0, 750, 1500, 2250, 3000, 3750, 4500], range(0, 5001, 1000))
+PARTIES = Panel(504, 364, 'By parties in turn, a call each', 'parties', [1, 4, 8, 12, 16], range(0, 18001, 2000))
 # A curve: its panel, the kind of its points, its line, its dots, its words, and the point where these end.
 Curve = namedtuple('Curve', 'panel kind line dots words end')
 CURVES = [
-    Curve(KEYS, 'change', 'selective-edge', 'selective-ink', 'insert and delete', (4500, 4950)),
-    Curve(KEYS, 'find', 'read-edge', 'read-ink', 'find', (4500, 2850)),
-    Curve(PARTIES, 'crowd', 'selective-edge', 'selective-ink', 'insert and delete, among 30 keys', (9.4, 5600)),
-    Curve(PARTIES, 'mixed', 'ring', 'accent', 'eight finds, an insert and a delete, among 4,389 keys', (16, 1600)),
+    Curve(KEYS, 'change', 'selective-edge', 'selective-ink', 'insert and delete', (4500, 4150)),
+    Curve(KEYS, 'find', 'read-edge', 'read-ink', 'find', (4500, 2480)),
+    Curve(PARTIES, 'crowd', 'selective-edge', 'selective-ink', 'insert and delete, among 30 keys', (11.2, 14400)),
+    Curve(PARTIES, 'mixed', 'ring', 'accent', 'eight of ten are finds, among 4,389 keys', (16, 700)),
 ]
-SAYS = ['The file is 1 6 256 752 16, and every operation is counted from begin to done. Up to some 1,600 keys a chain is split for every new overflow page; then',
-        'all 256 chains are there, and grow. Parties wait for one another where few chains are changed by many; waiting calls are counted too.']
+SAYS = ('The file is 1 6 256 752 16, and every operation is counted from begin to done. Up to some 1,600 keys a chain is split for every new overflow page; then '
+        'all 256 chains are there, and grow. Parties wait for one another where few chains are changed by many; waiting calls are counted too.')
 
 
 def place(panel, along, instructions):
     """Where a point is in the picture."""
     first, last = panel.marks[0], panel.marks[-1]
-    return panel.left + panel.wide * (along - first) / (last - first), TOP + HIGH * (1 - instructions / MOST)
+    return panel.left + panel.wide * (along - first) / (last - first), TOP + HIGH * (1 - instructions / panel.instructions[-1])
 
 
 def points(curve, counts):
@@ -41,7 +42,7 @@ def points(curve, counts):
 
 def draw_panel(picture, panel):
     picture.text(panel.left, TOP - 16, panel.title, 13.5, 'ink bold')
-    for instructions in range(0, MOST + 1, PITCH):
+    for instructions in panel.instructions:
         _, y = place(panel, 0, instructions)
         picture.path([(panel.left, y), (panel.left + panel.wide, y)], 'cell' if instructions else 'line', arrow=False)
         picture.text(panel.left - 8, y + 4, f'{instructions:,}', 11, 'soft', 'end')
@@ -65,15 +66,14 @@ def draw_curve(picture, curve, grown):
 def draw(grown):
     """The picture, from what was counted of the library and of the C port."""
     picture = Picture('Instructions an operation', 'Two plots: by keys in the file and by parties in turn, for the library and for the C port.')
-    picture.text(24, 36, 'Instructions an operation', 17, 'ink bold')
-    picture.lines(24, 57, SAYS, 12, 'soft', 17)
+    y = picture.head('Instructions an operation', SAYS)
     for panel in (KEYS, PARTIES):
         draw_panel(picture, panel)
     for curve in CURVES:
         draw_curve(picture, curve, grown)
-    x, y = 24, 88
+    x = 24
     for name, kind in ((LIBRARY, 'line'), (C_PORT, 'line dashed')):
         picture.path([(x, y), (x + 30, y)], kind, arrow=False)
         picture.text(x + 38, y + 4, name, 12, 'soft')
         x += 38 + width_of(name, 12) + 22
-    return picture.document(HEIGHT)
+    return picture.checked(HEIGHT)

@@ -48,15 +48,15 @@ def draw_panel(picture, y, beads, sides):
         draw_side(picture, y + 30 + k * SIDE, side, sides[side], step, highest)
     for length in range(0, MOST, 4):
         picture.text(FIRST + length * step + step / 2, y + HIGH - 14, str(length), 10, 'soft', 'middle')
-    picture.text(LEFT + 16, y + HIGH - 14, 'chains by the records they have', 12, 'soft')
+    picture.text(LEFT + 16, y + HIGH - 14, 'chains by their records', 12, 'soft')
 
 
 def draw(root):
     panels = read(root / 'docs/changes/03-chain-lengths.txt')
     picture = Picture('Chains by length, before and after', 'Bars: how many chains have how many records, with addresses taken of keys themselves and of mixed keys.')
-    picture.text(LEFT, 36, 'Beads of equal number in one chain, and not', 17, 'ink bold')
-    picture.text(LEFT, 57, 'Sixteen nozzles put in their beads in turn, counting from 0; a key has the nozzle in its highest byte. A file of at most 256 chains and 752', 12, 'soft')
-    picture.text(LEFT, 74, 'overflow pages, six records a page. From the compiled library (bench/chains); pages a find: the mean over all records that are there.', 12, 'soft')
+    picture.head('Beads of equal number in one chain, and not',
+                 'Sixteen nozzles put in their beads in turn, counting from 0; a key has the nozzle in its highest byte. A file of at most 256 chains and 752 '
+                 'overflow pages, six records a page. From the compiled library (bench/chains); pages a find: the mean over all records that are there.')
     for k, (beads, sides) in enumerate(sorted(panels.items())):
         draw_panel(picture, TOP + k * (HIGH + GAP), beads, sides)
-    return picture.document(TOP + len(panels) * (HIGH + GAP) - GAP + 24)
+    return picture.checked(TOP + len(panels) * (HIGH + GAP) - GAP + 24)

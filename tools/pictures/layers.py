@@ -1,7 +1,8 @@
 """The layers of crates: bands with the crates as boxes, laid out from crates.txt. A comment over a list of crates says what the layer is; within its layer
 a crate stands in a row above those that it uses."""
 import re
-from svg import Picture, width_of, wrapped
+from svg import Picture
+from widths import width_of, wrapped
 from wrong import Wrong
 
 # Where bands begin and end, where their boxes begin, and what is between two bands.
@@ -59,7 +60,7 @@ def spelt(numbers):
 
 
 def box_width(name, steps):
-    return width_of(name, NAME, mono=True) + 2 * BESIDE + (width_of(steps, 11) + 8 if steps else 0)
+    return width_of(name, NAME, mono=True) + 2 * BESIDE + (width_of(steps, 11, bold=True) + 8 if steps else 0)
 
 
 def broken(row, steps):
@@ -115,12 +116,10 @@ def draw(root):
     steps = steps_of((root / 'docs/STEPS.md').read_text())
     count = sum(len(crates) for _, crates in layers)
     picture = Picture('The layers of crates', f'{count} crates in {len(layers)} layers; each layer rests on those below it.')
-    picture.text(LEFT, 36, f'{count} crates in {len(layers)} layers', 17, 'ink bold')
-    picture.text(LEFT, 57, 'A layer uses those below it, not only the next. Within a layer a crate stands in a row above those that it uses.', 12, 'soft')
-    picture.text(LEFT, 74, 'Numbers are the steps whose functions a crate has.', 12, 'soft')
-    y = 92
+    y = 18 + picture.head(f'{count} crates in {len(layers)} layers', 'A layer uses those below it, not only the next. Within a layer a crate stands in a row above those that it uses. '
+                          'Numbers are the steps whose functions a crate has.')
     for k, (says, crates) in enumerate(reversed(layers)):
         if k:
             picture.path([(LEFT + 110, y - GAP + 3), (LEFT + 110, y - 3)])
         y += draw_layer(picture, y, says, crates, steps) + GAP
-    return picture.document(y - GAP + 24)
+    return picture.checked(y - GAP + 24)

@@ -1,5 +1,5 @@
 """Locks as small plates: the colour and the letter say the mode, the form says whether the lock is held, requested or given up."""
-from svg import width_of
+from widths import width_of
 
 MODE = {'R': 'read', 'S': 'selective', 'X': 'exclusive'}
 SIZE, TALL = 11, 17

@@ -56,12 +56,12 @@ def draw_sides(picture, y):
 def draw(root):
     waits = read(root / 'docs/changes/07-longest-waits.txt')
     picture = Picture('The longest wait, before and after', 'Bars: for two to sixteen parties the longest wait in rounds, granted by Table I alone and with the row of who waits.')
-    picture.text(LEFT, 36, 'Nobody overtaken: the longest wait in rounds', 17, 'ink bold')
-    picture.text(LEFT, 57, 'Parties are called once a round, in turn; of ten operations eight are finds, one is an insert and one a delete. 50,000 rounds of a file of at most', 12, 'soft')
-    picture.text(LEFT, 74, 'four chains. From the compiled programs (bench/waits): before, the C port without its row; after, the library. Each line up is ten times as long.', 12, 'soft')
+    picture.head('Nobody overtaken: the longest wait in rounds',
+                 'Parties are called once a round, in turn; of ten operations eight are finds, one is an insert and one a delete. 50,000 rounds of a file of at most '
+                 'four chains. From the compiled programs (bench/waits): before, the C port without its row; after, the library. Each line up is ten times as long.')
     picture.rect(LEFT, TOP, RIGHT - LEFT, HIGH + 74, 'band', 8)
     draw_sides(picture, TOP + 16)
     base = TOP + HIGH + 30
     draw_scale(picture, base)
     draw_bars(picture, base, waits)
-    return picture.document(TOP + HIGH + 74 + 24)
+    return picture.checked(TOP + HIGH + 74 + 24)

@@ -1,15 +1,16 @@
 """How a split goes by: five frames of a small file, as steps 15 to 22, 13 and 14 leave it, drawn from a run of linear_hash.File."""
 from linear_hash import File
 from locks import plate
-from svg import Picture, width_of, wrapped
+from svg import Picture
+from widths import width_of, wrapped
 
 SIZES = (2, 2, 4, 5)
 SUBSCRIPTS = '₀₁₂₃'
 KEYS, LAST, SOUGHT = (5, 13, 4, 8, 16, 19, 17, 23), 26, 16
 # Bands; where chains, their pages and the party's pages begin; a page's tab, key and height; an arrow between pages; the pitch of chains.
-LEFT, RIGHT, CHAINS, PAGES, PARTY = 24, 876, 258, 332, 656
-TAB, KEY, TALL, LINK, ROW = 44, 23, 25, 16, 35
-HIGH, GAP, TOP = 196, 14, 122
+LEFT, RIGHT, CHAINS, PAGES, PARTY = 24, 976, 288, 370, 750
+TAB, KEY, TALL, LINK, ROW = 46, 23, 25, 16, 35
+HIGH, GAP = 196, 14
 # Of each frame: the step after which it is, and which time that step is done; its title; what it says.
 FRAMES = [
     ((14, 0), 'Before', 'The insert of {last} made chain {chain} longer by a page, so it owes a split, of chain next. All its locks are given up.'),
@@ -114,8 +115,7 @@ def draw_find(picture, y, file):
     for chain, lev in way[1:]:
         words += f'; there local level {lev}: h{SUBSCRIPTS[lev]}({SOUGHT}) = {chain}'
     where = f'page {page}' if page >= SIZES[2] else f'chain {page}’s primary page'
-    picture.text(CHAINS + 6, y, f'A find of {SOUGHT} now:', 12, 'read-ink bold')
-    picture.text(CHAINS + 6 + width_of(f'A find of {SOUGHT} now:', 12, bold=True) + 6, y, f'{words}; found on {where}', 12, 'ink')
+    picture.phrase(CHAINS + 6, y, [(f'A find of {SOUGHT} now: ', 'read-ink bold'), (f'{words}; found on {where}', 'ink')])
 
 
 def draw_frame(picture, k, y, file, before, words):
@@ -128,10 +128,10 @@ def draw_frame(picture, k, y, file, before, words):
     below = picture.lines(LEFT + 38, y + 27, heading, 13.5, 'ink bold', 18)
     picture.lines(LEFT + 16, y + 29 + below, wrapped(says.format(**words), 12, room + 8), 12, 'soft', 15.5)
     moved = before and (before.level, before.next) != (file.level, file.next)
-    picture.rect(LEFT + 16, y + HIGH - 36, 146, TALL, 'fresh' if moved else 'box', 4)
-    picture.text(LEFT + 89, y + HIGH - 19, f'root: level {file.level}, next {file.next}', 12.5, 'ink bold', 'middle')
+    picture.rect(LEFT + 16, y + HIGH - 36, 154, TALL, 'fresh' if moved else 'box', 4)
+    picture.text(LEFT + 93, y + HIGH - 19, f'root: level {file.level}, next {file.next}', 12.5, 'ink bold', 'middle')
     if 'root' in file.locks:
-        plate(picture, LEFT + 168, y + HIGH - 32, f'root {file.locks["root"]}')
+        plate(picture, LEFT + 176, y + HIGH - 32, f'root {file.locks["root"]}')
     draw_chains(picture, y + 14, file, before)
     draw_party(picture, y + 14, file, before)
     picture.path([(CHAINS, y + HIGH - 38), (RIGHT - 16, y + HIGH - 38)], 'cell', arrow=False)
@@ -139,26 +139,27 @@ def draw_frame(picture, k, y, file, before, words):
 
 
 def draw_head(picture):
-    picture.text(LEFT, 36, 'How a split goes by', 17, 'ink bold')
+    """Title, words and legend; where the frames begin."""
     keys = ', '.join(str(key) for key in KEYS)
-    picture.text(LEFT, 57, f'A file of N = {SIZES[0]} original chains, b = {SIZES[1]} records a page: h₀(k) is the mixed key mod {SIZES[0]}, h₁(k) mod {2 * SIZES[0]}. '
-                 f'Keys {keys} are there; {LAST} is put in.', 12, 'soft')
-    picture.text(LEFT, 74, 'A page shows its local level or its number, then its keys; each key has its setting with it. The insert is the only writer here; finds may come at any time.', 12, 'soft')
+    y = picture.head('How a split goes by', f'A file of N = {SIZES[0]} original chains, b = {SIZES[1]} records a page: h₀(k) is the mixed key mod {SIZES[0]}, '
+                     f'h₁(k) mod {2 * SIZES[0]}. Keys {keys} are there; {LAST} is put in. A page shows its local level or its number, then its keys; '
+                     'each key has its setting with it. The insert is the only writer here; finds may come at any time.')
     x = LEFT
     for kind, words in (('fresh', 'written since the frame before'), ('fresh dashed', 'written, not yet in the file'),
                         ('bare', 'old: off the chain, readers may be on it')):
-        picture.rect(x, 88, 26, 16, kind, 4)
-        picture.text(x + 33, 100, words, 12, 'soft')
+        picture.rect(x, y - 3, 26, 16, kind, 4)
+        picture.text(x + 33, y + 9, words, 12, 'soft')
         x += 33 + width_of(words, 12) + 20
-    x += plate(picture, x, 87, 'chain S') + 7
-    picture.text(x, 100, 'locked, selective', 12, 'soft')
+    x += plate(picture, x, y - 4, 'chain S') + 7
+    picture.text(x, y + 9, 'locked, selective', 12, 'soft')
+    return y + 31
 
 
 def draw(root):
     frames = run()
     words = words_of(frames)
-    picture = Picture('How a split goes by', 'Five frames of a small file: before, both halves built, the old chain written, the root moved, old pages given back.')
-    draw_head(picture)
+    picture = Picture('How a split goes by', 'Five frames of a small file: before, both halves built, the old chain written, the root moved, old pages given back.', RIGHT + LEFT)
+    top = draw_head(picture)
     for k, file in enumerate(frames):
-        draw_frame(picture, k, TOP + k * (HIGH + GAP), file, frames[k - 1] if k else None, words)
-    return picture.document(TOP + len(frames) * (HIGH + GAP) - GAP + 24)
+        draw_frame(picture, k, top + k * (HIGH + GAP), file, frames[k - 1] if k else None, words)
+    return picture.checked(top + len(frames) * (HIGH + GAP) - GAP + 24)

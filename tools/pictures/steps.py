@@ -1,7 +1,8 @@
 """The thirty steps as an automaton: a lane a group of steps, a box a step with the words of docs/STEPS.md and its locks, an arrow wherever one step leads to another."""
 from locks import TALL, plate, plate_width
 from step_table import read_steps
-from svg import Picture, width_of, wrapped
+from svg import Picture
+from widths import width_of, wrapped
 from wrong import Wrong
 
 # Lane: its title, who goes through it, its column and the row of its first step.
@@ -9,7 +10,8 @@ LANES = {
     'locate': ('Locate', 'find, insert and delete', 0, 0), 'find': ('Find', 'find alone', 1, 0), 'change': ('Change', 'insert and delete', 1, 2),
     'split': ('Split', 'an insert that made its chain longer', 2, 0), 'merge': ('Merge', 'a delete that emptied its chain', 3, 0),
 }
-COLUMNS, WIDE, INSET = (36, 262, 480, 690), 184, 8
+COLUMNS, WIDE, INSET = (36, 286, 528, 762), 208, 8
+WIDTH = 1000
 WORDS, PITCH, SIZE = WIDE - 41, 14, 11.5
 TOP, GAP, HEAD = 221, 24, 66
 DECISIVE = {6, 10, 11}
@@ -24,11 +26,11 @@ def plates_of(step):
 
 
 def plate_lines(step):
-    """The plates in lines that fit into a box."""
-    lines, width = [[]], 0
+    """The plates in lines that fit into a box, beside the hook where there is one."""
+    lines, width, room = [[]], 0, WIDE - (40 if step.withdrawn else 12)
     for lock, form in plates_of(step):
         wide = plate_width(('' if form == 'held' else '+ ') + lock) + 4
-        if width + wide > WIDE - 12:
+        if width + wide > room:
             lines.append([])
             width = 0
         lines[-1].append((lock, form))
@@ -158,20 +160,22 @@ def draw_legend(picture):
     draw_meanings(picture, 75, [('root S', 'held', 'held when the step is due'), ('root S', 'asked', 'requested by it: granted, or the step waits'),
                                 ('root S', 'given', 'given up by it')])
     draw_end(picture, 35, 109)
-    picture.text(48, 113, 'may end the operation; no lock is kept then', 12, 'soft')
-    picture.circle(320, 109, 7, 'accent')
-    picture.text(333, 113, 'where an operation can take effect: a find at its last 6, a change at 10 or 11', 12, 'soft')
+    ends = 'may end the operation; no lock is kept then'
+    picture.text(48, 113, ends, 12, 'soft')
+    x = 48 + width_of(ends, 12) + 26
+    picture.circle(x, 109, 7, 'accent')
+    picture.text(x + 13, 113, 'where an operation can take effect: a find at its last 6, a change at 10 or 11', 12, 'soft')
     draw_back(picture, 43, 137)
     picture.text(54, 138, 'may be withdrawn before it: all locks held are given up, at 11 the pages built go back, and the party is idle', 12, 'soft')
 
 
 def draw(root):
     places = Places(read_steps(root))
-    picture = Picture('The thirty steps and the locks at each', 'Find goes by steps 1 to 9, insert by 1 to 8 and 10 to 22, delete by 1 to 8, 10 to 14 and 23 to 30. An operation can be withdrawn before 1 to 8, 10 and 11.')
+    picture = Picture('The thirty steps and the locks at each', 'Find goes by steps 1 to 9, insert by 1 to 8 and 10 to 22, delete by 1 to 8, 10 to 14 and 23 to 30. An operation can be withdrawn before 1 to 8, 10 and 11.', WIDTH)
     draw_legend(picture)
     for lane in LANES:
         draw_lane(picture, places, lane)
     for step in places.steps:
         draw_box(picture, places, step)
     draw_arrows(picture, places)
-    return picture.document(places.bottom() + 34)
+    return picture.checked(places.bottom() + 34)

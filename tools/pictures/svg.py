@@ -1,6 +1,9 @@
 """A picture: shapes and words gathered in order and printed as one SVG file. Colours have names, each with a light and a dark value, and the
-file follows the reader's scheme. Words are as wide as in Helvetica, and kept to that width in any other font, so that no font is needed to lay a picture out."""
+file follows the reader's scheme. Words are laid out by the widest font, so that no font is needed."""
 from html import escape
+
+from room import Room
+from widths import width_of, wrapped
 
 # Name of a colour: on a light ground, on a dark one.
 COLOURS = {
@@ -24,32 +27,6 @@ RULES = {
 FIXED = ['text{font-family:"Helvetica Neue",Helvetica,Arial,"Liberation Sans",sans-serif}',
          '.mono{font-family:ui-monospace,SFMono-Regular,Menlo,Consolas,"Liberation Mono",monospace}',
          '.bold{font-weight:bold}', '.line,.cell,.ring,' + ','.join(f'.{mode}-edge' for mode in MODES) + '{fill:none}', '.bare,.dashed{stroke-dasharray:4 3}']
-# Letters of Helvetica by how wide they are, in thousandths of the size, plain and bold; any other is 556.
-PLAIN = {191: "'", 222: 'ijl’', 278: ' !,./:;[]ftI', 333: '()-r₀₁₂₃', 469: '^', 500: 'ckszxyvJ', 584: '+−×=<>', 611: 'FTZ', 667: 'ABEKPSVXY',
-         722: 'CDHNRUw', 778: 'GOQ', 833: 'mM', 944: 'W', 1000: '→'}
-BOLD = {238: "'", 278: ' ,./Iijl’', 333: '!()-:;[]ft₀₁₂₃', 389: 'r', 500: 'z', 584: '+−×=<>^', 611: 'bdghnopquFTLZ', 667: 'EPSVXY', 722: 'ABCDHKNRU',
-        778: 'wGOQ', 833: 'M', 889: 'm', 944: 'W', 1000: '→'}
-WIDTHS = [{letter: width for width, letters in widths.items() for letter in letters} for widths in (PLAIN, BOLD)]
-
-
-def width_of(words, size, mono=False, bold=False):
-    """How wide the words are, in pixels."""
-    if mono:
-        return 0.6 * size * len(words)
-    return sum(WIDTHS[bold].get(letter, 556) for letter in words) * size / 1000
-
-
-def wrapped(words, size, width, bold=False):
-    """The words in lines that are no wider than asked."""
-    lines = ['']
-    for word in words.split():
-        longer = f'{lines[-1]} {word}'.strip()
-        if lines[-1] and width_of(longer, size, bold=bold) > width:
-            lines.append(word)
-        else:
-            lines[-1] = longer
-    return lines
-
 
 def style():
     def rules(scheme):
@@ -63,19 +40,26 @@ def short(number):
 
 class Picture:
     def __init__(self, title, description, width=900):
-        self.title, self.description, self.width, self.parts = title, description, width, []
+        self.title, self.description, self.width, self.parts, self.room = title, description, width, [], Room()
 
     def rect(self, x, y, width, height, kind, radius=6):
+        if not kind.endswith('-half'):
+            self.room.box(x, y, width, height)
         self.parts.append(f'<rect x="{short(x)}" y="{short(y)}" width="{short(width)}" height="{short(height)}" rx="{radius}" class="{kind}"/>')
 
     def circle(self, x, y, radius, kind):
         self.parts.append(f'<circle cx="{short(x)}" cy="{short(y)}" r="{short(radius)}" class="{kind}"/>')
 
     def text(self, x, y, words, size=12, kind='ink', anchor='start'):
-        """Words, kept to the width that they are laid out with, whatever font there is."""
-        length = width_of(words, size, 'mono' in kind, 'bold' in kind)
-        self.parts.append(f'<text x="{short(x)}" y="{short(y)}" font-size="{size}" text-anchor="{anchor}" textLength="{short(length)}" '
-                          f'lengthAdjust="spacingAndGlyphs" class="{kind}">{escape(words, quote=False)}</text>')
+        self.room.text(x, y, words, width_of(words, size, 'mono' in kind, 'bold' in kind), size, anchor)
+        self.parts.append(f'<text x="{short(x)}" y="{short(y)}" font-size="{size}" text-anchor="{anchor}" class="{kind}">{escape(words, quote=False)}</text>')
+
+    def phrase(self, x, y, parts, size=12):
+        """Words of several kinds, one after the other on a line."""
+        words = ''.join(words for words, _ in parts)
+        self.room.text(x, y, words, sum(width_of(words, size, bold='bold' in kind) for words, kind in parts), size, 'start')
+        spans = ''.join(f'<tspan class="{kind}">{escape(words, quote=False)}</tspan>' for words, kind in parts)
+        self.parts.append(f'<text x="{short(x)}" y="{short(y)}" font-size="{size}" xml:space="preserve">{spans}</text>')
 
     def lines(self, x, y, lines, size=12, kind='ink', pitch=None):
         """Lines under one another; the height that they take."""
@@ -89,6 +73,16 @@ class Picture:
         corners = ' '.join(('L' if k else 'M') + f'{short(x)} {short(y)}' for k, (x, y) in enumerate(points))
         head = ' marker-end="url(#head)"' if arrow else ''
         self.parts.append(f'<path d="{corners}" class="{kind}" stroke-width="1.4" stroke-linejoin="round"{head}/>')
+
+    def head(self, title, says, left=24):
+        """The title, and words under it in as many lines as they need; where the next line would be."""
+        self.text(left, 36, title, 17, 'ink bold')
+        return 57 + self.lines(left, 57, wrapped(says, 12, self.width - 2 * left), 12, 'soft', 17)
+
+    def checked(self, height):
+        """The document, refused where words have no room."""
+        self.room.check(self.width)
+        return self.document(height)
 
     def document(self, height):
         top = [f'<svg xmlns="http://www.w3.org/2000/svg" width="{self.width}" height="{short(height)}" viewBox="0 0 {self.width} {short(height)}" role="img">',
