@@ -1,7 +1,7 @@
 -- `turns::keep` meets its contract. The loop's invariant: n bytes stand at the front, and what lies behind is as it
 -- was.
 use mathlib.Core.Path.{◌≡◌, refl, subst}
-use Prim.Native.Nat.{ℕ, ◌+◌, ◌-◌}
+use Prim.Native.Nat.{ℕ, ◌+◌}
 use native.Mathlib.Omega.{arith}
 use lib.ListN.{length-set, get_or, take, drop}
 use Rattle.turns.proofs.Parts.{kept_more}

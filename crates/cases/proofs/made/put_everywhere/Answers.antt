@@ -1,5 +1,5 @@
 -- `made::put_everywhere` is safe and ends.
-use Rattle.std.proofs.Common.{◌-◌, refl, arith, length-set}
+use Rattle.std.proofs.Common.{refl, arith, length-set}
 use Rattle.cases.proofs.made.put_everywhere.Goals as goal
 
 pub loop-i-init : goal.loop-i-init
