@@ -5,6 +5,8 @@ from contenders import C_PORT, LIBRARY, ROOT, output
 
 DOCUMENT = ROOT / 'docs/PERFORMANCE.md'
 MARKERS = '<!-- From here to the next marker: bench/run --write. -->\n', '<!-- The end of what bench/run writes. -->\n'
+# What the gate holds the library to: counted with the kit of tests/kit-version.
+TODAY = '<!-- From here to the next marker: bench/count --write. -->\n', '<!-- The end of what bench/count writes. -->\n'
 NONE = '–'
 # The column that says what a contender locks.
 LOCKS = 'locks'
@@ -77,9 +79,9 @@ def put_in(text, table, markers):
     return f'{before}{first}\n{table}\n{last}{after}' if marker else None
 
 
-def put(table):
-    """Puts the table in its place: whether there is one."""
-    text = put_in(DOCUMENT.read_text(), table, MARKERS)
+def put(table, markers=MARKERS):
+    """Puts a table in its place: whether there is one."""
+    text = put_in(DOCUMENT.read_text(), table, markers)
     if text is None:
         return False
     DOCUMENT.write_text(text)
@@ -87,8 +89,8 @@ def put(table):
 
 
 def written():
-    """The library's instructions as the table has them, by row."""
-    text = DOCUMENT.read_text()
+    """The library's instructions as bench/count wrote them, by row."""
+    text = DOCUMENT.read_text().partition(TODAY[0])[2].partition(TODAY[1])[0]
     names = re.search(rf'^\|  \|  \| {LOCKS} \| (.*) \|$', text, re.M)
     numbers = re.search(rf'^\| instructions \| {LIBRARY} \| [^|]* \| (.*) \|$', text, re.M)
     if not names or not numbers:
