@@ -39,6 +39,8 @@ DIFFERS_BEGINS = re.compile(r'(?:computed as far as they go|compared part by par
 LEFT_BEGINS = re.compile(r'give a proof of that as the last argument, `(?:rw|simp) ')
 SHUT = re.compile(r'^  ((?:`\S+`(?:, )?)+) do(?:es)? not unfold here', re.M)
 TRIED = re.compile(r'trial runs? of this declaration was refused too.*?had the line `unfolding (.*?)`', re.S)
+# The same where a name could not be written there.
+TRIED_TOO = re.compile(r'That run had (`.*?) unfolded too')
 TOKEN = re.compile(r'[^\s(){};,]+')
 # Heads of a claim: one of these in the place of something else is a claim of another form.
 CLAIM = re.compile(r'(?:.*\.)?(?:Path|◌?≡◌?|◌?≤◌?|◌?<◌?|Σ|◌?×◌?|◌?⊎◌?|⊥|→)$|.*\.Lts\..*|:$')
@@ -93,8 +95,10 @@ def kind(error, tried):
     if COUNTEREXAMPLE.search(error) or is_refuted(error):
         return 'values'
     computed = error.partition('computed as far as they go, ')[2] or error.partition('compared part by part, ')[2]
-    # Types short enough for one line are shown as they are.
-    shown = DIFFER.findall(computed)[:1] or ([] if '\n' in error else STATED.findall(error))
+    # Types short enough for one line are shown as they are; of two equations, one side may be shown computed.
+    one_side = error.partition('one side (expected) is shown computed')[2]
+    shown = DIFFER.findall(computed)[:1] or ([] if '\n' in error and not one_side else STATED.findall(error))
+    computed = computed or one_side
     found = [first_difference(*sides) for sides in shown]
     pairs = [pair for pair in found if pair and not any(CLAIM.match(word) for word in pair)]
     if any(is_value(one) and is_value(other) for one, other in pairs):
@@ -111,6 +115,7 @@ def facts(log):
     for error, following in zip(said, [*said[1:], None]):
         notes = log[error.end():following.start() if following else len(log)]
         tried = {last(word) for words in TRIED.findall(notes) for word in words.split()}
+        tried |= {last(word) for words in TRIED_TOO.findall(notes) for word in re.findall(r'`(\S+?)`', words)}
         if error[1].startswith('proofs/') and (found := kind(error[3], tried)):
             yield found, f'{error[1]}:{error[2]}'
     # A goal may also be open because a lemma that it wants names what is gone.
