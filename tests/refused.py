@@ -95,16 +95,19 @@ def kind(error, tried):
     if COUNTEREXAMPLE.search(error) or is_refuted(error):
         return 'values'
     computed = error.partition('computed as far as they go, ')[2] or error.partition('compared part by part, ')[2]
-    # Types short enough for one line are shown as they are; of two equations, one side may be shown computed.
-    one_side = error.partition('one side (expected) is shown computed')[2]
-    shown = DIFFER.findall(computed)[:1] or ([] if '\n' in error and not one_side else STATED.findall(error))
-    computed = computed or one_side
+    # Types short enough for one line are shown as they are.
+    shown = DIFFER.findall(computed)[:1] or ([] if '\n' in error else STATED.findall(error))
     found = [first_difference(*sides) for sides in shown]
     pairs = [pair for pair in found if pair and not any(CLAIM.match(word) for word in pair)]
     if any(is_value(one) and is_value(other) for one, other in pairs):
         return 'values'
     if LEFT.search(error):
         return 'terms'
+    # Of two equations one side may be shown computed: a number there and a fact of the code, which computes no further, are different terms.
+    if 'one side (expected) is shown computed' in error:
+        sides = [first_difference(*pair) for pair in STATED.findall(error)]
+        if any(pair and pair[0].isdigit() and pair[1].startswith('c.') for pair in sides):
+            return 'terms'
     shut = {last(word) for words in SHUT.findall(error) for word in re.findall(r'`(\S+?)`', words)} - tried
     return 'terms' if computed and any(not {last(one), last(other)} & shut for one, other in pairs) else None
 
