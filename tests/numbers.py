@@ -8,7 +8,7 @@ from pathlib import Path
 
 ROOT = Path(sys.argv[1])
 # Where the header has another name than the sources.
-RENAMED = {"NO_CAUSE": "OK", "NONE": "NO_RESTRUCTURING"}
+RENAMED = {"NONE": "NO_RESTRUCTURING", "DAMAGE_REFUSED": "DAMAGE"}
 # The sources' structs by the header's names.
 STRUCTS = {"Root": "bead_root", "Party": "bead_party", "BeadReply": "bead_reply"}
 
@@ -18,6 +18,8 @@ def numbers(source):
     found = dict(re.findall(r"^pub const (\w+): (?:u32|usize) = (\d+);", source, re.M))
     for name, number in re.findall(r"Restructuring::(\w+) => (\d+)", source):
         found[re.sub(r"(?<=[a-z])(?=[A-Z])", "_", name).upper()] = number
+    found |= {f"{name.upper()}_REFUSED": number for name, number in re.findall(r"\bRefusal::(\w+) => (\d+)", source)}
+    found["OK"] = re.search(r"Ok\(\(\)\) => (\d+),", source)[1]
     return {RENAMED.get(name, name): number for name, number in found.items()}
 
 
@@ -34,7 +36,7 @@ def fields(source, struct):
 
 
 def main():
-    source = "".join((ROOT / f"crates/{crate}/src/lib.rt").read_text() for crate in ["model", "bead"])
+    source = "".join((ROOT / f"crates/{crate}/src/lib.rt").read_text() for crate in ["model", "index", "bead"])
     header = (ROOT / "include/bead_index.h").read_text()
     known = numbers(source) | figures((ROOT / "crates/theory/specs/CallsBounded.antt").read_text())
     named = re.findall(r"^(?:#define|   ) BEAD_(\w+)(?: = | )\d+u?", header, re.M)

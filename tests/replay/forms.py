@@ -37,13 +37,15 @@ RESTRUCTURINGS = {
     "merged": "Restructuring.Merged",
     "merge-skipped": "Restructuring.MergeSkipped",
 }
-DONE = {f"(done {a} {r})": f"StepAnswer.Done {ANSWERS[a]} {RESTRUCTURINGS[r]}" for a in ANSWERS for r in RESTRUCTURINGS}
+ACCEPTED = "Ok tt"
+# What a reply that is no refusal stands for. A refusal is Err, with the number as printed.
+DONE = {f"(done {a} {r})": f"Ok (StepAnswer.Done {ANSWERS[a]} {RESTRUCTURINGS[r]})" for a in ANSWERS for r in RESTRUCTURINGS}
 REPLIES = {
-    "format": {"ok": "FormatAnswer.Formatted"},
-    "begin": {"ok": "BeginAnswer.Begun"},
-    "step": {"waiting": "StepAnswer.Waiting", "moved": "StepAnswer.Moved", **DONE},
-    "withdraw": {"ok": "WithdrawAnswer.Withdrawn"},
-    "take_up": {"ok": "TakeUpAnswer.TakenUp"},
+    "format": {"ok": ACCEPTED},
+    "begin": {"ok": ACCEPTED},
+    "step": {"waiting": "Ok StepAnswer.Waiting", "moved": "Ok StepAnswer.Moved", **DONE},
+    "withdraw": {"ok": ACCEPTED},
+    "take_up": {"ok": ACCEPTED},
 }
 
 
@@ -58,9 +60,9 @@ class Form:
     def operation_term(self):
         return f"({OPERATIONS[self.operation]}{''.join(f' {setting}' for setting in self.numbers[2:])})"
 
-    # How the kind stands in a longer name: TakeUp.
-    def title(self):
-        return ''.join(word.capitalize() for word in self.kind.split('_'))
+    # The type of what a call of this kind answers where it is not refused.
+    def accepted_type(self):
+        return "StepAnswer" if self.kind == "step" else "⊤"
 
     # How every reply to the form begins: the call, then the party without leading zeros where one is named.
     def heading(self):
@@ -102,8 +104,8 @@ def read_reply(form, line):
     said = line[len(heading):-1]
     refused = REFUSED.fullmatch(said)
     if refused:
-        return f"{form.title()}Answer.Refused {int(refused.group(1))}"
+        return f"Err {int(refused.group(1))}"
     found = FOUND.fullmatch(said)
     if found:
-        return f"StepAnswer.Done (OperationAnswer.Found {int(found.group(1))}) Restructuring.None" if form.kind == "step" else None
+        return f"Ok (StepAnswer.Done (OperationAnswer.Found {int(found.group(1))}) Restructuring.None)" if form.kind == "step" else None
     return REPLIES[form.kind].get(said.decode("latin-1"))

@@ -7,7 +7,7 @@ import shutil
 import subprocess
 from dataclasses import dataclass
 
-from forms import NO_PARTY, UNREAD, lines_of, read_form, read_reply
+from forms import ACCEPTED, NO_PARTY, UNREAD, lines_of, read_form, read_reply
 
 # Words of page memory times calls: a transcript above it is left to the compiled program. The checker stops at 50,000,000 steps a claim, which about 5,000,000 of
 # these use up; the bound also keeps a transcript to seconds.
@@ -36,12 +36,11 @@ PARTY_FIELDS = "operation key step lev chain other old owed answer setting".spli
 
 HEADER = """\
 use mathlib.Core.Path.{refl}
-use Rattle.std.specs.Prelude.{Bool, true, false, cond, eqb, ◌&&◌, List, [], ◌∷◌, replicate, ℕ, ◌+◌, ◌*◌, ◌≡◌}
+use Rattle.std.specs.Prelude.{Bool, true, false, cond, eqb, ◌&&◌, List, [], ◌∷◌, replicate, ℕ, ◌+◌, ◌*◌, ◌≡◌, Result, Ok, Err, ⊤}
 """
-MODULES = ["Sizes", "Records", "Mixing", "Memory", "Calls", "TakeUp", "Runs", "Entries", "Book", "Progress"]
-ANSWER_TYPES = ["FormatAnswer", "BeginAnswer", "StepAnswer", "WithdrawAnswer", "TakeUpAnswer"]
-TYPES = ["Root", "Party", "Entry", *ANSWER_TYPES]
-ENUMS = ["Operation", "OperationAnswer", "Restructuring", *ANSWER_TYPES]
+MODULES = ["Sizes", "Records", "Mixing", "Memory", "Answers", "Calls", "TakeUp", "Runs", "Entries", "Book", "Progress"]
+TYPES = ["Root", "Party", "Entry", "Refusal", "StepAnswer"]
+ENUMS = ["Operation", "OperationAnswer", "Restructuring", "StepAnswer"]
 
 HARNESS = """
 data Form : Type 0 where
@@ -49,12 +48,20 @@ data Form : Type 0 where
   call : Runs.Call → Form
   take_up : Form
 
+-- A call's answer as it is printed: a refusal is a number.
+abbrev printed : {A : Type 0} → Result A Refusal → Result A ℕ
+printed (Ok a) = Ok a
+printed (Err c) = Err (Answers.cause_number c)
+
 data Reply : Type 0 where
-  to_format : FormatAnswer → Reply
-  to_begin : BeginAnswer → Reply
-  to_step : StepAnswer → Reply
-  to_withdraw : WithdrawAnswer → Reply
-  to_take_up : TakeUpAnswer → Reply
+  to_format : Result ⊤ ℕ → Reply
+  to_begin : Result ⊤ ℕ → Reply
+  to_step : Result StepAnswer ℕ → Reply
+  to_withdraw : Result ⊤ ℕ → Reply
+  to_take_up : Result ⊤ ℕ → Reply
+
+abbrev all_printed : {A : Type 0} → Calls.Called (Result A Refusal) → Calls.Called (Result A ℕ)
+all_printed c = Calls.called (printed c.answer) c.memory
 
 abbrev memory : Root → List Party → List ℕ → List ℕ → List ℕ → Memory.Memory
 memory r ps ls ws row = record { root = r; parties = ps; locks = ls; pages = ws; waiting = row }
@@ -69,11 +76,11 @@ lent m n b p v q =
     cond (Sizes.within_limits (Records.root_of_sizes n b p v q)) (memory m.root (replicate q Records.idle) (replicate (p + 1) 0) (replicate (16 * (p + v + q)) 0) (replicate q 0)) m
 
 -- After a refused format the earlier file stays.
-abbrev kept_by : FormatAnswer → Memory.Memory → Memory.Memory → Memory.Memory
-kept_by FormatAnswer.Formatted m formatted = formatted
-kept_by (FormatAnswer.Refused n) m formatted = m
+abbrev kept_by : Answers.CallReply → Memory.Memory → Memory.Memory → Memory.Memory
+kept_by (Ok _) m formatted = formatted
+kept_by (Err c) m formatted = m
 
-abbrev kept : Memory.Memory → Calls.Called FormatAnswer → Memory.Memory
+abbrev kept : Memory.Memory → Calls.Called Answers.CallReply → Memory.Memory
 kept m c = kept_by c.answer m c.memory
 
 abbrev after_format : ℕ → ℕ → ℕ → ℕ → ℕ → Memory.Memory
@@ -81,11 +88,11 @@ after_format n b p v q = kept blank (Calls.format_call (lent blank n b p v q) n 
 
 abbrev replies : Memory.Memory → List Form → List Reply
 replies m [] = []
-replies m (format n b p v q ∷ fs) = (let c = Calls.format_call (lent m n b p v q) n b p v q in to_format c.answer ∷ replies (kept m c) fs)
-replies m (call (Runs.begin_for q o k) ∷ fs) = (let c = Calls.begin_call m q o k in to_begin c.answer ∷ replies c.memory fs)
-replies m (call (Runs.step_for q) ∷ fs) = (let c = Calls.step_call m q in to_step c.answer ∷ replies c.memory fs)
-replies m (call (Runs.withdraw_for q) ∷ fs) = (let c = Calls.withdraw_call m q in to_withdraw c.answer ∷ replies c.memory fs)
-replies m (take_up ∷ fs) = (let c = TakeUp.take_up_call m in to_take_up c.answer ∷ replies c.memory fs)
+replies m (format n b p v q ∷ fs) = (let c = Calls.format_call (lent m n b p v q) n b p v q in to_format (printed c.answer) ∷ replies (kept m c) fs)
+replies m (call (Runs.begin_for q o k) ∷ fs) = (let c = Calls.begin_call m q o k in to_begin (printed c.answer) ∷ replies c.memory fs)
+replies m (call (Runs.step_for q) ∷ fs) = (let c = Calls.step_call m q in to_step (printed c.answer) ∷ replies c.memory fs)
+replies m (call (Runs.withdraw_for q) ∷ fs) = (let c = Calls.withdraw_call m q in to_withdraw (printed c.answer) ∷ replies c.memory fs)
+replies m (take_up ∷ fs) = (let c = TakeUp.take_up_call m in to_take_up (printed c.answer) ∷ replies c.memory fs)
 
 -- The book's map ascends, before every call and after the last.
 abbrev map_ascends : Book.Book → Memory.Memory → List Runs.Call → Bool
@@ -216,8 +223,8 @@ class SingleCall:
         before = f"before-{name}"
         after = f"({self.after})" if self.after else before
         answered = f"Calls.called ({self.answer}) {after}"
-        right = defined(f"right-{name}", f"Calls.Called {self.form.title()}Answer", answered)
-        return defined(before, "Memory.Memory", self.before) + right + claimed(name, call_on(self.form, before), f"right-{name}")
+        right = defined(f"right-{name}", f"Calls.Called (Result {self.form.accepted_type()} ℕ)", answered)
+        return defined(before, "Memory.Memory", self.before) + right + claimed(name, f"all_printed ({call_on(self.form, before)})", f"right-{name}")
 
 
 # ---- Reading the files
@@ -250,7 +257,7 @@ def work(items):
 def stretches(items):
     found = []
     for line, form, answer in items:
-        if answer == "FormatAnswer.Formatted":
+        if form.kind == "format" and answer == ACCEPTED:
             found.append((form, []))
         elif form.kind not in NO_PARTY and found:
             found[-1][1].append((line, form))

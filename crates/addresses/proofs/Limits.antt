@@ -1,5 +1,5 @@
 -- How large the numbers of this crate can get, where an address's level is raised, and where a level can be lowered.
--- Main statements: span_fits (N × 2^i), below-next-raises and else-not-raised (the level of an address), unbarred_has_level (a merge that finds next 0);
+-- Main statements: span_fits (N × 2^i), below_next_raises and else_not_raised (the level of an address), unbarred_has_level (a merge that finds next 0);
 -- ready_root_fits (for every view that is Ready).
 use mathlib.Core.Path.{◌≡◌, refl}
 use mathlib.Core.Bool.{false}

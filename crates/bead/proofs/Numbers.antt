@@ -1,5 +1,6 @@
 -- The numbers of operations, there and back.
--- Main statements: operation_of_number (each operation is that of its number and its setting), is_operation_number (that number is an operation's).
+-- Main statements: operation_of_number (each operation is that of its number and its setting), is_operation_number
+-- (that number is an operation's).
 use mathlib.Core.Path.{◌≡◌, refl}
 use mathlib.Core.Bool.{true}
 use Rattle.model.specs.declared.Operation.{Operation}

@@ -1,33 +1,26 @@
 -- A C caller has THE INDEX: a run of bead_format, bead_take_up, bead_begin, bead_step and bead_withdraw is a run of
 -- the index with the numbers seen, and right. The statements are specs/TheCalls.antt.
--- Main statements: begin-seen, step-seen, withdraw-seen, look-seen (every call can be made); start-zero,
--- formats_zero; format-zero, take-up-zero and begin-zero (0 says formatted, taken up, begun), moved_told and
+-- Main statements: begin_seen, step-seen, withdraw_seen, look-seen (every call can be made); start-zero,
+-- formats_zero; format_zero, take_up_zero and begin_zero (0 says formatted, taken up, begun), moved_told and
 -- done_told (outcomes 1 and 2); opened; told (every run seen is a run of the index); bead_right, opens-again.
 use mathlib.Core.Path.{◌≡◌, refl, sym, ◌∙◌, ap, ap₂, subst}
 use mathlib.Core.Bool.{Bool, true, false, cond}
 use mathlib.Core.List.{List, [], ◌∷◌}
-use Prim.Native.Nat.{ℕ, ◌<◌}
+use Prim.Native.Nat.{ℕ}
 use native.Mathlib.Omega.{arith}
-use Rattle.model.specs.declared.Root.{Root}
-use Rattle.model.specs.declared.FormatAnswer.TheVariants as FormatAnswer
-use Rattle.model.specs.declared.BeginAnswer.TheVariants as BeginAnswer
+use Rattle.std.specs.Prelude.{Ok, Err}
+use Rattle.model.specs.declared.Refusal.{Refusal}
 use Rattle.model.specs.declared.OperationAnswer.{OperationAnswer}
 use Rattle.model.specs.declared.Restructuring.{Restructuring}
 use Rattle.model.specs.declared.StepAnswer.{StepAnswer}
-use Rattle.model.specs.declared.TakeUpAnswer.{TakeUpAnswer}
-use Rattle.model.specs.Answers.{answer_number, setting_found, restructuring_number, begin_refusal, withdraw_refusal, format_refusal}
-use Rattle.model.specs.Sizes.{within_limits}
-use Rattle.model.specs.Records.{root_of_sizes}
+use Rattle.model.specs.Answers.{answer_number, setting_found, restructuring_number, cause_number, refusal_number, StepReply, CallReply}
 use Rattle.model.specs.Memory.{Memory}
-use Rattle.model.specs.Refusals.{lengths_fit, first_cause, begin_rows}
 use Rattle.model.specs.Calls.{Called, called, format_call, begin_call, step_call, withdraw_call}
-use Rattle.model.specs.TakeUp.{is_saved, saved_book, take_up_call}
+use Rattle.model.specs.TakeUp.{saved_book, take_up_call}
 use Rattle.model.specs.Book.{book_at_end}
 use Rattle.theory.specs.Demands.{Start, start, AtRest}
 use Rattle.model.specs.Runs.{Call, begin_for, Reply, Event}
-use Rattle.model.proofs.Theorems.RefusalOrder.{format_order, begin_refused_ok, begin_accepted, take_up_order}
-use Rattle.model.proofs.Laws.Lists.{Cmp, same, diff, cmp}
-use Rattle.theory.specs.Made.{Formatted, Looked, Opened, Ran, happened, take_up_refusal}
+use Rattle.theory.specs.Made.{Formatted, Looked, Opened, Ran, happened}
 use Rattle.theory.specs.Made as Made
 use Rattle.theory.proofs.Made.{look, start_taken, opened_starts}
 use Rattle.index.proofs.TheIndex.{index_right}
@@ -44,20 +37,21 @@ module _ (m : Memory) {m' : Memory} {ss : List Seen} where
   pub step-seen : (q : ℕ) → BeadRan (step_call m q).memory ss m' → BeadRan m (step_saw q (reply_of (step_call m q).answer) ∷ ss) m'
   step-seen q rest = stepped q (reply_of (step_call m q).answer) refl rest
 
-  pub withdraw_seen : (q : ℕ) → BeadRan (withdraw_call m q).memory ss m' → BeadRan m (withdraw_saw q (withdraw_refusal (withdraw_call m q).answer) ∷ ss) m'
-  withdraw_seen q rest = withdrew q (withdraw_refusal (withdraw_call m q).answer) refl rest
+  pub withdraw_seen : (q : ℕ) → BeadRan (withdraw_call m q).memory ss m' → BeadRan m (withdraw_saw q (refusal_number (withdraw_call m q).answer) ∷ ss) m'
+  withdraw_seen q rest = withdrew q (refusal_number (withdraw_call m q).answer) refl rest
 
-  pub look-seen : BeadRan m ss m' → BeadRan m (look_saw (take_up_refusal (take_up_call m).answer) ∷ ss) m'
-  look-seen rest = looked (take_up_refusal (take_up_call m).answer) (ap (numbered take_up_refusal) (look m)) rest
+  pub look-seen : BeadRan m ss m' → BeadRan m (look_saw (refusal_number (take_up_call m).answer) ∷ ss) m'
+  look-seen rest = looked (refusal_number (take_up_call m).answer) (ap (numbered refusal_number) (look m)) rest
 
 -- Where a run may start, bead_take_up returns 0; so does bead_format, where it formats.
 pub start-zero : (s : Start) → BeadOpened (start s)
-start-zero s = by-take_up (start s) (ap (numbered take_up_refusal) (start_taken s))
+unfolding refusal_number
+start-zero s = by-take_up (start s) (ap (numbered refusal_number) (start_taken s))
 
 pub formats_zero : (m₀ : Memory) (n b p v q : ℕ) (m : Memory) → Formatted m₀ (sizes_of n b p v q) m → BeadOpened m
-unfolding format_refusal
+unfolding refusal_number
 formats_zero m₀ n b p v q m is =
-    let says : BeadFormatted m₀ n b p v q 0 m = ap (numbered format_refusal) is in by_format m₀ n b p v q says
+    let says : BeadFormatted m₀ n b p v q 0 m = ap (numbered refusal_number) is in by_format m₀ n b p v q says
 
 -- ---- 0 was returned
 
@@ -68,40 +62,27 @@ answer_same {A} e = ap (λ (c : Called A). c.answer) e
 memory_same : {A : Type 0} {x y : A} {m m' : Memory} → called x m ≡ called y m' → m ≡ m'
 memory_same {A} e = ap (λ (c : Called A). c.memory) e
 
-module _ (m₀ : Memory) (n b p v q : ℕ) (m : Memory) (is : BeadFormatted m₀ n b p v q 0 m) where
-  abbrev r : Root
-  r = root_of_sizes n b p v q
+-- A refusal has another number.
+zero_ok : (a : CallReply) → refusal_number a ≡ 0 → a ≡ Ok tt
+unfolding refusal_number cause_number
+zero_ok (Ok t) e = refl
+zero_ok (Err Refusal.Size) e = absurd (omega (arith, e))
+zero_ok (Err Refusal.Length) e = absurd (omega (arith, e))
+zero_ok (Err Refusal.Unsaved) e = absurd (omega (arith, e))
+zero_ok (Err Refusal.Party) e = absurd (omega (arith, e))
+zero_ok (Err Refusal.Busy) e = absurd (omega (arith, e))
+zero_ok (Err Refusal.Idle) e = absurd (omega (arith, e))
+zero_ok (Err Refusal.Decided) e = absurd (omega (arith, e))
+zero_ok (Err Refusal.Damage) e = absurd (omega (arith, e))
 
-  -- A refusal has another number.
-  refused : {X : Type 0} (k : ℕ) → 0 < k → format_call m₀ n b p v q ≡ called (FormatAnswer.Refused k) m₀ → X
-  unfolding format_refusal
-  refused k positive e = absurd (let z : ◌≡◌ {A = ℕ} 0 k = answer_same (is ∙ ap (numbered format_refusal) e) in omega (arith, positive))
+zero_told : (c : Called CallReply) (m : Memory) → called 0 m ≡ numbered refusal_number c → called (Ok tt) m ≡ c
+zero_told c m is = ap (λ (a : CallReply). called a m) (sym (zero_ok c.answer (sym (answer_same is)))) ∙ ap (called c.answer) (memory_same is)
 
-  pub format_zero : Formatted m₀ (sizes_of n b p v q) m
-  unfolding format_refusal
-  format_zero = go (within_limits r) (lengths_fit r m₀) refl refl
-    where
-      go : (s l : Bool) → within_limits r ≡ s → lengths_fit r m₀ ≡ l → Formatted m₀ (sizes_of n b p v q) m
-      go false l e f = refused 2 (omega arith) ((format_order m₀ n b p v q).sizes e)
-      go true false e f = refused 1 (omega arith) ((format_order m₀ n b p v q).lengths e f)
-      go true true e f =
-          let made = (format_order m₀ n b p v q).none e f in
-          ap (called FormatAnswer.Formatted) (memory_same (is ∙ ap (numbered format_refusal) made)) ∙ sym made
+pub format_zero : (m₀ : Memory) (n b p v q : ℕ) (m : Memory) → BeadFormatted m₀ n b p v q 0 m → Formatted m₀ (sizes_of n b p v q) m
+format_zero m₀ n b p v q m is = zero_told (format_call m₀ n b p v q) m is
 
-module _ (m₀ m : Memory) (is : BeadLooked m₀ 0 m) where
-  refused_up : {X : Type 0} (k : ℕ) → 0 < k → take_up_call m₀ ≡ called (TakeUpAnswer.Refused k) m₀ → X
-  refused_up k positive e = absurd (let z : ◌≡◌ {A = ℕ} 0 k = answer_same (is ∙ ap (numbered take_up_refusal) e) in omega (arith, positive))
-
-  pub take_up_zero : Looked m₀ TakeUpAnswer.TakenUp m
-  take_up_zero = go (within_limits m₀.root) (lengths_fit m₀.root m₀) (is_saved m₀) refl refl refl
-    where
-      go : (s l t : Bool) → within_limits m₀.root ≡ s → lengths_fit m₀.root m₀ ≡ l → is_saved m₀ ≡ t → Looked m₀ TakeUpAnswer.TakenUp m
-      go false l t e f g = refused_up 2 (omega arith) ((take_up_order m₀).sizes e)
-      go true false t e f g = refused_up 1 (omega arith) ((take_up_order m₀).lengths e f)
-      go true true false e f g = refused_up 8 (omega arith) ((take_up_order m₀).unsaved e f g)
-      go true true true e f g =
-          let made = (take_up_order m₀).none e f g in
-          ap (called TakeUpAnswer.TakenUp) (memory_same (is ∙ ap (numbered take_up_refusal) made)) ∙ sym made
+pub take_up_zero : (m₀ m : Memory) → BeadLooked m₀ 0 m → Looked m₀ (Ok tt) m
+take_up_zero m₀ m is = zero_told (take_up_call m₀) m is
 
 pub opened : {m : Memory} → BeadOpened m → Opened m
 opened (by_format {m} m₀ n b p v q is) = Made.by_format m₀ (sizes_of n b p v q) (format_zero m₀ n b p v q m is)
@@ -109,41 +90,36 @@ opened (by-take_up {m} m₀ is) = Made.by-take_up m₀ (take_up_zero m₀ m is)
 
 -- 0 from a begin says that the number was an operation's, and that it is begun.
 module _ (m : Memory) (q o k x : ℕ) (m' : Memory) (is : BeadBegun m q o k x 0 m') where
-  pub begin_zero : (is_operation o ≡ true) × (begin_call m q (operation_of o x) k ≡ called BeginAnswer.Begun m')
-  unfolding begin_numbered begin_refusal
-  begin_zero = go (is_operation o) refl (cmp (first_cause (begin_rows m q)) 0)
+  pub begin_zero : (is_operation o ≡ true) × (begin_call m q (operation_of o x) k ≡ called (Ok tt) m')
+  unfolding begin_numbered
+  begin_zero = go (is_operation o) refl
     where
-      go : (t : Bool) → is_operation o ≡ t → Cmp (first_cause (begin_rows m q)) 0 → (is_operation o ≡ true) × (begin_call m q (operation_of o x) k ≡ called BeginAnswer.Begun m')
-      go false e c = let said : called {A = ℕ} 0 m' ≡ called 255 m = rw e at is in absurd (let z : ◌≡◌ {A = ℕ} 0 255 = answer_same said in omega arith)
-      go true e (same f) =
-          let made = begin_accepted m q (operation_of o x) k f in
-          let said : called {A = ℕ} 0 m' ≡ numbered begin_refusal (begin_call m q (operation_of o x) k) = rw e at is in
-          (e, made ∙ ap (called BeginAnswer.Begun) (sym (memory_same (said ∙ ap (numbered begin_refusal) made))))
-      go true e (diff d) =
-          let made = begin_refused_ok m (first_cause (begin_rows m q)) (omega arith) q (operation_of o x) k refl in
-          let said : called {A = ℕ} 0 m' ≡ numbered begin_refusal (begin_call m q (operation_of o x) k) = rw e at is in
-          absurd (let z : ◌≡◌ {A = ℕ} 0 (first_cause (begin_rows m q)) = answer_same (said ∙ ap (numbered begin_refusal) made) in omega arith)
+      go : (t : Bool) → is_operation o ≡ t → (is_operation o ≡ true) × (begin_call m q (operation_of o x) k ≡ called (Ok tt) m')
+      go false e = let said : called {A = ℕ} 0 m' ≡ called 255 m = rw e at is in absurd (let z : ◌≡◌ {A = ℕ} 0 255 = answer_same said in omega arith)
+      go true e =
+          let said : called {A = ℕ} 0 m' ≡ numbered refusal_number (begin_call m q (operation_of o x) k) = rw e at is in
+          (e, sym (zero_told (begin_call m q (operation_of o x) k) m' said))
 
 -- Outcome 1 of a step says moved, and 2 says done, with the answer, the restructuring and the setting found.
-pub moved_told : (a : StepAnswer) → (reply_of a).outcome ≡ 1 → a ≡ StepAnswer.Moved
+pub moved_told : (a : StepReply) → (reply_of a).outcome ≡ 1 → a ≡ Ok StepAnswer.Moved
 unfolding reply_of
-moved_told StepAnswer.Waiting e = absurd (omega (arith, e))
-moved_told StepAnswer.Moved e = refl
-moved_told (StepAnswer.Done x s) e = absurd (omega (arith, e))
-moved_told (StepAnswer.Refused n) e = absurd (omega (arith, e))
+moved_told (Ok StepAnswer.Waiting) e = absurd (omega (arith, e))
+moved_told (Ok StepAnswer.Moved) e = refl
+moved_told (Ok (StepAnswer.Done x s)) e = absurd (omega (arith, e))
+moved_told (Err c) e = absurd (omega (arith, e))
 
-pub record DoneTold (a : StepAnswer) : Type 0 where
+pub record DoneTold (a : StepReply) : Type 0 where
   pub answer : OperationAnswer
   pub restructuring : Restructuring
-  pub is : a ≡ StepAnswer.Done answer restructuring
+  pub is : a ≡ Ok (StepAnswer.Done answer restructuring)
   pub numbers : ((reply_of a).answer ≡ answer_number answer) × ((reply_of a).restructuring ≡ restructuring_number restructuring) × ((reply_of a).setting ≡ setting_found answer)
 
-pub done_told : (a : StepAnswer) → (reply_of a).outcome ≡ 2 → DoneTold a
+pub done_told : (a : StepReply) → (reply_of a).outcome ≡ 2 → DoneTold a
 unfolding reply_of
-done_told StepAnswer.Waiting e = absurd (omega (arith, e))
-done_told StepAnswer.Moved e = absurd (omega (arith, e))
-done_told (StepAnswer.Done x s) e = record { answer = x; restructuring = s; is = refl; numbers = (refl, refl, refl) }
-done_told (StepAnswer.Refused n) e = absurd (omega (arith, e))
+done_told (Ok StepAnswer.Waiting) e = absurd (omega (arith, e))
+done_told (Ok StepAnswer.Moved) e = absurd (omega (arith, e))
+done_told (Ok (StepAnswer.Done x s)) e = record { answer = x; restructuring = s; is = refl; numbers = (refl, refl, refl) }
+done_told (Err c) e = absurd (omega (arith, e))
 
 -- ---- A run
 
@@ -165,7 +141,7 @@ module _ {m m' m'' : Memory} {cs : List Call} {ys : List BeadAnswer} {ls : List 
     looks = rest.looks;
   }
 
-  looked-first : {a : TakeUpAnswer} (y : ℕ) → Looked m a m' → y ≡ take_up_refusal a → Told m cs ys (y ∷ ls) m''
+  looked-first : {a : CallReply} (y : ℕ) → Looked m a m' → y ≡ refusal_number a → Told m cs ys (y ∷ ls) m''
   unfolding looks_of
   looked-first y seen told_by = record {
     events = rest.events;
@@ -180,7 +156,7 @@ module _ {m m' m'' : Memory} {cs : List Call} {ys : List BeadAnswer} {ls : List 
   unfolding begin_numbered answer_for
   begun_first true e =
       let c = begin_call m q (operation_of o x) k in
-      let said : called y m' ≡ numbered begin_refusal c = rw e at is in
+      let said : called y m' ≡ numbered refusal_number c = rw e at is in
       called-first rest (number y) (Made.begun q (operation_of o x) k c.answer (ap (called c.answer) (memory_same said))) (ap number (answer_same said))
   begun_first false e = let said : called y m' ≡ called 255 m = rw e at is in subst (λ (u : Memory). Told u cs ys ls m'') (memory_same said) rest
 

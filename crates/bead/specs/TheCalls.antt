@@ -8,12 +8,12 @@
 -- looks_in (its calls and their numbers), answers_of, looks_of (the numbers of a run of the index); BeadRight. The
 -- theorem is proofs/TheCalls.antt.
 use Rattle.std.specs.Prelude.{◌≡◌, cond, List, [], ◌∷◌, ℕ}
-use Rattle.model.specs.Answers.{begin_refusal, withdraw_refusal, format_refusal}
+use Rattle.model.specs.Answers.{refusal_number}
 use Rattle.model.specs.Memory.{Memory}
 use Rattle.model.specs.Calls.{called, format_call, step_call, withdraw_call}
 use Rattle.model.specs.TakeUp.{take_up_call}
 use Rattle.model.specs.Runs.{Call, begin_for, step_for, withdraw_for, Reply, to_begin, to_step, to_withdraw, Event}
-use Rattle.theory.specs.Made.{Ran, take_up_refusal}
+use Rattle.theory.specs.Made.{Ran}
 use Rattle.theory.specs.Made as Made
 use Rattle.index.specs.TheIndex.{IndexRight}
 use Rattle.bead.specs.declared.BeadReply.{BeadReply}
@@ -22,10 +22,10 @@ use Rattle.bead.specs.Numbers.{is_operation, operation_of, reply_of, numbered, b
 -- ---- The contracts: what was lent, what the call was given, the number that it returned, what it left
 
 abbrev pub BeadFormatted : Memory → ℕ → ℕ → ℕ → ℕ → ℕ → ℕ → Memory → Type 0
-BeadFormatted m n b p v q y m' = called y m' ≡ numbered format_refusal (format_call m n b p v q)
+BeadFormatted m n b p v q y m' = called y m' ≡ numbered refusal_number (format_call m n b p v q)
 
 abbrev pub BeadLooked : Memory → ℕ → Memory → Type 0
-BeadLooked m y m' = called y m' ≡ numbered take_up_refusal (take_up_call m)
+BeadLooked m y m' = called y m' ≡ numbered refusal_number (take_up_call m)
 
 -- Party, operation by its number, key, setting.
 abbrev pub BeadBegun : Memory → ℕ → ℕ → ℕ → ℕ → ℕ → Memory → Type 0
@@ -35,7 +35,7 @@ abbrev pub BeadStepped : Memory → ℕ → BeadReply → Memory → Type 0
 BeadStepped m q y m' = called y m' ≡ numbered reply_of (step_call m q)
 
 abbrev pub BeadWithdrew : Memory → ℕ → ℕ → Memory → Type 0
-BeadWithdrew m q y m' = called y m' ≡ numbered withdraw_refusal (withdraw_call m q)
+BeadWithdrew m q y m' = called y m' ≡ numbered refusal_number (withdraw_call m q)
 
 -- ---- A run
 
@@ -93,9 +93,9 @@ looks_in (look_saw y ∷ ss) = y ∷ looks_in ss
 -- ---- The numbers of a run of the index
 
 unfoldable pub answer_for : Reply → BeadAnswer
-answer_for (to_begin a) = number (begin_refusal a)
+answer_for (to_begin a) = number (refusal_number a)
 answer_for (to_step a) = reply (reply_of a)
-answer_for (to_withdraw a) = number (withdraw_refusal a)
+answer_for (to_withdraw a) = number (refusal_number a)
 
 unfoldable pub answers_of : List Event → List BeadAnswer
 answers_of [] = []
@@ -104,7 +104,7 @@ answers_of (e ∷ es) = answer_for e.reply ∷ answers_of es
 unfoldable pub looks_of : {m m' : Memory} {cs : List Call} {es : List Event} → Ran m cs es m' → List ℕ
 looks_of Made.ended = []
 looks_of (Made.next {m} {m'} {m''} {c} {x} {cs} {es} made ran) = looks_of ran
-looks_of (Made.looked {m} {m'} {m''} {a} {cs} {es} look ran) = take_up_refusal a ∷ looks_of ran
+looks_of (Made.looked {m} {m'} {m''} {a} {cs} {es} look ran) = refusal_number a ∷ looks_of ran
 
 -- ---- What holds
 

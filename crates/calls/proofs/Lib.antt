@@ -1,5 +1,4 @@
 -- Laws that the proofs of this crate share, and those of the crates above.
 pub mod Calling
-pub mod Filled
 pub mod TakingUp
 pub mod Waiting

@@ -1,8 +1,10 @@
 -- What the program says of a case: whether what came is what document 01 says, the bytes that tell it, and the count.
 -- docs/SPECIFICATION.md, "Refused calls": "A refused call returns a number and leaves all lent memory."
 -- Main definitions: alters, is_right, verdict, counted, tallied.
-use Rattle.std.specs.Prelude.{ℕ, ◌+◌, ◌%◌, ◌^◌, Bool, true, false, not, ◌&&◌, List, ◌==◌}
+use Rattle.std.specs.Prelude.{ℕ, ◌+◌, ◌%◌, ◌^◌, Bool, true, false, not, ◌&&◌, List, Result, ⊤, ◌==◌}
 use Rattle.std.specs.Bool.{beq}
+use Rattle.model.specs.declared.Refusal.{Refusal}
+use Rattle.model.specs.Answers.{refusal_number}
 use Rattle.patterns.specs.Texts.{bytes}
 use Rattle.cases.specs.declared.scene.Call.{Call}
 use Rattle.cases.specs.declared.scene.Call.TheVariants.{Format, Begin, Step, Withdraw, TakeUp}
@@ -23,8 +25,10 @@ alters TakeUp = false
 
 -- The refusal is the one expected; a refused call altered nothing, and an accepted one something exactly where its
 -- call does.
-unfoldable pub is_right : Call → Came → ℕ → Bool
-is_right call came expected = came.refusal == expected && beq (not (came.altered == 0)) (expected == accepted && alters call)
+unfoldable pub is_right : Call → Came → Result ⊤ Refusal → Bool
+is_right call came expected =
+    let number = refusal_number expected in
+    refusal_number came.answer == number && beq (not (came.altered == 0)) (number == accepted && alters call)
 
 -- The end of the case's line.
 unfoldable pub verdict : Bool → List ℕ

@@ -2,8 +2,8 @@
 // calls"), compared with what the document says.
 // A line a case: the call and the numbers that make the case, what came, and `as it should be` or `WRONG`; last a
 // count. The file stdout has what must be written.
-// Files: this one has the cases; scene.rt the memory of a case, made.rt the calls and the comparison of memory,
-// told.rt what is written.
+// Files: this one has the cases, a table each; scene.rt the memory of a case, made.rt the calls and the comparison of
+// memory, told.rt what is written.
 
 #![tactic(auto)]
 
@@ -11,355 +11,304 @@ mod made;
 mod scene;
 mod told;
 
-use crate::made::ACCEPTED;
-use crate::scene::{Call, sizes, sound};
-use crate::told::{Tally, judged, say, say_number};
+use crate::scene::{Call, Causes, USUAL, about_to, meeting, root_of, sound};
+use crate::told::{Tally, judged};
+use model::Refusal;
+use model::Refusal::{Busy, Damage, Decided, Idle, Length, Party, Size, Unsaved};
+
+// What a call is to answer.
+type Expected = Result<(), Refusal>;
 
 // ---- Sizes and parties
 
 // N, b, P, V, Q and the party: the sizes are those given to format, else the root record's.
-fn sized(
-    rt: &impl Print,
-    t: Tally,
-    call: Call,
-    n: u32,
-    b: u32,
-    p: u32,
-    v: u32,
-    q: u32,
-    party: u32,
-    expected: u32,
-) -> Tally {
-    let s = sound(call, sizes(n, b, p, v, q), party);
-    judged(
-        rt,
-        t,
-        call,
-        b"N b P V Q and party",
-        &[n, b, p, v, q, party],
-        s,
-        expected,
-    )
+fn sized(rt: &impl Print, t: &mut Tally, call: Call, cases: &[([u32; 6], Expected)]) {
+    for (numbers, expected) in cases {
+        let [n, b, p, v, q, party] = *numbers;
+        let s = sound(call, root_of([n, b, p, v, q]), party);
+        judged(rt, t, call, "N b P V Q and party", numbers, s, *expected);
+    }
 }
 
 // "Run only: P 256 accepted, 257 refused 2"; and the least and the largest sizes.
-fn sizes_within(rt: &impl Print, first: Tally, call: Call) -> Tally {
-    let mut t = first;
-    t = sized(rt, t, call, 1, 6, 256, 752, 16, 0, ACCEPTED);
-    t = sized(rt, t, call, 1, 6, 257, 752, 16, 0, 2);
-    t = sized(rt, t, call, 256, 6, 256, 752, 16, 0, ACCEPTED);
-    t = sized(rt, t, call, 1, 1, 1, 0, 1, 0, ACCEPTED);
-    t
-}
+const SIZES_WITHIN: [([u32; 6], Expected); 4] = [
+    ([1, 6, 256, 752, 16, 0], Ok(())),
+    ([1, 6, 257, 752, 16, 0], Err(Size)),
+    ([256, 6, 256, 752, 16, 0], Ok(())),
+    ([1, 1, 1, 0, 1, 0], Ok(())),
+];
 
 // "N original chains, 1 to P. P chains at most, 1 to 256. V overflow pages, 0 to 752. Q parties, 1 to 16." With
 // settings "b is 1 to 6".
-// With Q 0 party 0 is outside the row too (3), and with Q 17 one record too few is lent (1).
-fn sizes_outside(rt: &impl Print, first: Tally, call: Call) -> Tally {
-    let mut t = first;
-    t = sized(rt, t, call, 0, 3, 5, 4, 3, 0, 2);
-    t = sized(rt, t, call, 6, 3, 5, 4, 3, 0, 2);
-    t = sized(rt, t, call, 2, 0, 5, 4, 3, 0, 2);
-    t = sized(rt, t, call, 2, 7, 5, 4, 3, 0, 2);
-    t = sized(rt, t, call, 2, 12, 5, 4, 3, 0, 2);
-    t = sized(rt, t, call, 0, 3, 0, 4, 3, 0, 2);
-    t = sized(rt, t, call, 2, 3, 5, 753, 3, 0, 2);
-    t = sized(rt, t, call, 2, 3, 5, 4, 0, 0, 2);
-    t = sized(rt, t, call, 2, 3, 5, 4, 17, 0, 2);
-    t
-}
+// With Q 0 party 0 is outside the row too, and with Q 17 one record too few is lent.
+const SIZES_OUTSIDE: [([u32; 6], Expected); 9] = [
+    ([0, 3, 5, 4, 3, 0], Err(Size)),
+    ([6, 3, 5, 4, 3, 0], Err(Size)),
+    ([2, 0, 5, 4, 3, 0], Err(Size)),
+    ([2, 7, 5, 4, 3, 0], Err(Size)),
+    ([2, 12, 5, 4, 3, 0], Err(Size)),
+    ([0, 3, 0, 4, 3, 0], Err(Size)),
+    ([2, 3, 5, 753, 3, 0], Err(Size)),
+    ([2, 3, 5, 4, 0, 0], Err(Size)),
+    ([2, 3, 5, 4, 17, 0], Err(Size)),
+];
 
 // "Run only: party Q−1 accepted, Q refused 3".
-fn parties(rt: &impl Print, first: Tally, call: Call) -> Tally {
-    let mut t = first;
-    t = sized(rt, t, call, 2, 3, 5, 4, 3, 2, ACCEPTED);
-    t = sized(rt, t, call, 2, 3, 5, 4, 3, 3, 3);
-    t = sized(rt, t, call, 2, 3, 5, 4, 16, 15, ACCEPTED);
-    t = sized(rt, t, call, 2, 3, 5, 4, 16, 16, 3);
-    t = sized(rt, t, call, 2, 3, 5, 4, 1, 0, ACCEPTED);
-    t = sized(rt, t, call, 2, 3, 5, 4, 1, 4294967295, 3);
-    t
-}
+const PARTIES: [([u32; 6], Expected); 6] = [
+    ([2, 3, 5, 4, 3, 2], Ok(())),
+    ([2, 3, 5, 4, 3, 3], Err(Party)),
+    ([2, 3, 5, 4, 16, 15], Ok(())),
+    ([2, 3, 5, 4, 16, 16], Err(Party)),
+    ([2, 3, 5, 4, 1, 0], Ok(())),
+    ([2, 3, 5, 4, 1, 4294967295], Err(Party)),
+];
 
 // ---- Lengths
 
-// So many words lent, with the usual sizes.
-fn lent(
-    rt: &impl Print,
-    t: Tally,
-    call: Call,
-    lock_words: u32,
-    page_words: u32,
-    waiting_words: u32,
-    expected: u32,
-) -> Tally {
-    let mut s = sound(call, sizes(2, 3, 5, 4, 3), 0);
-    s.lock_words = lock_words as usize;
-    s.page_words = page_words as usize;
-    s.waiting_words = waiting_words as usize;
-    judged(
-        rt,
-        t,
-        call,
-        b"lock words, page words and waiting words",
-        &[lock_words, page_words, waiting_words],
-        s,
-        expected,
-    )
+// So many lock words, page words and words of the waiting row lent, with the usual sizes.
+fn lent(rt: &impl Print, t: &mut Tally, call: Call, cases: &[([u32; 3], Expected)]) {
+    for (numbers, expected) in cases {
+        let mut s = sound(call, root_of(USUAL), 0);
+        s.lock_words = numbers[0] as usize;
+        s.page_words = numbers[1] as usize;
+        s.waiting_words = numbers[2] as usize;
+        judged(
+            rt,
+            t,
+            call,
+            "lock words, page words and waiting words",
+            numbers,
+            s,
+            *expected,
+        );
+    }
 }
 
 // "a lent length other than Q records, P+1 lock words or 16 × (P+V+Q) page words"; and other than Q words of the
-// waiting row (change 7). Where the sizes are in their limits `held` lends Q records, and no other length can be had.
-fn lengths(rt: &impl Print, first: Tally, call: Call) -> Tally {
-    let mut t = first;
-    t = lent(rt, t, call, 6, 192, 3, ACCEPTED);
-    t = lent(rt, t, call, 5, 192, 3, 1);
-    t = lent(rt, t, call, 7, 192, 3, 1);
-    t = lent(rt, t, call, 6, 191, 3, 1);
-    t = lent(rt, t, call, 6, 193, 3, 1);
-    t = lent(rt, t, call, 6, 192, 2, 1);
-    t = lent(rt, t, call, 6, 192, 4, 1);
-    t = lent(rt, t, call, 6, 192, 0, 1);
-    t
+// waiting row (change 7). Q records are lent, where there may be so many.
+const LENGTHS: [([u32; 3], Expected); 8] = [
+    ([6, 192, 3], Ok(())),
+    ([5, 192, 3], Err(Length)),
+    ([7, 192, 3], Err(Length)),
+    ([6, 191, 3], Err(Length)),
+    ([6, 193, 3], Err(Length)),
+    ([6, 192, 2], Err(Length)),
+    ([6, 192, 4], Err(Length)),
+    ([6, 192, 0], Err(Length)),
+];
+
+// ---- The causes: each alone, and every two that can meet
+
+fn number(cause: Option<Refusal>) -> u32 {
+    cause.map_or(0, u32::from)
 }
 
-// ---- The causes by their numbers: each alone, and every two that can meet
-
-// These two causes are met and no other; 0 is no cause.
-fn met(rt: &impl Print, t: Tally, call: Call, earlier: u32, later: u32, expected: u32) -> Tally {
-    let s = crate::scene::meeting(call, earlier, later);
-    judged(rt, t, call, b"causes", &[earlier, later], s, expected)
+// These causes are met and no other.
+fn met(rt: &impl Print, t: &mut Tally, call: Call, cases: &[(Causes, Expected)]) {
+    for (causes, expected) in cases {
+        let numbers = [number(causes[0]), number(causes[1])];
+        let s = meeting(call, *causes);
+        judged(rt, t, call, "causes", &numbers, s, *expected);
+    }
 }
 
 // Format has these alone.
-fn causes_of_all(rt: &impl Print, first: Tally, call: Call) -> Tally {
-    let mut t = first;
-    t = met(rt, t, call, 2, 0, 2);
-    t = met(rt, t, call, 1, 0, 1);
-    t = met(rt, t, call, 2, 1, 2);
-    t
-}
+const CAUSES_OF_ALL: [(Causes, Expected); 3] = [
+    ([Some(Size), None], Err(Size)),
+    ([Some(Length), None], Err(Length)),
+    ([Some(Size), Some(Length)], Err(Size)),
+];
 
 // Begin, step and withdraw.
-fn causes_of_parties(rt: &impl Print, first: Tally, call: Call) -> Tally {
-    let mut t = first;
-    t = met(rt, t, call, 3, 0, 3);
-    t = met(rt, t, call, 2, 3, 2);
-    t = met(rt, t, call, 1, 3, 1);
-    t
-}
+const CAUSES_OF_PARTIES: [(Causes, Expected); 3] = [
+    ([Some(Party), None], Err(Party)),
+    ([Some(Size), Some(Party)], Err(Size)),
+    ([Some(Length), Some(Party)], Err(Length)),
+];
 
-// Begin alone has 4, and has neither 5 nor 6. 3 and 4 do not meet: party Q has no record. In the last case there is a
-// busy record where it would be, past the records lent, and it is not looked at.
-fn causes_of_begin(rt: &impl Print, first: Tally) -> Tally {
-    let mut t = first;
-    t = met(rt, t, Call::Begin, 4, 0, 4);
-    t = met(rt, t, Call::Begin, 5, 0, ACCEPTED);
-    t = met(rt, t, Call::Begin, 6, 0, ACCEPTED);
-    t = met(rt, t, Call::Begin, 2, 4, 2);
-    t = met(rt, t, Call::Begin, 1, 4, 1);
-    t = met(rt, t, Call::Begin, 3, 4, 3);
-    t
-}
+// Begin alone has busy, and has neither idle nor damage. Party and busy do not meet: party Q has no record. In the last
+// case there is a busy record where it would be, past the records lent, and it is not looked at.
+const CAUSES_OF_BEGIN: [(Causes, Expected); 6] = [
+    ([Some(Busy), None], Err(Busy)),
+    ([Some(Idle), None], Ok(())),
+    ([Some(Damage), None], Ok(())),
+    ([Some(Size), Some(Busy)], Err(Size)),
+    ([Some(Length), Some(Busy)], Err(Length)),
+    ([Some(Party), Some(Busy)], Err(Party)),
+];
 
-// Step alone has 5 and 6, and has not 4. 3 meets 6 in the root record.
-fn causes_of_step(rt: &impl Print, first: Tally) -> Tally {
-    let mut t = first;
-    t = met(rt, t, Call::Step, 4, 0, ACCEPTED);
-    t = met(rt, t, Call::Step, 5, 0, 5);
-    t = met(rt, t, Call::Step, 6, 0, 6);
-    t = met(rt, t, Call::Step, 2, 5, 2);
-    t = met(rt, t, Call::Step, 2, 6, 2);
-    t = met(rt, t, Call::Step, 1, 5, 1);
-    t
-}
+// Step alone has idle and damage, and has not busy. Party meets damage in the root record. Party and idle do not meet,
+// as party and busy at begin, and the last case shows it likewise.
+const CAUSES_OF_STEP: [(Causes, Expected); 10] = [
+    ([Some(Busy), None], Ok(())),
+    ([Some(Idle), None], Err(Idle)),
+    ([Some(Damage), None], Err(Damage)),
+    ([Some(Size), Some(Idle)], Err(Size)),
+    ([Some(Size), Some(Damage)], Err(Size)),
+    ([Some(Length), Some(Idle)], Err(Length)),
+    ([Some(Length), Some(Damage)], Err(Length)),
+    ([Some(Party), Some(Damage)], Err(Party)),
+    ([Some(Idle), Some(Damage)], Err(Idle)),
+    ([Some(Party), Some(Idle)], Err(Party)),
+];
 
-// The others of step. 3 and 5 do not meet, as 3 and 4 at begin, and the last case shows it likewise.
-fn later_causes_of_step(rt: &impl Print, first: Tally) -> Tally {
-    let mut t = first;
-    t = met(rt, t, Call::Step, 1, 6, 1);
-    t = met(rt, t, Call::Step, 3, 6, 3);
-    t = met(rt, t, Call::Step, 5, 6, 5);
-    t = met(rt, t, Call::Step, 3, 5, 3);
-    t
-}
+// Withdraw has idle, decided and damage, "tested after 5 (the party is idle) and before 6", and has not busy; then with
+// those of every call. Party does not meet idle or decided: the records past those lent are not looked at.
+const CAUSES_OF_WITHDRAW: [(Causes, Expected); 16] = [
+    ([Some(Busy), None], Ok(())),
+    ([Some(Idle), None], Err(Idle)),
+    ([Some(Decided), None], Err(Decided)),
+    ([Some(Damage), None], Err(Damage)),
+    ([Some(Idle), Some(Decided)], Err(Idle)),
+    ([Some(Idle), Some(Damage)], Err(Idle)),
+    ([Some(Decided), Some(Damage)], Err(Decided)),
+    ([Some(Size), Some(Idle)], Err(Size)),
+    ([Some(Size), Some(Decided)], Err(Size)),
+    ([Some(Size), Some(Damage)], Err(Size)),
+    ([Some(Length), Some(Idle)], Err(Length)),
+    ([Some(Length), Some(Decided)], Err(Length)),
+    ([Some(Length), Some(Damage)], Err(Length)),
+    ([Some(Party), Some(Idle)], Err(Party)),
+    ([Some(Party), Some(Decided)], Err(Party)),
+    ([Some(Party), Some(Damage)], Err(Party)),
+];
 
-// Withdraw has 5, 7 and 6, "tested after 5 (the party is idle) and before 6", and has not 4.
-fn causes_of_withdraw(rt: &impl Print, first: Tally) -> Tally {
-    let mut t = first;
-    t = met(rt, t, Call::Withdraw, 4, 0, ACCEPTED);
-    t = met(rt, t, Call::Withdraw, 5, 0, 5);
-    t = met(rt, t, Call::Withdraw, 7, 0, 7);
-    t = met(rt, t, Call::Withdraw, 6, 0, 6);
-    t = met(rt, t, Call::Withdraw, 5, 7, 5);
-    t = met(rt, t, Call::Withdraw, 5, 6, 5);
-    t = met(rt, t, Call::Withdraw, 7, 6, 7);
-    t
-}
-
-// With those of every call. 3 does not meet 5 or 7: the records past those lent, which are idle or decided, are not
-// looked at.
-fn earlier_causes_of_withdraw(rt: &impl Print, first: Tally) -> Tally {
-    let mut t = first;
-    t = met(rt, t, Call::Withdraw, 2, 5, 2);
-    t = met(rt, t, Call::Withdraw, 2, 7, 2);
-    t = met(rt, t, Call::Withdraw, 2, 6, 2);
-    t = met(rt, t, Call::Withdraw, 1, 5, 1);
-    t = met(rt, t, Call::Withdraw, 1, 7, 1);
-    t = met(rt, t, Call::Withdraw, 1, 6, 1);
-    t = met(rt, t, Call::Withdraw, 3, 5, 3);
-    t = met(rt, t, Call::Withdraw, 3, 7, 3);
-    t = met(rt, t, Call::Withdraw, 3, 6, 3);
-    t
-}
-
-// Take-up has 8, "tested after 2 and 1"; without a cause a file at rest is taken up.
-fn causes_of_take_up(rt: &impl Print, first: Tally) -> Tally {
-    let mut t = first;
-    t = met(rt, t, Call::TakeUp, 0, 0, ACCEPTED);
-    t = met(rt, t, Call::TakeUp, 8, 0, 8);
-    t = met(rt, t, Call::TakeUp, 2, 8, 2);
-    t = met(rt, t, Call::TakeUp, 1, 8, 1);
-    t
-}
+// Take-up has unsaved, "tested after 2 and 1"; without a cause a file at rest is taken up.
+const CAUSES_OF_TAKE_UP: [(Causes, Expected); 4] = [
+    ([None, None], Ok(())),
+    ([Some(Unsaved), None], Err(Unsaved)),
+    ([Some(Size), Some(Unsaved)], Err(Size)),
+    ([Some(Length), Some(Unsaved)], Err(Length)),
+];
 
 // ---- The waiting row (change 7)
 
-// The three words of the row, and a cause that is met beside; 0 is no cause.
+// The three words of the row, and a cause that is met beside.
 fn lined(
     rt: &impl Print,
-    t: Tally,
+    t: &mut Tally,
     call: Call,
-    first: u32,
-    second: u32,
-    third: u32,
-    cause: u32,
-    expected: u32,
-) -> Tally {
-    let mut s = crate::scene::meeting(call, cause, 0);
-    s.waits = [first, second, third];
-    judged(
-        rt,
-        t,
-        call,
-        b"waiting row and cause",
-        &[first, second, third, cause],
-        s,
-        expected,
-    )
+    cases: &[([u32; 3], Option<Refusal>, Expected)],
+) {
+    for (waits, cause, expected) in cases {
+        let [first, second, third] = *waits;
+        let mut s = meeting(call, [*cause, None]);
+        s.waits = [first, second, third];
+        let numbers = [first, second, third, number(*cause)];
+        judged(rt, t, call, "waiting row and cause", &numbers, s, *expected);
+    }
 }
 
 // Party 2 calls. Sound rows, without it and with it; then "a word above Q, a repeat, a gap".
-fn rows_told(rt: &impl Print, first: Tally, call: Call) -> Tally {
-    let mut t = first;
-    t = lined(rt, t, call, 1, 2, 0, 0, ACCEPTED);
-    t = lined(rt, t, call, 1, 3, 2, 0, ACCEPTED);
-    t = lined(rt, t, call, 4, 0, 0, 0, 6);
-    t = lined(rt, t, call, 1, 4294967295, 0, 0, 6);
-    t = lined(rt, t, call, 1, 1, 0, 0, 6);
-    t = lined(rt, t, call, 3, 1, 3, 0, 6);
-    t = lined(rt, t, call, 0, 1, 0, 0, 6);
-    t = lined(rt, t, call, 1, 0, 2, 0, 6);
-    t
-}
+const ROWS_TOLD: [([u32; 3], Option<Refusal>, Expected); 8] = [
+    ([1, 2, 0], None, Ok(())),
+    ([1, 3, 2], None, Ok(())),
+    ([4, 0, 0], None, Err(Damage)),
+    ([1, 4294967295, 0], None, Err(Damage)),
+    ([1, 1, 0], None, Err(Damage)),
+    ([3, 1, 3], None, Err(Damage)),
+    ([0, 1, 0], None, Err(Damage)),
+    ([1, 0, 2], None, Err(Damage)),
+];
 
 // The row is the last that is tested.
-fn causes_before_the_row(rt: &impl Print, first: Tally, call: Call) -> Tally {
-    let mut t = first;
-    t = lined(rt, t, call, 4, 0, 0, 2, 2);
-    t = lined(rt, t, call, 4, 0, 0, 1, 1);
-    t = lined(rt, t, call, 4, 0, 0, 3, 3);
-    t = lined(rt, t, call, 4, 0, 0, 5, 5);
-    t
-}
+const BEFORE_THE_ROW: [([u32; 3], Option<Refusal>, Expected); 4] = [
+    ([4, 0, 0], Some(Size), Err(Size)),
+    ([4, 0, 0], Some(Length), Err(Length)),
+    ([4, 0, 0], Some(Party), Err(Party)),
+    ([4, 0, 0], Some(Idle), Err(Idle)),
+];
 
-// Party 2 steps, and every record is about to make this step of this operation.
-fn steps_by(
-    rt: &impl Print,
-    t: Tally,
-    operation: u32,
-    step: u32,
-    first: u32,
-    second: u32,
-    expected: u32,
-) -> Tally {
-    let mut s = crate::scene::meeting(Call::Step, 0, 0);
-    s.record = crate::scene::about_to(operation, step, model::NO_ANSWER);
-    s.waits = [first, second, 0];
-    judged(
-        rt,
-        t,
-        Call::Step,
-        b"operation, step and waiting row",
-        &[operation, step, first, second, 0],
-        s,
-        expected,
-    )
+const DECIDED_BEFORE_THE_ROW: [([u32; 3], Option<Refusal>, Expected); 1] = [(
+    [4, 0, 0],
+    Some(Decided),
+    Err(Decided),
+)];
+
+// Format zeroes the row, and begin leaves it; neither tests it for damage.
+const ROWS_UNTOLD: [([u32; 3], Option<Refusal>, Expected); 1] = [([4, 1, 1], None, Ok(()))];
+
+// Take-up wants it zero.
+const ROWS_SAVED: [([u32; 3], Option<Refusal>, Expected); 4] = [
+    ([1, 0, 0], None, Err(Unsaved)),
+    ([0, 0, 4], None, Err(Unsaved)),
+    ([1, 0, 0], Some(Size), Err(Size)),
+    ([1, 0, 0], Some(Length), Err(Length)),
+];
+
+// Party 2 steps, and every record is about to make this step of this operation; then the words of the waiting row.
+fn requests(rt: &impl Print, t: &mut Tally, cases: &[([u32; 5], Expected)]) {
+    for (numbers, expected) in cases {
+        let [operation, step, first, second, third] = *numbers;
+        let mut s = meeting(Call::Step, [None, None]);
+        s.record = about_to(operation, step, model::NO_ANSWER);
+        s.waits = [first, second, third];
+        judged(
+            rt,
+            t,
+            Call::Step,
+            "operation, step and waiting row",
+            numbers,
+            s,
+            *expected,
+        );
+    }
 }
 
 // "a party whose next step requests no lock": 2 requests none. 4 requests the chain: read for a find, which passes one
 // that waits; selective otherwise, and then the party joins behind it, or leaves the row as the first.
-fn requests(rt: &impl Print, first: Tally) -> Tally {
-    let mut t = first;
-    t = steps_by(rt, t, model::FIND, 2, 0, 0, ACCEPTED);
-    t = steps_by(rt, t, model::FIND, 2, 1, 0, 6);
-    t = steps_by(rt, t, model::FIND, 2, 3, 0, 6);
-    t = steps_by(rt, t, model::FIND, 4, 1, 0, ACCEPTED);
-    t = steps_by(rt, t, model::INSERT, 4, 1, 0, ACCEPTED);
-    t = steps_by(rt, t, model::INSERT, 4, 3, 1, ACCEPTED);
-    t
-}
-
-// The others do not test the row for damage: format zeroes it, begin leaves it, and take-up wants it zero (8).
-fn rows_untold(rt: &impl Print, first: Tally) -> Tally {
-    let mut t = first;
-    t = lined(rt, t, Call::Format, 4, 1, 1, 0, ACCEPTED);
-    t = lined(rt, t, Call::Begin, 4, 1, 1, 0, ACCEPTED);
-    t = lined(rt, t, Call::TakeUp, 1, 0, 0, 0, 8);
-    t = lined(rt, t, Call::TakeUp, 0, 0, 4, 0, 8);
-    t = lined(rt, t, Call::TakeUp, 1, 0, 0, 2, 2);
-    t = lined(rt, t, Call::TakeUp, 1, 0, 0, 1, 1);
-    t
-}
+const REQUESTS: [([u32; 5], Expected); 6] = [
+    ([model::FIND, 2, 0, 0, 0], Ok(())),
+    ([model::FIND, 2, 1, 0, 0], Err(Damage)),
+    ([model::FIND, 2, 3, 0, 0], Err(Damage)),
+    ([model::FIND, 4, 1, 0, 0], Ok(())),
+    ([model::INSERT, 4, 1, 0, 0], Ok(())),
+    ([model::INSERT, 4, 3, 1, 0], Ok(())),
+];
 
 // ---- All of it
 
-fn cases_of_all(rt: &impl Print, first: Tally, call: Call) -> Tally {
-    let mut t = first;
-    t = sizes_within(rt, t, call);
-    t = sizes_outside(rt, t, call);
-    t = lengths(rt, t, call);
-    t = causes_of_all(rt, t, call);
-    t
-}
+const ALL: [Call; 5] = [
+    Call::Format,
+    Call::Begin,
+    Call::Step,
+    Call::Withdraw,
+    Call::TakeUp,
+];
+
+// The calls that a party makes, and those of them that look at who waits.
+const BY_PARTIES: [Call; 3] = [Call::Begin, Call::Step, Call::Withdraw];
+
+const IN_THE_ROW: [Call; 2] = [Call::Step, Call::Withdraw];
 
 fn main(rt: HostRuntime) {
     let mut t = Tally { cases: 0, wrong: 0 };
-    t = cases_of_all(&rt, t, Call::Format);
-    t = cases_of_all(&rt, t, Call::Begin);
-    t = cases_of_all(&rt, t, Call::Step);
-    t = cases_of_all(&rt, t, Call::Withdraw);
-    t = cases_of_all(&rt, t, Call::TakeUp);
-    t = parties(&rt, t, Call::Begin);
-    t = parties(&rt, t, Call::Step);
-    t = parties(&rt, t, Call::Withdraw);
-    t = causes_of_parties(&rt, t, Call::Begin);
-    t = causes_of_parties(&rt, t, Call::Step);
-    t = causes_of_parties(&rt, t, Call::Withdraw);
-    t = causes_of_begin(&rt, t);
-    t = causes_of_step(&rt, t);
-    t = later_causes_of_step(&rt, t);
-    t = causes_of_withdraw(&rt, t);
-    t = earlier_causes_of_withdraw(&rt, t);
-    t = causes_of_take_up(&rt, t);
-    t = rows_told(&rt, t, Call::Step);
-    t = rows_told(&rt, t, Call::Withdraw);
-    t = causes_before_the_row(&rt, t, Call::Step);
-    t = causes_before_the_row(&rt, t, Call::Withdraw);
-    t = lined(&rt, t, Call::Withdraw, 4, 0, 0, 7, 7);
-    t = requests(&rt, t);
-    t = rows_untold(&rt, t);
-    say_number(&rt, b"", t.cases);
-    say_number(&rt, b" cases, ", t.wrong);
-    say(&rt, b" wrong\n");
+    for call in ALL {
+        sized(&rt, &mut t, call, &SIZES_WITHIN);
+        sized(&rt, &mut t, call, &SIZES_OUTSIDE);
+        lent(&rt, &mut t, call, &LENGTHS);
+        met(&rt, &mut t, call, &CAUSES_OF_ALL);
+    }
+    for call in BY_PARTIES {
+        sized(&rt, &mut t, call, &PARTIES);
+    }
+    for call in BY_PARTIES {
+        met(&rt, &mut t, call, &CAUSES_OF_PARTIES);
+    }
+    met(&rt, &mut t, Call::Begin, &CAUSES_OF_BEGIN);
+    met(&rt, &mut t, Call::Step, &CAUSES_OF_STEP);
+    met(&rt, &mut t, Call::Withdraw, &CAUSES_OF_WITHDRAW);
+    met(&rt, &mut t, Call::TakeUp, &CAUSES_OF_TAKE_UP);
+    for call in IN_THE_ROW {
+        lined(&rt, &mut t, call, &ROWS_TOLD);
+    }
+    for call in IN_THE_ROW {
+        lined(&rt, &mut t, call, &BEFORE_THE_ROW);
+    }
+    lined(&rt, &mut t, Call::Withdraw, &DECIDED_BEFORE_THE_ROW);
+    requests(&rt, &mut t, &REQUESTS);
+    lined(&rt, &mut t, Call::Format, &ROWS_UNTOLD);
+    lined(&rt, &mut t, Call::Begin, &ROWS_UNTOLD);
+    lined(&rt, &mut t, Call::TakeUp, &ROWS_SAVED);
+    let _ = println!(&rt; "{} cases, {} wrong", t.cases, t.wrong);
 }

@@ -2,15 +2,28 @@
 // Main functions: sound (memory of given sizes, on which the call can be made), meeting (memory in which two given
 // causes of refusal are met), about_to (a record before a step).
 
-use model::{FileSizes, Party, Root};
+use model::{FileSizes, Party, Refusal, Root};
+use std::fmt;
 
-#[derive(Clone, Copy)]
+#[derive(Clone, Copy, PartialEq, Eq)]
 pub enum Call {
     Format,
     Begin,
     Step,
     Withdraw,
     TakeUp,
+}
+
+impl fmt::Display for Call {
+    fn fmt<W: fmt::Write>(&self, f: &mut fmt::Formatter<W>) -> fmt::Result {
+        f.write_str(match self {
+            Call::Format => "format",
+            Call::Begin => "begin",
+            Call::Step => "step",
+            Call::Withdraw => "withdraw",
+            Call::TakeUp => "take-up",
+        })
+    }
 }
 
 // What a call is lent, and for whom: the root record, whose sizes format is given, the first Q records of a row in
@@ -28,34 +41,26 @@ pub struct Scene {
     pub rests: bool,
 }
 
-// N, b, P, V and Q.
-pub fn sizes(
-    originals: u32,
-    capacity: u32,
-    primaries: u32,
-    overflow: u32,
-    parties: u32,
-) -> FileSizes {
-    FileSizes {
+// A root record of the sizes N, b, P, V and Q.
+pub fn root_of(numbers: [u32; 5]) -> Root {
+    let [originals, capacity, primaries, overflow, parties] = numbers;
+    Root {
         originals,
         capacity,
         primaries,
         overflow,
         parties,
+        ..Root::default()
     }
 }
 
-fn root_of(z: FileSizes, free: u32) -> Root {
-    Root {
-        originals: z.originals,
-        capacity: z.capacity,
-        primaries: z.primaries,
-        overflow: z.overflow,
-        parties: z.parties,
-        level: 0,
-        next: 0,
-        head: 0,
-        free,
+pub fn sizes_of(root: Root) -> FileSizes {
+    FileSizes {
+        originals: root.originals,
+        capacity: root.capacity,
+        primaries: root.primaries,
+        overflow: root.overflow,
+        parties: root.parties,
     }
 }
 
@@ -70,77 +75,75 @@ pub fn about_to(operation: u32, step: u32, answer: u32) -> Party {
         operation,
         key: 7,
         step,
-        lev: 0,
-        chain: 0,
-        other: 0,
-        old: 0,
-        owed: 0,
         answer,
         setting: 5,
+        ..Party::default()
     }
 }
 
 // The operation of a record with which its party can make the call.
 fn operation_for(call: Call) -> u32 {
     match call {
-        Call::Format => model::FIND,
-        Call::Begin => model::IDLE,
-        Call::Step => model::FIND,
+        Call::Begin | Call::TakeUp => model::IDLE,
+        Call::Format | Call::Step => model::FIND,
         Call::Withdraw => model::INSERT,
-        Call::TakeUp => model::IDLE,
     }
 }
 
 // Memory of the lengths that these sizes ask for, on which every party can make the call.
-pub fn sound(call: Call, z: FileSizes, party: u32) -> Scene {
-    let record = about_to(operation_for(call), FIRST, model::NO_ANSWER);
-    let root = root_of(z, 0);
+pub fn sound(call: Call, root: Root, party: u32) -> Scene {
+    let pages = root.primaries as usize + root.overflow as usize + root.parties as usize;
     Scene {
         root,
-        record,
-        lock_words: z.primaries as usize + 1,
-        page_words: 16 * (z.primaries as usize + z.overflow as usize + z.parties as usize),
-        waiting_words: z.parties as usize,
-        waits: [0, 0, 0],
+        record: about_to(operation_for(call), FIRST, model::NO_ANSWER),
+        lock_words: root.primaries as usize + 1,
+        page_words: model::PAGE_WORDS * pages,
+        waiting_words: root.parties as usize,
+        waits: [0; 3],
         party,
         rests: true,
     }
 }
 
-// `met` where the cause is one of the two, else `unmet`.
-fn pick(earlier: u32, later: u32, cause: u32, met: u32, unmet: u32) -> u32 {
-    if earlier == cause {
-        return met;
-    }
-    if later == cause {
-        return met;
-    }
-    unmet
+// The usual sizes: N 2, b 3, P 5, V 4, Q 3, so 6 lock words, 192 page words and 3 words of the waiting row.
+pub const USUAL: [u32; 5] = [2, 3, 5, 4, 3];
+
+// Two causes of refusal, or one, or none.
+pub type Causes = [Option<Refusal>; 2];
+
+fn meets(causes: Causes, cause: Refusal) -> bool {
+    causes.contains(&Some(cause))
 }
 
-// Memory of the usual sizes (N 2, b 3, P 5, V 4, Q 3: 6 lock words, 192 page words, 3 words of the waiting row) in
-// which the causes of these numbers are met, and no other; 0 is no cause.
-// 2: b is 7. 1: a lock word too few. 3: party Q. 4 and 5: every record is busy, or idle. 7: every record is past a
-// decisive step. 6: the free count is above V. 8: every record is idle, and none of them zero.
-pub fn meeting(call: Call, earlier: u32, later: u32) -> Scene {
-    let lock_words = pick(earlier, later, 1, 5, 6) as usize;
-    let capacity = pick(earlier, later, 2, 7, 3);
-    let party = pick(earlier, later, 3, 3, 2);
-    let free = pick(earlier, later, 6, 5, 0);
-    let busy = pick(earlier, later, 4, model::INSERT, operation_for(call));
-    let operation = pick(earlier, later, 5, model::IDLE, busy);
-    let step = pick(earlier, later, 7, DECIDED, FIRST);
-    let answer = pick(earlier, later, 7, model::INSERTED, model::NO_ANSWER);
-    let root = root_of(sizes(2, capacity, 5, 4, 3), free);
-    let record = about_to(operation, step, answer);
-    Scene {
-        root,
-        record,
-        lock_words,
-        page_words: 192,
-        waiting_words: 3,
-        waits: [0, 0, 0],
-        party,
-        rests: pick(earlier, later, 8, 0, 1) == 1,
+// Memory of the usual sizes in which these causes are met, and no other. Size: b is 7. Length: a lock word too few.
+// Party: party Q. Busy and idle: every record is. Decided: every record is past a decisive step. Damage: the free count
+// is above V. Unsaved: every record is idle, and none of them zero.
+pub fn meeting(call: Call, causes: Causes) -> Scene {
+    let mut s = sound(call, root_of(USUAL), 2);
+    if meets(causes, Refusal::Size) {
+        s.root.capacity = 7;
     }
+    if meets(causes, Refusal::Length) {
+        s.lock_words = 5;
+    }
+    if meets(causes, Refusal::Party) {
+        s.party = 3;
+    }
+    if meets(causes, Refusal::Busy) {
+        s.record.operation = model::INSERT;
+    }
+    if meets(causes, Refusal::Idle) {
+        s.record.operation = model::IDLE;
+    }
+    if meets(causes, Refusal::Decided) {
+        s.record.step = DECIDED;
+        s.record.answer = model::INSERTED;
+    }
+    if meets(causes, Refusal::Damage) {
+        s.root.free = 5;
+    }
+    if meets(causes, Refusal::Unsaved) {
+        s.rests = false;
+    }
+    s
 }

@@ -4,10 +4,12 @@
 // came; compared counts it.
 
 ghost use Rattle.std.specs.Prelude.{◌≡◌};
+ghost use Rattle.model.specs.Answers.{refusal_number};
 ghost use Rattle.cases.specs.Verdict as Verdict;
 
-use crate::made::{ACCEPTED, Came};
+use crate::made::Came;
 use crate::scene::{Call, Scene};
+use model::Refusal;
 
 #[derive(Clone, Copy)]
 pub struct Tally {
@@ -15,89 +17,67 @@ pub struct Tally {
     pub wrong: u32,
 }
 
-pub fn say(rt: &impl Print, text: &[u8]) {
-    let _ = rt.write_all(text);
-}
-
-// The text, and the number after it.
-pub fn say_number(rt: &impl Print, text: &[u8], n: u32) {
-    let _ = rt.write_all(text);
-    let _ = rt.print(n);
-}
-
 // What the case is: the call, the text, and the numbers.
-fn say_case(rt: &impl Print, call: Call, text: &[u8], numbers: &[u32]) {
-    say_call(rt, call);
-    say(rt, text);
-    let mut i: usize = 0;
-    while i < numbers.len() {
-        say_number(rt, b" ", numbers[i]);
-        i += 1;
-    }
-}
-
-fn say_call(rt: &impl Print, call: Call) {
-    match call {
-        Call::Format => say(rt, b"format, "),
-        Call::Begin => say(rt, b"begin, "),
-        Call::Step => say(rt, b"step, "),
-        Call::Withdraw => say(rt, b"withdraw, "),
-        Call::TakeUp => say(rt, b"take-up, "),
+fn say_case(rt: &impl Print, call: Call, text: &str, numbers: &[u32]) {
+    let _ = print!(rt; "{call}, {text}");
+    for number in numbers {
+        let _ = print!(rt; " {number}");
     }
 }
 
 fn say_came(rt: &impl Print, came: Came) {
-    if came.refusal == ACCEPTED {
-        say(rt, b": accepted");
-    } else {
-        say_number(rt, b": refused ", came.refusal);
-    }
-    say_number(rt, b", words altered ", came.altered);
+    let _ = match came.answer {
+        Ok(()) => print!(rt; ": accepted"),
+        Err(_) => print!(rt; ": refused {}", index::refusal_number(came.answer)),
+    };
+    let _ = print!(rt; ", words altered {}", came.altered);
 }
 
 // Whether a call that is accepted alters something: take-up tests the file, and alters nothing.
+#[tactic(auto, unfolding(crate::specs::Verdict::alters))]
 fn alters(call: Call) -> bool
     ensures { result ≡ Verdict.alters call }
 {
-    match call {
-        Call::Format => true,
-        Call::Begin => true,
-        Call::Step => true,
-        Call::Withdraw => true,
-        Call::TakeUp => false,
-    }
+    call != Call::TakeUp
 }
 
 // The answer is the one expected; a refused call alters nothing, and an accepted one something where its call does.
-fn is_right(call: Call, came: Came, expected: u32) -> bool
+fn is_right(call: Call, came: Came, expected: Result<(), Refusal>) -> bool
     ensures { result ≡ Verdict.is_right call came expected }
 {
-    if came.refusal != expected {
+    if index::refusal_number(came.answer) != index::refusal_number(expected) {
         return false;
     }
-    if expected == ACCEPTED {
-        return (came.altered != 0) == alters(call);
+    match expected {
+        Ok(()) => (came.altered != 0) == alters(call),
+        Err(_) => came.altered == 0,
     }
-    came.altered == 0
 }
 
+#[tactic(auto, unfolding(crate::specs::Verdict::counted))]
 fn counted(t: Tally, wrong: u32) -> Tally
     ensures { result ≡ Verdict.counted t wrong }
 {
     Tally {
-        cases: std::num::wrapping_add_u32(t.cases, 1),
-        wrong: std::num::wrapping_add_u32(t.wrong, wrong),
+        cases: t.cases.wrapping_add(1),
+        wrong: t.wrong.wrapping_add(wrong),
     }
 }
 
 // Writes the verdict of what came: this text and no other.
-fn say_verdict(rt: &impl Print, text: &[u8], call: Call, came: Came, expected: u32)
+fn say_verdict(rt: &impl Print, text: &[u8], call: Call, came: Came, expected: Result<(), Refusal>)
     requires { text.now ≡ Verdict.verdict (Verdict.is_right call came expected) }
 {
-    say(rt, text);
+    let _ = rt.write_all(text);
 }
 
-fn compared(rt: &impl Print, t: Tally, call: Call, came: Came, expected: u32) -> Tally
+fn compared(
+    rt: &impl Print,
+    t: Tally,
+    call: Call,
+    came: Came,
+    expected: Result<(), Refusal>,
+) -> Tally
     ensures { result ≡ Verdict.tallied t (Verdict.is_right call came expected) }
 {
     if is_right(call, came, expected) {
@@ -111,15 +91,15 @@ fn compared(rt: &impl Print, t: Tally, call: Call, came: Came, expected: u32) ->
 // The text and the numbers say what the case is.
 pub fn judged(
     rt: &impl Print,
-    t: Tally,
+    t: &mut Tally,
     call: Call,
-    text: &[u8],
+    text: &str,
     numbers: &[u32],
     s: Scene,
-    expected: u32,
-) -> Tally {
+    expected: Result<(), Refusal>,
+) {
     say_case(rt, call, text, numbers);
     let came = crate::made::came_of(call, s);
     say_came(rt, came);
-    compared(rt, t, call, came, expected)
+    *t = compared(rt, *t, call, came, expected);
 }

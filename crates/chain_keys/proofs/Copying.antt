@@ -1,31 +1,17 @@
--- A page's record words copied into the buffer, one after the other.
--- Main statements: word_copied (one turn), records_copied (the end).
+-- A page's record words copied into the buffer.
+-- Main statement: records_copied.
 use mathlib.Core.Path.{◌≡◌, sym, ap, ◌∙◌}
-use mathlib.Core.List.{List, [], ◌∷◌, ◌++◌, append_assoc}
-use Prim.Native.Nat.{ℕ, ◌+◌, ◌*◌, ◌≤◌, ◌<◌}
-use native.Mathlib.Numerals.{add-one}
+use mathlib.Core.List.{List, ◌++◌}
+use Prim.Native.Nat.{ℕ, ◌+◌, ◌*◌, ◌≤◌}
 use native.Mathlib.Omega.{arith}
-use lib.ListN.{length, get_or, set, take, drop, length-drop}
-use lib.Seq.{length-take-le, get_or-drop, take-append-add, take-suc, take-suc-set, take-take}
+use lib.ListN.{length, take, drop}
+use lib.Seq.{length-take-le, take-append-add, take-take}
 use Rattle.model.specs.declared.Entry.{Entry}
 use Rattle.model.specs.Sizes.{record_words}
 use Rattle.model.specs.Pages.{count_of, records_in, entries_of}
 use Rattle.model.proofs.Laws.RecordWords.{records_take, records_append}
 
 module _ (words₀ words w : List ℕ) (at i : ℕ) (copied : take (at + i) words ≡ take at words₀ ++ take i (drop 3 w)) where
-  -- Record word i of the page goes to at + i.
-  pub word_copied : at + i < length words → 3 + i < length w → take (at + (i + 1)) (set words (at + i) (get_or w (3 + i) 0)) ≡ take at words₀ ++ take (i + 1) (drop 3 w)
-  word_copied h k =
-      let x = get_or w (3 + i) 0 in
-      let q : at + (i + 1) ≡ at + i + 1 = omega arith in
-      let left : i < length (drop 3 w) = rw length-drop (omega arith) in
-      let next : take i (drop 3 w) ++ (x ∷ []) ≡ take (i + 1) (drop 3 w) = rw (add-one, ← get_or-drop 3 w i 0) (sym (take-suc (drop 3 w) i 0 left)) in
-      ap (λ (n : ℕ). take n (set words (at + i) x)) q
-      ∙ rw add-one (take-suc-set words (at + i) x h)
-      ∙ ap (λ (l : List ℕ). l ++ (x ∷ [])) copied
-      ∙ append_assoc (take at words₀) (take i (drop 3 w)) (x ∷ [])
-      ∙ ap (λ (l : List ℕ). take at words₀ ++ l) next
-
   -- The first n of the words copied.
   front_copied : (n : ℕ) → at ≤ length words₀ → n ≤ i → take (at + n) words ≡ take at words₀ ++ take n (drop 3 w)
   front_copied n h k =

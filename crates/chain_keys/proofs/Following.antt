@@ -1,5 +1,5 @@
 -- A chain's overflow pages walked, and then followed again to gather their records.
--- Main statements: unsound-damaged, sound-listed (what overflow_of is); Walks and walked_walks (pages that were walked can be followed, and have these records);
+-- Main statements: unsound_damaged, sound_listed (what overflow_of is); Walks and walked_walks (pages that were walked can be followed, and have these records);
 -- entries_next, page_gathered (one page more), all_gathered (the end).
 use mathlib.Core.Path.{◌≡◌, refl, sym, ap, ◌∙◌}
 use mathlib.Core.Bool.{true, false}

@@ -1,7 +1,7 @@
 -- A chain whose pages were walked and whose records were gathered, over the model's chain_of.
--- Main statements: sound_ascends (the records of a chain looked through whole ascend); pages-bounded, unwalked-damaged; walked_chain (what chain_of is once the pages
--- were walked), pages_walked (how many they are); keys-fall-damaged, keys-ascend-gathered, keys-ascend-in-front (what gather answers and leaves); Whole, gathered_damaged, gathered-whole
--- (what its caller learns); front-is (a chain gathered, as the front of its buffer is lent).
+-- Main statements: sound_ascends (the records of a chain looked through whole ascend); pages_bounded, unwalked_damaged; walked_chain (what chain_of is once the pages
+-- were walked), pages_walked (how many they are); keys_fall_damaged, keys_ascend_gathered, keys_ascend_in_front (what gather answers and leaves); Whole, gathered_damaged, gathered-whole
+-- (what its caller learns); front_is (a chain gathered, as the front of its buffer is lent).
 use mathlib.Core.Path.{◌≡◌, refl, sym, ap, ◌∙◌}
 use mathlib.Core.Bool.{Bool, true, false, cond}
 use mathlib.Core.List.{List, ◌∷◌, ◌++◌}
@@ -9,6 +9,8 @@ use Prim.Native.Nat.{ℕ, ◌-◌, ◌*◌, ◌≤◌}
 use native.Mathlib.Omega.{arith}
 use lib.ListN.{length, take, length-take}
 use lib.Seq.{length-take-le}
+use Rattle.std.specs.Prelude.{Result, Ok, Err}
+use Rattle.model.specs.declared.Damaged.{Damaged}
 use Rattle.model.specs.declared.Root.{Root}
 use Rattle.model.specs.declared.Entry.{Entry}
 use Rattle.model.specs.Sizes.{most_records, record_words}
@@ -18,10 +20,9 @@ use Rattle.model.specs.Chains.{Checked, damaged, sound, sound_if, and_then, Chai
 use Rattle.model.proofs.Laws.RecordWords.{length_records, records_front}
 use Rattle.model.proofs.Laws.Walks.{walked_chained, chain_reads}
 use Rattle.chains.specs.Walks.{counted}
-use Rattle.chains.specs.declared.Walked.TheVariants as Walked
+use Rattle.chains.proofs.Answered.{answered_damaged, answered_sound}
 use Rattle.model.proofs.Laws.Tests.{sound_page_links, sound_page_counts}
 use Rattle.chain_keys.specs.declared.Front.{Front}
-use Rattle.chain_keys.specs.declared.Gathered.{Gathered}
 use Rattle.chain_keys.specs.Gathering.{overflow_of, CanGather, Followed, entries_from, front_of, gathered, in_front, entries_in}
 use Rattle.chain_keys.proofs.Following.{walked_walks}
 
@@ -32,23 +33,24 @@ sound_ascends r ps c d e = (chain_reads r ps c d e).ascends
 
 module _ (r : Root) (ps : List ℕ) (c : ℕ) where
   -- It has at most V overflow pages.
-  pub pages_bounded : (n : ℕ) → counted (overflow_of r ps c) ≡ Walked.Pages n → n ≤ r.overflow
+  pub pages_bounded : (n : ℕ) → counted (overflow_of r ps c) ≡ Ok n → n ≤ r.overflow
   unfolding overflow_of list_from
-  pages_bounded n e = go (page_sound r (page_of ps c)) (list_from r ps (link_of (page_of ps c))) refl e
+  pages_bounded n e = go (page_sound r (page_of ps c)) refl e
     where
-      go : (b : Bool) (x : Checked (List ℕ)) → x ≡ list_from r ps (link_of (page_of ps c)) → counted (cond b x damaged) ≡ Walked.Pages n → n ≤ r.overflow
-      go true damaged ex e = absurd (let z : ◌≡◌ {A = ℕ} 0 1 = cc in omega arith)
-      go true (sound xs) ex e = let q : length xs ≡ n = cc in omega (arith, (walked_chained r ps r.overflow (link_of (page_of ps c)) xs (sym ex)).1)
-      go false x ex e = absurd (let z : ◌≡◌ {A = ℕ} 0 1 = cc in omega arith)
+      go : (b : Bool) → b ≡ page_sound r (page_of ps c) → counted (cond b (list_from r ps (link_of (page_of ps c))) damaged) ≡ Ok n → n ≤ r.overflow
+      go true eb e =
+          let read = answered_sound length (list_from r ps (link_of (page_of ps c))) (sym e) in
+          omega (arith, read.answer, (walked_chained r ps r.overflow (link_of (page_of ps c)) read.value read.is_sound).1)
+      go false eb e = cc
 
-  pub unwalked_damaged : counted (overflow_of r ps c) ≡ Walked.Damaged → chain_of r ps c ≡ damaged
+  pub unwalked_damaged : {e : Damaged} → Err e ≡ counted (overflow_of r ps c) → chain_of r ps c ≡ damaged
   unfolding overflow_of chain_of
-  unwalked_damaged e = go (page_sound r (page_of ps c)) (list_from r ps (link_of (page_of ps c))) e
+  unwalked_damaged e = go (page_sound r (page_of ps c)) e
     where
-      go : (b : Bool) (x : Checked (List ℕ)) → counted (cond b x damaged) ≡ Walked.Damaged → cond b (and_then x (λ xs. ascending_chain (read_chain ps c xs))) damaged ≡ damaged
-      go true damaged e = refl
-      go true (sound xs) e = absurd (let z : ◌≡◌ {A = ℕ} 0 1 = cc in omega arith)
-      go false x e = refl
+      go : (b : Bool) → {e : Damaged} → Err e ≡ counted (cond b (list_from r ps (link_of (page_of ps c))) damaged)
+          → cond b (and_then (list_from r ps (link_of (page_of ps c))) (λ xs. ascending_chain (read_chain ps c xs))) damaged ≡ damaged
+      go true e = rw (answered_damaged length (list_from r ps (link_of (page_of ps c))) e) refl
+      go false e = refl
 
 -- The overflow pages of chain c are xs, n of them; its records ascend or not.
 pub record Passed (r : Root) (ps : List ℕ) (c n : ℕ) : Type 0 where
@@ -66,8 +68,8 @@ walked_chain r ps c n room can = go (page_sound r w) refl can.walked
     w : List ℕ
     w = page_of ps c
 
-    pages : page_sound r w ≡ true → (x : Checked (List ℕ)) → x ≡ list_from r ps (link_of w) → counted x ≡ Walked.Pages n → Passed r ps c n
-    pages good damaged ex e = absurd (let z : ◌≡◌ {A = ℕ} 0 1 = cc in omega arith)
+    pages : page_sound r w ≡ true → (x : Checked (List ℕ)) → x ≡ list_from r ps (link_of w) → counted x ≡ Ok n → Passed r ps c n
+    pages good damaged ex e = cc
     pages good (sound xs) ex e =
         let walks = walked_walks r ps can.keys_fit can.can_walk.pages_fit r.overflow (link_of w) xs (sound_page_links r w good) (sym ex) in
         let many : length xs ≡ n = cc in
@@ -80,9 +82,9 @@ walked_chain r ps c n room can = go (page_sound r w) refl can.walked
           chain_is = rw (good, ← ex) refl;
         }
 
-    go : (b : Bool) → b ≡ page_sound r w → counted (cond b (list_from r ps (link_of w)) damaged) ≡ Walked.Pages n → Passed r ps c n
+    go : (b : Bool) → b ≡ page_sound r w → counted (cond b (list_from r ps (link_of w)) damaged) ≡ Ok n → Passed r ps c n
     go true eb e = pages (sym eb) (list_from r ps (link_of w)) refl e
-    go false eb e = absurd (let z : ◌≡◌ {A = ℕ} 0 1 = cc in omega arith)
+    go false eb e = cc
 
 -- As many overflow pages as the chain has were walked.
 pub pages_walked : (r : Root) (ps : List ℕ) (c n : ℕ) (d : Chain) → Passed r ps c n → chain_of r ps c ≡ sound d → n ≡ length d.pages
@@ -91,7 +93,7 @@ pages_walked r ps c n d passed e = go (ascending (entries_on ps (c ∷ passed.xs
   where
     go : (b : Bool) → sound_if b (read_chain ps c passed.xs) ≡ sound d → n ≡ length d.pages
     go true e = let q : read_chain ps c passed.xs ≡ d = cc in sym passed.many ∙ ap (λ (x : Chain). length x.pages) q
-    go false e = absurd (let z : ◌≡◌ {A = ℕ} 0 1 = cc in omega arith)
+    go false e = cc
 
 -- ---- A chain whose records were gathered, m of them
 
@@ -110,7 +112,7 @@ module _ (r : Root) (ps : List ℕ) (c n : ℕ) (passed : Passed r ps c n) (rs :
     keys_ascend_sound e = passed.chain_is ∙ rw (← entries_are, e) refl
 
     module _ (e : ascending (take m rs) ≡ true) (fits : m ≤ length rs) {level link : ℕ} (el : level ≡ level_of w) (ek : link ≡ link_of w) where
-      pub keys_ascend_gathered : Gathered.Sound (record { level = level; link = link; count = m }) ≡ gathered (chain_of r ps c)
+      pub keys_ascend_gathered : Ok (record { level = level; link = link; count = m }) ≡ gathered (chain_of r ps c)
       unfolding read_chain
       keys_ascend_gathered =
           let many : m ≡ length (entries_on ps (c ∷ passed.xs)) = sym (length-take-le m rs fits) ∙ ap length entries_are in
@@ -131,31 +133,28 @@ pub record Whole (x : Checked Chain) (n : ℕ) (g : Front) (words : List ℕ) : 
   pub fits : g.count * record_words ≤ length words
   pub entries : take g.count (records_in words) ≡ chain.entries
 
-pub gathered_damaged : (x : Checked Chain) {a : Gathered} → a ≡ gathered x → a ≡ Gathered.Damaged → x ≡ damaged
-gathered_damaged damaged e f = refl
-gathered_damaged (sound c) e f = absurd (let z : ◌≡◌ {A = ℕ} 0 1 = cc in omega arith)
+pub gathered_damaged : (x : Checked Chain) {a : Result Front Damaged} {e : Damaged} → a ≡ gathered x → a ≡ Err e → x ≡ damaged
+gathered_damaged x told f = answered_damaged front_of x (sym f ∙ told)
 
-pub gathered-whole : {r : Root} {ps : List ℕ} {c n room : ℕ} → CanGather r ps c n room → {a : Gathered} {g : Front} (words : List ℕ)
-    → (a ≡ gathered (chain_of r ps c)) × (in_front a words ≡ entries_in (chain_of r ps c)) → a ≡ Gathered.Sound g → Whole (chain_of r ps c) n g words
-gathered-whole {r} {ps} {c} {n} {room} can {a} {g} words told f = go (chain_of r ps c) (λ d e. pages_walked r ps c n d (walked_chain r ps c n room can) e) told.0 told.1
-  where
-    go : (x : Checked Chain) → ((d : Chain) → x ≡ sound d → n ≡ length d.pages) → a ≡ gathered x → in_front a words ≡ entries_in x → Whole x n g words
-    go damaged many e h = absurd (let z : ◌≡◌ {A = ℕ} 0 1 = cc in omega arith)
-    go (sound d) many e h =
-        let same : g ≡ front_of d = cc in
-        let kept : sound (take g.count (records_in words)) ≡ sound d.entries = ap (λ (y : Gathered). in_front y words) (sym f) ∙ h in
-        let count : g.count ≡ length d.entries = ap (λ (y : Front). y.count) same in
-        let entries : take g.count (records_in words) ≡ d.entries = cc in
-        record {
-          chain = d;
-          is_sound_ok = refl;
-          level = ap (λ (y : Front). y.level) same;
-          link = ap (λ (y : Front). y.link) same;
-          pages = many d refl;
-          count = count;
-          fits = omega (arith, length_records words, sym (length-take g.count (records_in words)) ∙ ap length entries ∙ sym count);
-          entries = entries;
-        }
+pub gathered-whole : {r : Root} {ps : List ℕ} {c n room : ℕ} → CanGather r ps c n room → {a : Result Front Damaged} {g : Front} (words : List ℕ)
+    → (a ≡ gathered (chain_of r ps c)) × (in_front a words ≡ entries_in (chain_of r ps c)) → a ≡ Ok g → Whole (chain_of r ps c) n g words
+gathered-whole {r} {ps} {c} {n} {room} can {a} {g} words told f =
+    let read = answered_sound front_of (chain_of r ps c) (sym f ∙ told.0) in
+    let d = read.value in
+    let kept : sound (take g.count (records_in words)) ≡ entries_in (chain_of r ps c) = ap (λ (y : Result Front Damaged). in_front y words) (sym f) ∙ told.1 in
+    let same : sound (take g.count (records_in words)) ≡ sound d.entries = kept ∙ ap entries_in read.is_sound in
+    let entries : take g.count (records_in words) ≡ d.entries = cc in
+    let count : g.count ≡ length d.entries = ap (λ (y : Front). y.count) (sym read.answer) in
+    record {
+      chain = d;
+      is_sound_ok = read.is_sound;
+      level = ap (λ (y : Front). y.level) (sym read.answer);
+      link = ap (λ (y : Front). y.link) (sym read.answer);
+      pages = pages_walked r ps c n d (walked_chain r ps c n room can) read.is_sound;
+      count = count;
+      fits = omega (arith, length_records words, sym (length-take g.count (records_in words)) ∙ ap length entries ∙ sym count);
+      entries = entries;
+    }
 
 -- A chain gathered, as the front of its buffer is lent.
 module _ {x : Checked Chain} {n : ℕ} (g : Front) (words : List ℕ) (whole : Whole x n g words) where

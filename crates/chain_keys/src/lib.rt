@@ -1,5 +1,7 @@
-// Bucket chains looked through whole (document 01, steps 10, 17 and 26): the pages are walked first, and then the records are gathered into a lent buffer of words.
-// Main statements: walk is the walk of a chain's overflow pages; gather is chain_of, for every memory in which the pages were walked.
+// Bucket chains looked through whole (document 01, steps 10, 17 and 26): the pages are walked first, and then the
+// records are gathered into a lent buffer of words.
+// Main statements: walk is the walk of a chain's overflow pages; gather is chain_of, for every memory in which the
+// pages were walked.
 
 #![tactic(auto)]
 
@@ -10,12 +12,16 @@ ghost use Rattle.model.specs.Chains.{chain_of};
 ghost use Rattle.chains.specs.Walks.{counted};
 ghost use Rattle.chain_keys.specs.Gathering.{overflow_of, CanWalk, CanGather, Followed, entries_from, gathered, in_front, entries_in};
 
-use chains::Walked;
-use model::{ChainAddress, FIRST_RECORD, MOST_RECORDS, Page, PageAddress, RECORD_WORDS, Root};
+use model::{
+    ChainAddress, Damaged, FIRST_RECORD, MOST_RECORDS, Page, PageAddress, RECORD_WORDS, Root,
+};
 
 // The most overflow pages of a chain that steps 10 and 17 gather in a small buffer: with the primary page's, 48
 // records, 96 words.
 pub const FEW: u32 = 7;
+
+// The record words of a page.
+const ALL_RECORDS: usize = MOST_RECORDS as usize * RECORD_WORDS;
 
 // A chain whose records stand at the front of a buffer: its local level, its link, and how many records it has.
 #[derive(Clone, Copy)]
@@ -25,71 +31,65 @@ pub struct Front {
     pub count: usize,
 }
 
-// What gathering came to: damage, or all records.
-#[derive(Clone, Copy)]
-pub enum Gathered {
-    Damaged,
-    Sound(Front),
-}
-
 // How many overflow pages the chain has: every page is tested, the primary page first.
-pub fn walk(root: Root, chain: ChainAddress, pages: &[u32]) -> Walked
+pub fn walk(root: Root, chain: ChainAddress, pages: &[u32]) -> Result<u32, Damaged>
     requires { CanWalk root pages.now chain.0 }
     ensures { result ≡ counted (overflow_of root pages.now chain.0) }
 {
     let w = pages::load(pages, PageAddress(chain.0));
-    if chains::page_sound(root, w) {
-        chains::count_pages(root, pages, chains::link_of(w))
-    } else {
-        Walked::Damaged
+    if !chains::page_sound(root, w) {
+        return Err(Damaged);
     }
+    chains::count_pages(root, pages, chains::link_of(w))
 }
 
-// A page's records go into the buffer, from record `at` on: where the next would go. All its record words are copied, and those past its records count for nothing.
+// A page's records go into the buffer, from record `at` on: where the next would go. All its record words are copied,
+// and those past its records count for nothing.
 fn copy_records(w: Page, words: &mut [u32], at: usize) -> usize
     requires { (count_of w ≤ most_records) × ((at + most_records) * record_words ≤ length words.old) }
     ensures { (result ≡ at + count_of w) × (take result (records_in words.new) ≡ take at (records_in words.old) ++ entries_of w) }
 {
-    let n = chains::count_of(w) as usize;
     let first = at * RECORD_WORDS;
-    let mut i = 0;
-    while i < MOST_RECORDS as usize * RECORD_WORDS {
-        words[first + i] = w[FIRST_RECORD + i];
-        i += 1;
-    }
-    at + n
+    words[first..first + ALL_RECORDS].copy_from_slice(&w[FIRST_RECORD..FIRST_RECORD + ALL_RECORDS]);
+    at + chains::count_of(w) as usize
 }
 
-// The records on the page `w` and on the n pages that its link leads to, one page after the other, at the front of the buffer: how many there are.
+// The records on the page `w` and on the n pages that its link leads to, one page after the other, at the front of the
+// buffer: how many there are.
 fn gather_records(w: Page, n: u32, pages: &[u32], words: &mut [u32]) -> usize
     requires { (count_of w ≤ most_records) × Followed pages.now n (link_of w) × (most_records * record_words * (n + 1) ≤ length words.old) }
     ensures { (result * record_words ≤ length words.old) × (take result (records_in words.new) ≡ entries_of w ++ entries_from pages.now n (link_of w)) }
 {
     let mut at = copy_records(w, words, 0);
     let mut l = chains::link_of(w);
-    let mut left = n;
-    while 0 < left {
+    for _ in 0..n {
         let page = pages::load(pages, PageAddress(l - 1));
         at = copy_records(page, words, at);
         l = chains::link_of(page);
-        left -= 1;
     }
     at
 }
 
-// The chain whose n overflow pages were walked, with its records at the front of the buffer; "keys that do not strictly ascend" are damage.
-pub fn gather(root: Root, chain: ChainAddress, n: u32, pages: &[u32], words: &mut [u32]) -> Gathered
+// The chain whose n overflow pages were walked, with its records at the front of the buffer; "keys that do not
+// strictly ascend" are damage.
+pub fn gather(
+    root: Root,
+    chain: ChainAddress,
+    n: u32,
+    pages: &[u32],
+    words: &mut [u32],
+) -> Result<Front, Damaged>
     requires { CanGather root pages.now chain.0 n (length words.old) }
     ensures { (result ≡ gathered (chain_of root pages.now chain.0)) × (in_front result words.new ≡ entries_in (chain_of root pages.now chain.0)) }
 {
     let w = pages::load(pages, PageAddress(chain.0));
     let count = gather_records(w, n, pages, words);
-    let end = count * RECORD_WORDS;
-    if entries::ascends(&words[0..end]) {
-        let level = chains::level_of(w);
-        let link = chains::link_of(w);
-        Gathered::Sound(Front { level, link, count })
-    } else {
-        Gathered::Damaged
+    if !entries::ascends(&words[..count * RECORD_WORDS]) {
+        return Err(Damaged);
     }
+    Ok(Front {
+        level: chains::level_of(w),
+        link: chains::link_of(w),
+        count,
+    })
 }

@@ -1,5 +1,5 @@
 -- A chain written page by page: the page made before the others are written is written after them.
--- Main statements: more-can, more-written (a page, and more records after it); rest-can, last_written (the last page, and the rest); rest_is, nothing_is, rest-kept (what the rest is);
+-- Main statements: more_can, more_written (a page, and more records after it); rest_can, last_written (the last page, and the rest); rest_is, nothing_is, rest_kept (what the rest is);
 -- two_written (a chain and the rest, in the order of a split).
 use mathlib.Core.Path.{◌≡◌, refl, sym, ap, ◌∙◌}
 use mathlib.Core.List.{List, ◌∷◌}
@@ -20,14 +20,13 @@ use Rattle.chains.proofs.Links.{NextPage, first_of_lem, leads_all}
 use Rattle.key_source.specs.declared.Source.{Source}
 use Rattle.key_source.specs.Sources.{Sits, CanChoose, chosen_of}
 use Rattle.chain_writer.specs.declared.Planned.{Planned}
-use Rattle.chain_writer.specs.declared.Rest.{Rest}
-use Rattle.chain_writer.specs.declared.Rest.TheVariants.{Nothing, Chain}
+use Rattle.std.specs.Prelude.{Option, None, Some}
 use Rattle.chain_writer.specs.Writing.{CanFill, chain_written, rest_written, all_written, CanPlace, CanPlaceRest, CanWrite}
 use Rattle.chain_writer.proofs.PagesApart.{filled_beside, filled_apart}
 
 -- ---- Lengths
 
-placed_length : (b : ℕ) (d : Planned) (l : ℕ) (ps : List ℕ) → b ≤ most_records → CanPlace b d l ps → length (rest_written b ps (Chain d) l) ≡ length ps
+placed_length : (b : ℕ) (d : Planned) (l : ℕ) (ps : List ℕ) → b ≤ most_records → CanPlace b d l ps → length (rest_written b ps (Some d) l) ≡ length ps
 unfolding rest_written chain_written
 placed_length b d l ps small can =
     let xs = linked_pages ps (overflow_needed b d.left) l in
@@ -35,10 +34,10 @@ placed_length b d l ps small can =
     let beside = length-overflow_written b small ps xs es (leads_all ps can.can_fill.leads) in
     length-with_page (overflow_written b ps xs es) d.to.0 (primary_of b d.level es xs) record { fits = rw beside can.page_fits } (length-primary_of b d.level es xs small) ∙ beside
 
-rest_length : (b : ℕ) (rest : Rest) (l : ℕ) (ps : List ℕ) → b ≤ most_records → CanPlaceRest b rest l ps → length (rest_written b ps rest l) ≡ length ps
+rest_length : (b : ℕ) (rest : Option Planned) (l : ℕ) (ps : List ℕ) → b ≤ most_records → CanPlaceRest b rest l ps → length (rest_written b ps rest l) ≡ length ps
 unfolding rest_written
-rest_length b Nothing l ps small can = refl
-rest_length b (Chain d) l ps small can = placed_length b d l ps small can
+rest_length b None l ps small can = refl
+rest_length b (Some d) l ps small can = placed_length b d l ps small can
 
 -- ---- A page, and more records after it
 
@@ -62,7 +61,7 @@ first_link_lem : (l : ℕ) (xs : List ℕ) → 1 ≤ l → link_to_first ((l - 1
 unfolding link_to_first
 first_link_lem l xs h = omega arith
 
-module _ (b : ℕ) (c : Planned) (l : ℕ) (rest : Rest) (ps : List ℕ) (can : CanWrite b c l rest ps) (more : b < c.left) where
+module _ (b : ℕ) (c : Planned) (l : ℕ) (rest : Option Planned) (ps : List ℕ) (can : CanWrite b c l rest ps) (more : b < c.left) where
   -- How many pages the records after the first b need beside the first of these.
   abbrev fewer : ℕ
   fewer = overflow_needed b (c.left - b)
@@ -122,7 +121,7 @@ module _ (b : ℕ) (c : Planned) (l : ℕ) (rest : Rest) (ps : List ℕ) (can : 
 
 -- ---- The last page, and the rest
 
-module _ (b : ℕ) (c : Planned) (l : ℕ) (rest : Rest) (ps : List ℕ) (can : CanWrite b c l rest ps) (few : c.left ≤ b) where
+module _ (b : ℕ) (c : Planned) (l : ℕ) (rest : Option Planned) (ps : List ℕ) (can : CanWrite b c l rest ps) (few : c.left ≤ b) where
   none_needed : overflow_needed b c.left ≡ 0
   none_needed = needed_few b c.left can.some_key few
 
@@ -133,7 +132,7 @@ module _ (b : ℕ) (c : Planned) (l : ℕ) (rest : Rest) (ps : List ℕ) (can : 
   pub rest_kept : length (rest_written b ps rest l) ≡ length ps
   rest_kept = rest_length b rest l ps can.keys_fit (rw rest_after at can.others)
 
-  pub rest_can : (d : Planned) → rest ≡ Chain d → CanWrite b d l Nothing ps
+  pub rest_can : (d : Planned) → rest ≡ Some d → CanWrite b d l None ps
   rest_can d e = record {
     some_key = can.some_key;
     keys_fit = can.keys_fit;
@@ -144,7 +143,7 @@ module _ (b : ℕ) (c : Planned) (l : ℕ) (rest : Rest) (ps : List ℕ) (can : 
       here : CanPlaceRest b rest l ps
       here = rw rest_after at can.others
 
-      go : CanPlaceRest b (Chain d) l ps
+      go : CanPlaceRest b (Some d) l ps
       go = rw e at here
 
   -- rest_written is open too: c's records are those of ps, not of what the rest leaves.
@@ -155,13 +154,14 @@ module _ (b : ℕ) (c : Planned) (l : ℕ) (rest : Rest) (ps : List ℕ) (can : 
       let all : take c.left es ≡ take b es = take_all c.left es (omega (arith, can.chain.many)) ∙ sym (take_all b es (omega (arith, can.chain.many, few))) in
       rw (rest_after, none_needed, page, written, all) refl
 
-pub rest_is : (b : ℕ) (ps : List ℕ) (d : Planned) (l : ℕ) (rest : Rest) → rest ≡ Chain d → all_written b d l Nothing ps ≡ rest_written b ps rest l
+pub rest_is : (b : ℕ) (ps : List ℕ) (d : Planned) (l : ℕ) (rest : Option Planned) → rest ≡ Some d → all_written b d l None ps ≡ rest_written b ps rest l
 unfolding rest_written
 rest_is b ps d l rest e = rw e refl
 
-pub nothing_is : (b : ℕ) (ps : List ℕ) (l : ℕ) (rest : Rest) → rest ≡ Nothing → ps ≡ rest_written b ps rest l
+pub nothing_is : (b : ℕ) (ps : List ℕ) (l : ℕ) (rest : Option Planned) → ((d : Planned) → rest ≡ Some d → ⊥) → ps ≡ rest_written b ps rest l
 unfolding rest_written
-nothing_is b ps l rest e = rw e refl
+nothing_is b ps l None h = refl
+nothing_is b ps l (Some d) h = absurd (h d refl)
 
 -- ---- Two chains, in the order of a split: the overflow pages xs of the one, the overflow pages ys of the other, their primary pages
 

@@ -1,5 +1,5 @@
 -- A page made of the next records, record by record. All the records of the source are `all`.
--- Main statements: none_put (the start), record-put and record-passed (a turn), page-made (the end).
+-- Main statements: none_put (the start), record_put and record_passed (a turn), page_made (the end).
 use mathlib.Core.Path.{◌≡◌, refl, sym, ap, ◌∙◌}
 use mathlib.Core.List.{List, ◌∷◌}
 use Prim.Native.Nat.{ℕ, ◌+◌, ◌*◌, ◌≤◌, ◌<◌}

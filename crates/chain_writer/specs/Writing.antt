@@ -11,8 +11,7 @@ use Rattle.chains.specs.Links.{linked_pages, link_after, LeadsApart}
 use Rattle.key_source.specs.declared.Source.{Source}
 use Rattle.key_source.specs.Sources.{Sits, CanChoose, chosen_of}
 use Rattle.chain_writer.specs.declared.Planned.{Planned}
-use Rattle.chain_writer.specs.declared.Rest.{Rest}
-use Rattle.chain_writer.specs.declared.Rest.TheVariants.{Nothing, Chain}
+use Rattle.std.specs.Prelude.{Option, None, Some}
 use Rattle.chain_writer.specs.declared.Filled.{Filled}
 
 -- Each of the k links from l on names a page of the memory, and no page comes twice.
@@ -35,12 +34,12 @@ unfoldable pub chain_written : ℕ → List ℕ → ℕ → ℕ → List Entry �
 chain_written b ps to level es xs = with_page (overflow_written b ps xs es) to (primary_of b level es xs)
 
 -- The memory with the rest written, to pages from link l on.
-unfoldable pub rest_written : ℕ → List ℕ → Rest → ℕ → List ℕ
-rest_written b ps Nothing l = ps
-rest_written b ps (Chain d) l = chain_written b ps d.to.0 d.level (chosen_of ps d.source) (linked_pages ps (overflow_needed b d.left) l)
+unfoldable pub rest_written : ℕ → List ℕ → Option Planned → ℕ → List ℕ
+rest_written b ps None l = ps
+rest_written b ps (Some d) l = chain_written b ps d.to.0 d.level (chosen_of ps d.source) (linked_pages ps (overflow_needed b d.left) l)
 
 -- The memory with the rest and then the chain c written, to pages from link l on: c's first, the rest's after them.
-abbrev pub all_written : ℕ → Planned → ℕ → Rest → List ℕ → List ℕ
+abbrev pub all_written : ℕ → Planned → ℕ → Option Planned → List ℕ → List ℕ
 all_written b c l rest ps =
     chain_written b (rest_written b ps rest (link_after ps (overflow_needed b c.left) l)) c.to.0 c.level (chosen_of ps c.source) (linked_pages ps (overflow_needed b c.left) l)
 
@@ -52,12 +51,12 @@ pub record CanPlace (b : ℕ) (c : Planned) (l : ℕ) (ps : List ℕ) : Type 0 w
   pub page_fits : c.to.0 * page_words + page_words ≤ length ps
   pub can_fill : CanFill ps (overflow_needed b c.left) l
 
-abbrev pub CanPlaceRest : ℕ → Rest → ℕ → List ℕ → Type 0
-CanPlaceRest b Nothing l ps = Unit {0}
-CanPlaceRest b (Chain d) l ps = CanPlace b d l ps
+abbrev pub CanPlaceRest : ℕ → Option Planned → ℕ → List ℕ → Type 0
+CanPlaceRest b None l ps = Unit {0}
+CanPlaceRest b (Some d) l ps = CanPlace b d l ps
 
 -- The chain c can be written to pages from link l on, and the rest to those after them.
-pub record CanWrite (b : ℕ) (c : Planned) (l : ℕ) (rest : Rest) (ps : List ℕ) : Type 0 where
+pub record CanWrite (b : ℕ) (c : Planned) (l : ℕ) (rest : Option Planned) (ps : List ℕ) : Type 0 where
   pub some_key : 1 ≤ b
   pub keys_fit : b ≤ most_records
   pub chain : CanPlace b c l ps

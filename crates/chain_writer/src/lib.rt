@@ -1,5 +1,6 @@
-// A new chain written without buffers (document 01, steps 10 and 17): each page is made on the way down and written on the way up,
-// so that everything is read before anything is written. A free page may also be a page of the chain that is read.
+// A new chain written without buffers (document 01, steps 10 and 17): each page is made on the way down and written
+// on the way up, so that everything is read before anything is written. A free page may also be a page of the chain
+// that is read.
 // Main statements: page_of is filled_page of the next records; write_chain is all_written, for every memory.
 
 #![tactic(auto)]
@@ -14,20 +15,14 @@ use model::{
     COUNT_WORD, FIRST_RECORD, LEVEL_WORD, LINK_WORD, PAGE_WORDS, Page, PageAddress, RECORD_WORDS,
 };
 
-// A chain to be written: its local level, how many records it gets, where they come from, and the page for its primary page.
+// A chain to be written: its local level, how many records it gets, where they come from, and the page for its primary
+// page.
 #[derive(Clone, Copy)]
 pub struct Planned {
     pub level: u32,
     pub left: u32,
     pub source: Source,
     pub to: PageAddress,
-}
-
-// What is written besides: nothing, or another chain.
-#[derive(Clone, Copy)]
-pub enum Rest {
-    Nothing,
-    Chain(Planned),
 }
 
 // A page made, and the source of the records after its own.
@@ -46,48 +41,39 @@ fn page_of(level: u32, n: u32, link: u32, s: Source, pages: &[u32]) -> Filled
     w[LEVEL_WORD] = level;
     w[COUNT_WORD] = n;
     w[LINK_WORD] = link;
-    let end = n as usize;
-    let mut t = s;
-    let mut i = 0;
-    while i < end {
-        let x = key_source::next(pages, t);
-        let e = x.entry;
-        w[FIRST_RECORD + i * RECORD_WORDS] = e.key;
-        w[FIRST_RECORD + i * RECORD_WORDS + 1] = e.setting;
-        t = x.source;
-        i += 1;
+    let mut source = s;
+    for i in 0..n as usize {
+        let next = key_source::next(pages, source);
+        w[FIRST_RECORD + i * RECORD_WORDS] = next.entry.key;
+        w[FIRST_RECORD + i * RECORD_WORDS + 1] = next.entry.setting;
+        source = next.source;
     }
-    Filled { w, source: t }
+    Filled { w, source }
 }
 
-// The chain c is written to its page and on to free pages, `free` the link to the first of these; after them the rest.
-pub fn write_chain(b: u32, c: Planned, free: u32, rest: Rest, pages: &mut [u32])
-    requires { CanWrite b c free rest pages.old }
-    ensures { pages.new ≡ all_written b c free rest pages.old }
+// The chain c is written to its page and on to free pages, `free` the link to the first of these; after them the
+// rest, where there is one. Both are lent, so that a turn of the recursion copies neither.
+pub fn write_chain(b: u32, c: &Planned, free: u32, rest: &Option<Planned>, pages: &mut [u32])
+    requires { CanWrite b c.now free rest.now pages.old }
+    ensures { pages.new ≡ all_written b c.now free rest.now pages.old }
 {
-    let s = c.source;
-    let to = c.to;
     if b < c.left {
-        let page = page_of(c.level, b, free, s, &pages[..]);
-        let w = page.w;
-        let others = page.source;
+        let page = page_of(c.level, b, free, c.source, &pages[..]);
         let next = PageAddress(free - 1);
-        let after = free_list::link_at(&pages[..], next);
-        let on = Planned {
+        let after = pages::word(&pages[..], next, LINK_WORD);
+        let others = Planned {
             level: 0,
             left: c.left - b,
-            source: others,
+            source: page.source,
             to: next,
         };
-        write_chain(b, on, after, rest, pages);
-        pages::store(pages, to, w);
-        return;
+        write_chain(b, &others, after, rest, pages);
+        pages::store(pages, c.to, page.w);
+    } else {
+        let last = page_of(c.level, c.left, 0, c.source, &pages[..]);
+        if let Some(d) = rest {
+            write_chain(b, d, free, &None, pages);
+        }
+        pages::store(pages, c.to, last.w);
     }
-    let last = page_of(c.level, c.left, 0, s, &pages[..]);
-    let w = last.w;
-    match rest {
-        Rest::Chain(d) => write_chain(b, d, free, Rest::Nothing, pages),
-        Rest::Nothing => {}
-    }
-    pages::store(pages, to, w);
 }

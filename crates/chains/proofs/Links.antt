@@ -1,6 +1,6 @@
 -- Laws of the pages that links lead to.
--- Main statements: length-linkedPages, pages-append (some pages, then more); leads-map, leads-all, first_of_lem and next-page (of LeadsOn);
--- front-apart, back-apart, both-apart (of LeadsApart, cut in two); chained-pages, chained-leads (of pages that a walk found).
+-- Main statements: length-linked_pages, pages_append (some pages, then more); leads_map, leads_all, first_of_lem and next_page (of LeadsOn);
+-- front_apart, back_apart, both_apart (of LeadsApart, cut in two); chained_pages, chained_leads (of pages that a walk found).
 use mathlib.Core.Path.{◌≡◌, refl, ap, subst, ◌∙◌}
 use mathlib.Core.List.{List, [], ◌∷◌, ◌++◌}
 use Prim.Native.Nat.{ℕ, zero, suc, ◌+◌, ◌-◌, ◌≤◌, ◌<◌}

@@ -1,6 +1,6 @@
 // Pages followed by their links, with the tests of damage (document 01, "Refused calls").
-// Main statements: names_overflow, link_sound and page_sound are the model's tests, for every word; words_sound is the test of a page over its first three words;
-// count_pages is list_from, counted.
+// Main statements: names_overflow, link_sound and page_sound are the model's tests, for every word; words_sound is the
+// test of a page over its first three words; count_pages is list_from, counted.
 
 #![tactic(auto)]
 
@@ -10,16 +10,10 @@ ghost use Rattle.model.specs.Pages as Pages;
 ghost use Rattle.model.specs.Chains.{list_from};
 ghost use Rattle.chains.specs.Walks.{words_sound, counted};
 
-use model::{COUNT_WORD, LEVEL_WORD, LINK_WORD, PAGE_WORDS, Page, Root};
-
-// A list that was walked: how many pages it has, or that it is damaged.
-#[derive(Clone, Copy)]
-pub enum Walked {
-    Damaged,
-    Pages(u32),
-}
+use model::{COUNT_WORD, Damaged, LEVEL_WORD, LINK_WORD, Page, PageAddress, Root};
 
 // "Word 0 is the local level".
+#[tactic(auto, unfolding(model::specs::Pages::level_of))]
 pub fn level_of(w: Page) -> u32
     ensures { result ≡ Pages.level_of w }
 {
@@ -27,6 +21,7 @@ pub fn level_of(w: Page) -> u32
 }
 
 // "word 1 the key count".
+#[tactic(auto, unfolding(model::specs::Pages::count_of))]
 pub fn count_of(w: Page) -> u32
     ensures { result ≡ Pages.count_of w }
 {
@@ -34,6 +29,7 @@ pub fn count_of(w: Page) -> u32
 }
 
 // "word 2 the link (page number plus one, 0 for none)".
+#[tactic(auto, unfolding(model::specs::Pages::link_of))]
 pub fn link_of(w: Page) -> u32
     ensures { result ≡ Pages.link_of w }
 {
@@ -41,42 +37,32 @@ pub fn link_of(w: Page) -> u32
 }
 
 // Whether a link word names an overflow page: these follow the primary pages.
+#[tactic(auto, unfolding(model::specs::Pages::names_overflow))]
 pub fn names_overflow(root: Root, l: u32) -> bool
     ensures { result ≡ Pages.names_overflow root l }
 {
-    if l <= root.primaries {
-        return false;
-    }
-    if root.overflow < l - root.primaries {
-        return false;
-    }
-    true
+    root.primaries < l && l - root.primaries <= root.overflow
 }
 
 // Whether a link word names no page or an overflow page.
+#[tactic(auto, unfolding(model::specs::Pages::link_sound))]
 pub fn link_sound(root: Root, l: u32) -> bool
     ensures { result ≡ Pages.link_sound root l }
 {
-    if l == 0 {
-        return true;
-    }
-    names_overflow(root, l)
+    l == 0 || names_overflow(root, l)
 }
 
-// "on a page the step follows, count above b, local level above 9 ... or a link to no overflow page" is damage: the three words that are tested.
+// "on a page the step follows, count above b, local level above 9 ... or a link to no overflow page" is damage: the
+// three words that are tested.
+#[tactic(auto, unfolding(crate::specs::Walks::words_sound))]
 pub fn words_sound(root: Root, level: u32, count: u32, link: u32) -> bool
     ensures { result ≡ words_sound root level count link }
 {
-    if root.capacity < count {
-        return false;
-    }
-    if 9 < level {
-        return false;
-    }
-    link_sound(root, link)
+    count <= root.capacity && level <= 9 && link_sound(root, link)
 }
 
 // The same test of a page.
+#[tactic(auto, unfolding(crate::specs::Walks::words_sound, model::specs::Pages::page_sound))]
 pub fn page_sound(root: Root, w: Page) -> bool
     ensures { result ≡ Pages.page_sound root w }
 {
@@ -84,25 +70,23 @@ pub fn page_sound(root: Root, w: Page) -> bool
 }
 
 // How many pages the link leads to: each is tested, and "a chain of more than V overflow pages" is damage.
-pub fn count_pages(root: Root, pages: &[u32], first: u32) -> Walked
+pub fn count_pages(root: Root, pages: &[u32], first: u32) -> Result<u32, Damaged>
     requires { (Pages.link_sound root first ≡ true) × (page_words * (root.primaries + root.overflow) ≤ length pages.now) }
     ensures { result ≡ counted (list_from root pages.now first) }
 {
     let mut l = first;
-    let mut n = 0;
-    while l != 0 {
-        if n == root.overflow {
-            return Walked::Damaged;
+    for n in 0..=root.overflow {
+        if l == 0 {
+            return Ok(n);
         }
-        let at = (l - 1) as usize * PAGE_WORDS;
-        let level = pages[at];
-        let count = pages[at + 1];
-        let link = pages[at + 2];
+        let page = PageAddress(l - 1);
+        let level = pages::word(pages, page, LEVEL_WORD);
+        let count = pages::word(pages, page, COUNT_WORD);
+        let link = pages::word(pages, page, LINK_WORD);
         if !words_sound(root, level, count, link) {
-            return Walked::Damaged;
+            return Err(Damaged);
         }
         l = link;
-        n += 1;
     }
-    Walked::Pages(n)
+    Err(Damaged)
 }

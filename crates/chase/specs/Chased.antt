@@ -3,10 +3,10 @@
 use Rattle.std.specs.Prelude.{cond, eqb}
 use Rattle.model.specs.declared.Party.{Party}
 use Rattle.model.specs.Steps.Chase.{Chase, arrived, chasing}
-use Rattle.chase.specs.declared.Chased.{Chased}
+use Rattle.addresses.specs.declared.Located.{Located}
 
 -- The model's record of where a chase ended.
-abbrev pub ended_at : Chased → Chase
+abbrev pub ended_at : Located → Chase
 ended_at t = record { lev = t.lev; chain = t.chain.0 }
 
 -- The party's record after a chase: arrived on its chain, or on to another.

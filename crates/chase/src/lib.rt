@@ -3,17 +3,17 @@
 
 #![tactic(auto)]
 
-ghost use Rattle.std.specs.Prelude.{◌≡◌, List, ℕ, ◌-◌, ◌≤◌, length};
-ghost use Rattle.model.specs.declared.Root.{Root};
+ghost use Rattle.std.specs.Prelude.{◌≡◌, List, ℕ, ◌-◌, ◌≤◌};
 ghost use Rattle.model.specs.Mixing.{mixed};
 ghost use Rattle.model.specs.Steps.Chase as Chase;
-ghost use Rattle.records.specs.Words.{party_words, party_in, seen, left, AtHand};
-ghost use Rattle.lock_requests.specs.Words.{CanLock};
+ghost use Rattle.records.specs.Work.{seen, left, AtHand};
+ghost use Rattle.lock_requests.specs.Locks.{CanLock};
 ghost use Rattle.chase.specs.Chased.{ended_at, after_chase};
 
-use lock_requests::CHASE;
-use model::{ChainAddress, DAMAGE, FIND, PageAddress, Root, StepAnswer};
-use records::{CHAIN, KEY, LEV, OPERATION, OTHER};
+use addresses::Located;
+use lock_requests::{CHASE, Lock};
+use model::{ChainAddress, FIND, PageAddress, Party, Refusal, StepAnswer};
+use records::Working;
 
 // Where step 6 leads: "go to 7 as soon as h_lev(k) is another chain; else 9 for find, 10 otherwise".
 const FOLLOW: u32 = 7;
@@ -22,107 +22,104 @@ const LOOK: u32 = 9;
 
 const CHANGE: u32 = 10;
 
-// Where a chase ends: lev, and the chain that h_lev names.
-#[derive(Clone, Copy)]
-struct Chased {
-    lev: u32,
-    chain: ChainAddress,
-}
-
 // "while lev differs from its local level, raise lev by one and go to 7 as soon as h_lev(k) is another chain": n is N, `local` the local level.
 // The key is mixed only where lev is to be raised.
-fn chase(n: u32, key: u32, chain: ChainAddress, lev: u32, local: u32) -> Chased
+fn chase(n: u32, key: u32, chain: ChainAddress, lev: u32, local: u32) -> Located
     requires { (1 ≤ n) × (n ≤ 256) × (local ≤ 9) }
     ensures { ended_at result ≡ Chase.chase n (mixed key) chain.0 (local - lev) lev }
 {
     if local <= lev {
-        return Chased {
-            lev: lev,
-            chain: chain,
-        };
+        return Located { lev, chain };
     }
     let m = mixing::mixed(key);
-    let mut raised = lev;
-    while raised < local {
-        raised += 1;
+    for below in lev..local {
+        let raised = below + 1;
         let on = addresses::hash(n, raised, m);
-        if on.0 != chain.0 {
-            return Chased {
+        if on != chain {
+            return Located {
                 lev: raised,
                 chain: on,
             };
         }
     }
-    Chased {
-        lev: raised,
-        chain: chain,
-    }
+    Located { lev: local, chain }
 }
 
 // The record after a chase: on to another chain, the former kept as other chain; or arrived.
-fn after_chase(party: &mut [u32], t: Chased)
-    requires { length party.old ≡ party_words }
-    ensures { party_in party.new ≡ after_chase (ended_at t) (party_in party.old) }
+#[tactic(auto, unfolding(model::specs::Steps::Chase::arrived, model::specs::Steps::Chase::chasing))]
+fn after_chase(party: Party, t: Located) -> Party
+    ensures { result ≡ after_chase (ended_at t) party }
 {
-    let chain = t.chain;
-    let former = party[CHAIN];
-    let operation = party[OPERATION];
-    party[LEV] = t.lev;
-    if chain.0 != former {
-        party[CHAIN] = chain.0;
-        party[OTHER] = former;
-        records::at_step(party, FOLLOW);
-    } else if operation == FIND {
-        records::at_step(party, LOOK);
-    } else {
-        records::at_step(party, CHANGE);
+    let chased = Party {
+        lev: t.lev,
+        ..party
+    };
+    if t.chain.0 != party.chain {
+        return Party {
+            step: FOLLOW,
+            chain: t.chain.0,
+            other: party.chain,
+            ..chased
+        };
     }
+    let step = if party.operation == FIND {
+        LOOK
+    } else {
+        CHANGE
+    };
+    Party { step, ..chased }
 }
 
 // "6 copy the primary page to the scratch page", and chase. The tests come first: "local level above 9 or below lev at step 6" is damage.
+#[tactic(auto, using(model::proofs::Laws::Tests::sound_page_levels), unfolding(model::specs::Steps::Chase::step06, model::specs::Steps::Chase::chase_of))]
 pub fn step_06(
-    root: Root,
-    party: &mut [u32],
-    q: u32,
+    work: &mut Working,
     locks: &mut [u32],
     pages: &mut [u32],
-) -> StepAnswer
-    requires { AtHand root party.old q locks.old pages.old }
-    ensures { left result root party.new q locks.new pages.new ≡ Chase.step06 (seen root party.old q locks.old pages.old) }
+) -> Result<StepAnswer, Refusal>
+    requires { AtHand work.old locks.old pages.old }
+    ensures { left result work.new locks.new pages.new ≡ Chase.step06 (seen work.old locks.old pages.old) }
 {
-    let former = ChainAddress(party[CHAIN]);
+    let former = ChainAddress(work.party.chain);
     let w = pages::load(&pages[..], PageAddress(former.0));
-    if !chains::page_sound(root, w) {
-        return StepAnswer::Refused(DAMAGE);
+    if !chains::page_sound(work.root, w) {
+        return Err(Refusal::Damage);
     }
     let local = chains::level_of(w);
-    if local < party[LEV] {
-        return StepAnswer::Refused(DAMAGE);
+    if local < work.party.lev {
+        return Err(Refusal::Damage);
     }
-    let t = chase(root.originals, party[KEY], former, party[LEV], local);
-    let chain = t.chain;
-    if root.primaries <= chain.0 {
-        return StepAnswer::Refused(DAMAGE);
+    let t = chase(
+        work.root.originals,
+        work.party.key,
+        former,
+        work.party.lev,
+        local,
+    );
+    if work.root.primaries <= t.chain.0 {
+        return Err(Refusal::Damage);
     }
-    pages::store(pages, endings::scratch_page(root, q), w);
-    after_chase(party, t);
-    StepAnswer::Moved
+    pages::store(pages, endings::scratch_page(work.root, work.number), w);
+    work.party = after_chase(work.party, t);
+    Ok(StepAnswer::Moved)
 }
 
 // "7 request that chain."
-pub fn step_07(party: &mut [u32], q: u32, locks: &mut [u32]) -> StepAnswer
-    requires { CanLock party.old q locks.old }
-    ensures { (r : Root) (ps : List ℕ) → left result r party.new q locks.new ps ≡ Chase.step07 (seen r party.old q locks.old ps) }
+#[tactic(auto, unfolding(model::specs::Steps::Chase::step07))]
+pub fn step_07(work: &mut Working, locks: &mut [u32]) -> Result<StepAnswer, Refusal>
+    requires { CanLock work.old locks.old }
+    ensures { (ps : List ℕ) → left result work.new locks.new ps ≡ Chase.step07 (seen work.old locks.old ps) }
 {
-    lock_requests::request_chain(party, q, locks, 8)
+    Ok(lock_requests::request_chain(work, locks, 8))
 }
 
 // "8 give up the previous one, back to 6."
-pub fn step_08(party: &mut [u32], q: u32, locks: &mut [u32]) -> StepAnswer
-    requires { CanLock party.old q locks.old }
-    ensures { (r : Root) (ps : List ℕ) → left result r party.new q locks.new ps ≡ Chase.step08 (seen r party.old q locks.old ps) }
+#[tactic(auto, unfolding(model::specs::Steps::Chase::step08))]
+pub fn step_08(work: &mut Working, locks: &mut [u32]) -> Result<StepAnswer, Refusal>
+    requires { CanLock work.old locks.old }
+    ensures { (ps : List ℕ) → left result work.new locks.new ps ≡ Chase.step08 (seen work.old locks.old ps) }
 {
-    let word = lock_requests::chain_word(ChainAddress(party[OTHER]));
-    let mode = lock_requests::mode_of(&party[..]);
-    lock_requests::release_step(party, q, locks, word, mode, CHASE)
+    let mode = lock_requests::mode_of(work.party);
+    let lock = Lock::chain(ChainAddress(work.party.other), mode);
+    lock_requests::release(work, locks, lock, CHASE)
 }

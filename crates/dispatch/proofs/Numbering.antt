@@ -1,5 +1,6 @@
 -- A step number and the step that it names.
--- Main statements: named (equal numbers name the same step); past, exactly (what is left of a range of numbers); some-step, last_step (an operation's step is one of 1 to 30).
+-- Main statements: named (equal numbers name the same step); past, exactly (what is left of a range of numbers);
+-- some-step, last_step (an operation's step is one of 1 to 30).
 use mathlib.Core.Path.{◌≡◌, refl, sym, ap}
 use mathlib.Core.Logic.{◌≢◌}
 use mathlib.Core.Bool.{Bool, true, false}

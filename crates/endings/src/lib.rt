@@ -4,28 +4,30 @@
 
 #![tactic(auto)]
 
-ghost use Rattle.std.specs.Prelude.{◌≡◌, List, ℕ, ◌^◌, ◌<◌, length};
-ghost use Rattle.model.specs.declared.Party.{Party};
-ghost use Rattle.model.specs.Records.{idle};
-ghost use Rattle.model.specs.Pages.{scratch_page, with_page, zero_page};
+ghost use Rattle.std.specs.Prelude.{◌≡◌, List, ℕ, ◌^◌, ◌<◌};
+ghost use Rattle.model.specs.Pages.{scratch_page, zero_page};
 ghost use Rattle.model.specs.Answers.{answer_of, restructuring_of};
 ghost use Rattle.model.specs.Endings as Endings;
-ghost use Rattle.model.specs.Ready.{viewing};
-ghost use Rattle.records.specs.Words.{party_words, party_in, seen, left};
-ghost use Rattle.endings.specs.Scratch.{HasScratch};
+ghost use Rattle.records.specs.Work.{seen, left};
+ghost use Rattle.endings.specs.Scratch.{HasScratch, cleared};
 
-use model::{OperationAnswer, PAGE_WORDS, PageAddress, Restructuring, Root, StepAnswer};
-use records::{ANSWER, OWED};
+use model::{
+    ABSENT, DELETED, INSERTED, OperationAnswer, PAGE_WORDS, PRESENT, PageAddress, Party,
+    Restructuring, Root, SPLIT_MADE, StepAnswer,
+};
+use records::Working;
 
 // "answer so far (0 none, 1 inserted, 2 present, 3 deleted, 4 absent, 5 no page)".
+// No From: a number that is no answer's is told as no page.
+#[tactic(auto, unfolding(model::specs::Answers::answer_of))]
 pub fn answer_of(n: u32) -> OperationAnswer
     ensures { result ≡ answer_of n }
 {
     match n {
-        1 => OperationAnswer::Inserted,
-        2 => OperationAnswer::Present,
-        3 => OperationAnswer::Deleted,
-        4 => OperationAnswer::Absent,
+        INSERTED => OperationAnswer::Inserted,
+        PRESENT => OperationAnswer::Present,
+        DELETED => OperationAnswer::Deleted,
+        ABSENT => OperationAnswer::Absent,
         _ => OperationAnswer::NoPage,
     }
 }
@@ -35,7 +37,7 @@ pub fn answer_of(n: u32) -> OperationAnswer
 pub fn restructuring_of(owed: u32) -> Restructuring
     ensures { result ≡ restructuring_of owed }
 {
-    if owed == 3 {
+    if owed == SPLIT_MADE {
         Restructuring::Split
     } else {
         Restructuring::None
@@ -51,36 +53,35 @@ pub fn scratch_page(root: Root, q: u32) -> PageAddress
 }
 
 // "zeroes the party's record and scratch page".
-pub fn clear(root: Root, party: &mut [u32], q: u32, pages: &mut [u32])
-    requires { (length party.old ≡ party_words) × HasScratch root q pages.old }
-    ensures { (party_in party.new ≡ idle) × (pages.new ≡ with_page pages.old (scratch_page root q) zero_page) }
+pub fn clear(work: &mut Working, pages: &mut [u32])
+    requires { HasScratch work.old.root work.old.number pages.old }
+    ensures { (ls : List ℕ) → seen work.new ls pages.new ≡ cleared (seen work.old ls pages.old) }
 {
-    pages::store(pages, scratch_page(root, q), [0; PAGE_WORDS]);
-    pages::zero(party);
+    pages::store(pages, scratch_page(work.root, work.number), [0; PAGE_WORDS]);
+    work.party = Party::default();
 }
 
 // "'Done' carries the answer ... and the restructuring ..., and zeroes the party's record and scratch page."
 pub fn done(
-    root: Root,
-    party: &mut [u32],
-    q: u32,
+    work: &mut Working,
     pages: &mut [u32],
     answer: OperationAnswer,
     made: Restructuring,
 ) -> StepAnswer
-    requires { (length party.old ≡ party_words) × HasScratch root q pages.old }
-    ensures { (p : Party) (ls : List ℕ) → left result root party.new q ls pages.new ≡ Endings.done answer made (viewing root p q ls pages.old) }
+    requires { HasScratch work.old.root work.old.number pages.old }
+    ensures { (ls : List ℕ) → left (Ok result) work.new ls pages.new ≡ Endings.done answer made (seen work.old ls pages.old) }
 {
-    clear(root, party, q, pages);
+    clear(work, pages);
     StepAnswer::Done(answer, made)
 }
 
 // Done with the answer and the restructuring of the party's record.
-pub fn finished(root: Root, party: &mut [u32], q: u32, pages: &mut [u32]) -> StepAnswer
-    requires { (length party.old ≡ party_words) × HasScratch root q pages.old }
-    ensures { (ls : List ℕ) → left result root party.new q ls pages.new ≡ Endings.finished (seen root party.old q ls pages.old) }
+#[tactic(auto, unfolding(model::specs::Endings::finished))]
+pub fn finished(work: &mut Working, pages: &mut [u32]) -> StepAnswer
+    requires { HasScratch work.old.root work.old.number pages.old }
+    ensures { (ls : List ℕ) → left (Ok result) work.new ls pages.new ≡ Endings.finished (seen work.old ls pages.old) }
 {
-    let answer = answer_of(party[ANSWER]);
-    let made = restructuring_of(party[OWED]);
-    done(root, party, q, pages, answer, made)
+    let answer = answer_of(work.party.answer);
+    let made = restructuring_of(work.party.owed);
+    done(work, pages, answer, made)
 }

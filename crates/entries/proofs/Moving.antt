@@ -1,77 +1,71 @@
--- Records moved by one place in a buffer: what moves the other way is the place that is left out.
--- Main statements: all_but (a list without one place); moved_up, moved_down (one record moves, and the list without its place stays); put_in_place, left_out (what the front is at the end).
-use mathlib.Core.Path.{◌≡◌, refl, sym, ap, ◌∙◌}
-use mathlib.Core.List.{List, [], ◌∷◌, ◌++◌, append_assoc}
-use Prim.Native.Nat.{ℕ, ◌+◌, ◌-◌, ◌≤◌, ◌<◌}
-use native.Mathlib.Numerals.{add-one}
-use native.Mathlib.Omega.{arith}
-use lib.ListN.{length, set, take, drop, length-append, length-drop, length-set, take-append-drop}
-use lib.Seq.{length-take-le, append_snoc, take-suc, set_split, take-append-le, drop-append-le, take_at, drop_at, drop-set-lt, take-set-le, get_or-set_same}
+-- Records moved by one place in a buffer: the words that `copy_within` moves, as records.
+-- Main statements: all_but (a list without one place); records_moved; put_in_place, left_out (what the front is at the end).
+use Rattle.std.proofs.Common.{◌≡◌, refl, sym, ap, ◌∙◌, ℕ, ◌+◌, ◌-◌, ◌*◌, ◌≤◌, ◌<◌, List, [], ◌∷◌, ◌++◌, length, get_or, set, take, drop, length-append, length-drop, append_assoc, add-one, arith}
+use Rattle.std.specs.List.{copy_within}
+use Rattle.std.proofs.lemmas.List.{drop-take}
+use Rattle.std.proofs.lemmas.List.Edits.{take-paste}
+use lib.Seq.{length-take-le, take-take, take-suc, take_at, set-append_seam}
 use Rattle.model.specs.declared.Entry.{Entry}
 use Rattle.model.specs.Entries.{entry_of}
-use Rattle.model.specs.Filling.{record_at}
-use Rattle.entries.proofs.Scanning.{next_of, stored_next}
+use Rattle.model.specs.Sizes.{record_words}
+use Rattle.model.specs.Pages.{records_in}
+use Rattle.model.proofs.Laws.RecordWords.{length_records, records_take, records_drop, records_append}
 
 -- The list without what stands at place i.
 abbrev pub all_but : ℕ → List Entry → List Entry
 all_but i l = take i l ++ drop (i + 1) l
 
--- Place j is the one after place i.
-module _ (l : List Entry) (i j : ℕ) (next : j ≡ i + 1) (more : j < length l) where
-  -- The record at place j is stored at place i.
-  pub moved_down : all_but j (set l i (record_at l j)) ≡ all_but i l
-  moved_down =
-      let e = record_at l j in
-      let rest : drop (i + 1) l ≡ e ∷ drop (j + 1) l = rw (← next) (next_of l j more) in
-      let front : take i l ++ (e ∷ drop (j + 1) l) ≡ take j (set l i e) ++ drop (j + 1) l = rw next (stored_next l i (record_at l (i + 1)) (drop (i + 1 + 1) l) (omega arith)) in
-      rw (drop-set-lt (j + 1) l i e (omega arith), rest) (sym front)
+-- Whole records moved as words are the records moved.
+pub records_moved : (ws : List ℕ) (a e at : ℕ) → a ≤ e → e ≤ length (records_in ws) → at + (e - a) ≤ length (records_in ws)
+    → records_in (copy_within ws (a * record_words) (e * record_words) (at * record_words))
+    ≡ copy_within (records_in ws) a e at
+records_moved ws a e at order within room =
+    let n = e - a in
+    let words : e * record_words - a * record_words ≡ n * record_words = omega arith in
+    let behind : at * record_words + n * record_words ≡ (at + n) * record_words = omega arith in
+    let front = take (at * record_words) ws in
+    let moved = take (n * record_words) (drop (a * record_words) ws) in
+    let long = length_records ws in
+    let front_long : length front ≡ at * record_words = length-take-le (at * record_words) ws (omega arith) in
+    let moved_long : length moved ≡ n * record_words
+    = length-take-le (n * record_words) (drop (a * record_words) ws) (rw length-drop (omega arith)) in
+    let both_long : length (front ++ moved) ≡ (at + n) * record_words = rw (length-append, front_long, moved_long) (omega arith) in
+    rw (words, behind)
+    (records_append (at + n) (front ++ moved) (drop ((at + n) * record_words) ws) both_long
+    ∙ rw (records_append at front moved front_long, records_take, records_take, records_drop, records_drop) refl)
 
-  -- The record at place i is stored at place j.
-  pub moved_up : all_but i (set l j (record_at l i)) ≡ all_but j l
-  moved_up =
-      let e = record_at l i in
-      let room : j < length (set l j e) = rw length-set more in
-      let rest : drop j (set l j e) ≡ e ∷ drop (j + 1) l
-      = next_of (set l j e) j room ∙ rw (get_or-set_same l j e (entry_of 0 0) more, drop-set-lt (j + 1) l j e (omega arith)) refl in
-      let front : take j l ≡ take i l ++ (e ∷ []) = rw (next, add-one) (take-suc l i (entry_of 0 0) (omega arith)) in
-      rw (take-set-le i l j e (omega arith), ← next, rest, front) (sym (append_snoc (take i l) e (drop (j + 1) l)))
+-- A part of the front.
+part : (old : List Entry) (n i : ℕ) → i ≤ n → drop i (take n old) ≡ take (n - i) (drop i old)
+part old n i h =
+    let q : n ≡ i + (n - i) = omega arith in
+    ap (λ (m : ℕ). drop i (take m old)) q ∙ drop-take i (n - i) old
 
--- ---- The front at the end
+-- The records from i on moved up by one, and k put in at i: the front of n + 1.
+pub put_in_place : (old : List Entry) (n i : ℕ) (k : Entry) → i ≤ n → n < length old
+    → take (n + 1) (set (copy_within old i n (i + 1)) i k) ≡ take i (take n old) ++ (k ∷ drop i (take n old))
+put_in_place old n i k h w =
+    let front = take i old in
+    let moved = take (n - i) (drop i old) in
+    let back = drop (i + 1 + (n - i)) old in
+    let here = get_or old i (entry_of 0 0) in
+    let front_long : length front ≡ i = length-take-le i old (omega arith) in
+    let moved_long : length moved ≡ n - i = length-take-le (n - i) (drop i old) (rw length-drop (omega arith)) in
+    let one_more : take (i + 1) old ≡ front ++ (here ∷ []) = rw add-one (take-suc old i (entry_of 0 0) (omega arith)) in
+    let copied : copy_within old i n (i + 1) ≡ front ++ (here ∷ (moved ++ back)) =
+    rw (one_more, append_assoc, append_assoc) refl in
+    let put : set (copy_within old i n (i + 1)) i k ≡ (front ++ (k ∷ moved)) ++ back =
+    ap (λ (l : List Entry). set l i k) copied
+    ∙ ap (λ (j : ℕ). set (front ++ (here ∷ (moved ++ back))) j k) (sym front_long)
+    ∙ set-append_seam front here (moved ++ back) k
+    ∙ sym (append_assoc front (k ∷ moved) back) in
+    let long : length (front ++ (k ∷ moved)) ≡ n + 1 = rw (length-append, front_long) (omega (arith, moved_long)) in
+    ap (take (n + 1)) put ∙ take_at (front ++ (k ∷ moved)) back (n + 1) long ∙ rw (take-take i n old h, part old n i h) refl
 
--- A record at the place that was left out.
-filled : (l m : List Entry) (i : ℕ) (k : Entry) → i < length l → all_but i l ≡ m → set l i k ≡ take i m ++ (k ∷ drop i m)
-filled l m i k h e =
-    let long = length-take-le i l (omega arith) in
-    let front : take i l ≡ take i m = sym (take_at (take i l) (drop (i + 1) l) i long) ∙ ap (take i) e in
-    let back : drop (i + 1) l ≡ drop i m = sym (drop_at (take i l) (drop (i + 1) l) i long) ∙ ap (drop i) e in
-    set_split l i k h ∙ rw (← add-one i, front, back) refl
-
-module _ (old l : List Entry) (n i : ℕ) where
-  -- The place left out moved from n to i, and k stands there.
-  pub put_in_place : (k : Entry) → i ≤ n → n ≤ length old → i < length l → all_but i l ≡ all_but n old
-      → take (n + 1) (set l i k) ≡ take i (take n old) ++ (k ∷ drop i (take n old))
-  put_in_place k h w r e =
-      let es = take n old in
-      let tail = drop (n + 1) old in
-      let long : length es ≡ n = length-take-le n old w in
-      let some : i ≤ length es = omega arith in
-      let whole : set l i k ≡ (take i es ++ (k ∷ drop i es)) ++ tail
-      = filled l (es ++ tail) i k r e ∙ rw (take-append-le i es tail some, drop-append-le i es tail some, append_assoc) refl in
-      let size : length (take i es ++ (k ∷ drop i es)) ≡ n + 1
-      = rw (length-append, length-take-le i es some, length-drop, long) (omega arith) in
-      ap (take (n + 1)) whole ∙ take_at (take i es ++ (k ∷ drop i es)) tail (n + 1) size
-
-  -- The place left out moved from i to the last of n.
-  pub left_out : i < n → n ≤ length old → n ≤ length l → all_but (n - 1) l ≡ all_but i old → take (n - 1) l ≡ all_but i (take n old)
-  left_out h w r e =
-      let es = take n old in
-      let tail = drop n old in
-      let long : length es ≡ n = length-take-le n old w in
-      let some : i ≤ length es = omega arith in
-      let more : i + 1 ≤ length es = omega arith in
-      let whole : all_but i old ≡ all_but i es ++ tail
-      = ap (all_but i) (sym (take-append-drop n old)) ∙ rw (take-append-le i es tail some, drop-append-le (i + 1) es tail more, append_assoc) refl in
-      let size : length (all_but i es) ≡ n - 1 = rw (length-append, length-take-le i es some, length-drop, long) (omega arith) in
-      sym (take_at (take (n - 1) l) (drop (n - 1 + 1) l) (n - 1) (length-take-le (n - 1) l (omega arith)))
-      ∙ ap (take (n - 1)) (e ∙ whole)
-      ∙ take_at (all_but i es) tail (n - 1) size
+-- The records after i moved down by one: the front of n - 1.
+pub left_out : (old : List Entry) (n i : ℕ) → i < n → n ≤ length old
+    → take (n - 1) (copy_within old (i + 1) n i) ≡ all_but i (take n old)
+left_out old n i h w =
+    let q : n - 1 ≡ i + (n - (i + 1)) = omega arith in
+    ap (λ (m : ℕ). take m (copy_within old (i + 1) n i)) q
+    ∙ take-paste old i (drop (i + 1) old) (n - (i + 1)) (omega arith) (rw length-drop (omega arith))
+    ∙ rw (take-take i n old (omega arith), part old n (i + 1) (omega arith)) refl

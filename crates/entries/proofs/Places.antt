@@ -1,5 +1,5 @@
 -- The place of a key in an ascending list, and what stands there.
--- Main statements: place-next (one record more is counted), place_end; place_within (the place is in the list or just past it); past_all, stands_at (whether the key is in the list),
+-- Main statements: place_next (one record more is counted), place_end; place_within (the place is in the list or just past it); past_all, stands_at (whether the key is in the list),
 -- place_inside (the place of a key that is); inserted_at, removed_at (the list with the key put in at its place, or left out there).
 use mathlib.Core.Path.{◌≡◌, refl, sym, ap, ◌∙◌}
 use mathlib.Core.Bool.{Bool, true, false, cond, ◌||◌, or-false}
@@ -8,7 +8,7 @@ use Prim.Native.Nat.{ℕ, suc, ◌+◌, ◌≤◌, ◌<◌}
 use native.Mathlib.Numerals.{one-add, add-one}
 use native.Mathlib.Omega.{arith}
 use mir.Val.{bool_byte}
-use lib.ListN.{length, take, drop, drop_of_length-le}
+use lib.ListN.{length, take, drop, drop_of_length-le, length-take}
 use lib.Dec.{ltb, eqb}
 use Rattle.model.specs.declared.Entry.{Entry}
 use Rattle.model.specs.Entries.{key_of, has_key, below_first, ascending, inserted_into, removed_from}
@@ -64,6 +64,10 @@ place_within k (e ∷ es) = go (ltb (key_of e) k) (place_within k es)
     go : (t : Bool) → place_of k es ≤ length es → cond t 1 0 + place_of k es ≤ suc (length es)
     go true h = omega arith
     go false h = omega arith
+
+-- Among the n at the front, or just behind them.
+pub place_among : (k n : ℕ) (es : List Entry) → place_of k (take n es) ≤ n
+place_among k n es = omega (arith, place_within k (take n es), length-take n es)
 
 -- ---- Whether the key is in the list
 

@@ -1,13 +1,13 @@
--- Lists of records passed from the front, record by record, and the buffer that the records kept go into.
--- Main statements: next_of (the record passed next); stored_next (one record more in the buffer); ascending-passed, last-ascends.
+-- Lists of records passed from the front, record by record.
+-- Main statements: next_of (the record passed next); ascending_passed, last_ascends.
 use mathlib.Core.Path.{◌≡◌, refl, sym, ap, ◌∙◌}
 use mathlib.Core.Bool.{Bool, true, false, not, ◌&&◌, ◌||◌}
-use mathlib.Core.List.{List, [], ◌∷◌, ◌++◌}
+use mathlib.Core.List.{List, [], ◌∷◌}
 use Prim.Native.Nat.{ℕ, ◌+◌, ◌-◌, ◌≤◌, ◌<◌}
 use native.Mathlib.Numerals.{add-one}
 use native.Mathlib.Omega.{arith}
-use lib.ListN.{length, set, take, drop, length-drop}
-use lib.Seq.{drop-cons, append_snoc, take-suc-set}
+use lib.ListN.{length, drop, length-drop}
+use lib.Seq.{drop-cons}
 use lib.Dec.{ltb, leb}
 use borrow.Author.Tests.{le-leb, lt-leb}
 use Rattle.model.specs.declared.Entry.{Entry}
@@ -17,10 +17,6 @@ use Rattle.model.proofs.Laws.Lists.{Ord, lt, ge, ord}
 
 pub next_of : (es : List Entry) (i : ℕ) → i < length es → drop i es ≡ record_at es i ∷ drop (i + 1) es
 next_of es i h = rw add-one (drop-cons es i (entry_of 0 0) h)
-
--- A record more in the buffer is one less in the rest.
-pub stored_next : (out : List Entry) (n : ℕ) (e : Entry) (rest : List Entry) → n < length out → take n out ++ (e ∷ rest) ≡ take (n + 1) (set out n e) ++ rest
-stored_next out n e rest h = rw (add-one, take-suc-set out n e h) (sym (append_snoc (take n out) e rest))
 
 -- ---- Whether the keys ascend
 

@@ -1,5 +1,7 @@
-// Lists of records in lent buffers of words, two a record, key first (document 01, "A chain's keys ascend" and step 10). A record is told apart by its key alone.
-// Main statements: ascends is ascending, below is place_of, has_at is has_key; put_in is inserted_into and leave_out is removed_from, in place.
+// Lists of records in lent buffers of words, two a record, key first (document 01, "A chain's keys ascend" and
+// step 10). A record is told apart by its key alone.
+// Main statements: ascends is ascending, below is place_of, has_at is has_key; put_in is inserted_into and leave_out is
+// removed_from, in place.
 
 #![tactic(auto)]
 
@@ -12,16 +14,15 @@ ghost use Rattle.entries.specs.Places.{place_of};
 
 use model::{Entry, RECORD_WORDS};
 
-// "keys that do not strictly ascend in a chain looked through whole" are damage.
+// "keys that do not strictly ascend in a chain looked through whole" are damage. Every pair is compared, with no way
+// out before the end, so that several words are compared at once.
 pub fn ascends(words: &[u32]) -> bool
     ensures { result ≡ ascending (records_in words.now) }
 {
     let n = words.len() / RECORD_WORDS;
     let mut falls = false;
-    let mut i = 1;
-    while i < n {
-        falls = falls | (words[i * RECORD_WORDS] <= words[(i - 1) * RECORD_WORDS]);
-        i += 1;
+    for i in 1..n {
+        falls |= words[i * RECORD_WORDS] <= words[(i - 1) * RECORD_WORDS];
     }
     !falls
 }
@@ -34,10 +35,8 @@ pub fn below(words: &[u32], k: u32) -> usize
 {
     let count = words.len() / RECORD_WORDS;
     let mut n = 0u32;
-    let mut i = 0;
-    while i < count {
-        n += (words[i * RECORD_WORDS] < k) as u32;
-        i += 1;
+    for i in 0..count {
+        n += u32::from(words[i * RECORD_WORDS] < k);
     }
     n as usize
 }
@@ -47,10 +46,7 @@ pub fn has_at(words: &[u32], at: usize, k: u32) -> bool
     requires { (ascending (records_in words.now) ≡ true) × (at ≡ place_of k (records_in words.now)) }
     ensures { result ≡ has_key k (records_in words.now) }
 {
-    if words.len() / RECORD_WORDS <= at {
-        return false;
-    }
-    words[at * RECORD_WORDS] == k
+    at < words.len() / RECORD_WORDS && words[at * RECORD_WORDS] == k
 }
 
 // Record i of the words.
@@ -75,16 +71,14 @@ pub fn set_record(words: &mut [u32], i: usize, e: Entry)
     words[at + 1] = e.setting;
 }
 
-// A record is put in among the n at the front: `at` is the place where its key would stand, and the records from there on move up by one.
+// A record is put in among the n at the front: `at` is the place where its key would stand, and the records from there
+// on move up by one. They are counted beside the buffer, which has room for one more.
+#[tactic(auto, using(crate::proofs::Places::place_among))]
 pub fn put_in(words: &mut [u32], at: usize, n: usize, e: Entry)
     requires { ((n + 1) * record_words ≤ length words.old) × (ascending (take n (records_in words.old)) ≡ true) × (at ≡ place_of e.key (take n (records_in words.old))) × (has_key e.key (take n (records_in words.old)) ≡ false) }
     ensures { take (n + 1) (records_in words.new) ≡ inserted_into e (take n (records_in words.old)) }
 {
-    let mut i = n;
-    while at < i {
-        set_record(words, i, record_at(&words[..], i - 1));
-        i -= 1;
-    }
+    words.copy_within(at * RECORD_WORDS..n * RECORD_WORDS, (at + 1) * RECORD_WORDS);
     set_record(words, at, e);
 }
 
@@ -93,9 +87,5 @@ pub fn leave_out(words: &mut [u32], at: usize, n: usize)
     requires { (at < n) × (n * record_words ≤ length words.old) }
     ensures { (k : ℕ) → ascending (take n (records_in words.old)) ≡ true → has_key k (take n (records_in words.old)) ≡ true → at ≡ place_of k (take n (records_in words.old)) → take (n - 1) (records_in words.new) ≡ removed_from k (take n (records_in words.old)) }
 {
-    let mut i = at + 1;
-    while i < n {
-        set_record(words, i - 1, record_at(&words[..], i));
-        i += 1;
-    }
+    words.copy_within((at + 1) * RECORD_WORDS..n * RECORD_WORDS, at * RECORD_WORDS);
 }

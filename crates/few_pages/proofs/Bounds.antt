@@ -1,6 +1,6 @@
 -- How many new pages a chain of few pages needs.
--- Main statements: few_pages_lem (8 * b + 1 records need eight overflow pages at most); front-need (the need of the
--- records at the front of words).
+-- Main statements: few_pages_lem (8 * b + 1 records need eight overflow pages at most); front_many, front_need (the
+-- number and the need of the records at the front of words).
 use mathlib.Core.Path.{◌≡◌, sym, ap, ◌∙◌}
 use mathlib.Core.List.{List}
 use Prim.Native.Nat.{ℕ, ◌+◌, ◌*◌, ◌≤◌, ◌<◌}

@@ -1,62 +1,50 @@
 -- Overflow pages filled one after the other: one turn, over the model's filled.
--- Main statements: share_few, share-front, share-rest (a page's share of the records); first_link_lem, no_link;
--- page-filled (a turn), all-filled (the end); overflow_fillable.
-use mathlib.Core.Path.{◌≡◌, sym, ap, ◌∙◌}
+-- Main statements: share_front, share_rest (a page's share of the records); first_link_lem, no_link;
+-- page_filled_ok (a turn), all_filled (the end); overflow_fillable.
+use mathlib.Core.Path.{◌≡◌, refl, ap, ◌∙◌}
 use mathlib.Core.List.{List, [], ◌∷◌}
-use Prim.Native.Nat.{ℕ, zero, suc, ◌+◌, ◌*◌, ◌≤◌, ◌<◌}
+use Prim.Native.Nat.{ℕ, zero, suc, ◌+◌, ◌*◌, ◌≤◌, ◌<◌, min}
 use native.Mathlib.Numerals.{add-one}
 use native.Mathlib.Omega.{arith}
-use lib.ListN.{length, get_or, take, drop, length-drop, drop_of_length-le}
-use lib.Seq.{drop-cons, drop-drop, drop_at, take-add, take_all, take-take, length-take-le}
+use lib.ListN.{length, get_or, take, drop, drop_of_length-le}
+use lib.Seq.{drop-cons, take_all}
 use Rattle.model.specs.declared.Root.{Root}
 use Rattle.model.specs.declared.Entry.{Entry}
-use Rattle.model.specs.Sizes.{page_words}
-use Rattle.model.specs.Pages.{with_page, filled_page, link_to_first}
+use Rattle.model.specs.Sizes.{page_words, record_words}
+use Rattle.model.specs.Pages.{records_in, with_page, filled_page, link_to_first}
 use Rattle.model.specs.Filling.{filled}
 use Rattle.model.proofs.Laws.Lists.{All, Ord, lt, ge, ord}
 use Rattle.model.proofs.Laws.Filling.{IsOverflow}
-use Rattle.filling.specs.Fills.{share_of, Fillable}
+use Rattle.model.proofs.Laws.RecordWords.{records_take, records_drop}
+use Rattle.filling.specs.Fills.{Fillable}
 
 -- ---- A page's share
 
-pub share_few : (b left : ℕ) → (share_of b left ≤ b) × (share_of b left ≤ left)
-unfolding share_of
-share_few b left = go (ord left b)
+take_short : (k : ℕ) (ws : List ℕ) → take (min (length ws) k) ws ≡ take k ws
+take_short k ws = go (ord k (length ws))
   where
-    go : Ord left b → (share_of b left ≤ b) × (share_of b left ≤ left)
-    go (lt h t) = rw t (omega arith, omega arith)
-    go (ge h t) = rw t (omega arith, omega arith)
+    go : Ord k (length ws) → take (min (length ws) k) ws ≡ take k ws
+    go (lt h t) = let q : min (length ws) k ≡ k = omega arith in rw q refl
+    go (ge h t) =
+        let q : min (length ws) k ≡ length ws = omega arith in
+        rw (q, take_all (length ws) ws (omega arith), take_all k ws h) refl
 
--- Of the first m records, `left` stand from `at` on.
-module _ (b m at left : ℕ) (es : List Entry) (all : m ≡ at + left) (long : m ≤ length es) where
-  left_there : drop at (take m es) ≡ take left (drop at es)
-  left_there =
-      ap (λ (n : ℕ). drop at (take n es)) all ∙ ap (drop at) (take-add at left es) ∙ drop_at (take at es) (take left (drop at es)) at (length-take-le at es (omega arith))
+drop_short : (k : ℕ) (ws : List ℕ) → drop (min (length ws) k) ws ≡ drop k ws
+drop_short k ws = go (ord k (length ws))
+  where
+    go : Ord k (length ws) → drop (min (length ws) k) ws ≡ drop k ws
+    go (lt h t) = let q : min (length ws) k ≡ k = omega arith in rw q refl
+    go (ge h t) =
+        let q : min (length ws) k ≡ length ws = omega arith in
+        let none : length ws ≤ length ws = omega arith in
+        rw (q, drop_of_length-le ws none, drop_of_length-le ws h) refl
 
-  length-left : length (take left (drop at es)) ≡ left
-  length-left = length-take-le left (drop at es) (rw length-drop (omega arith))
+-- The first b of the records whose words are left, and the others.
+pub share_front : (b : ℕ) (ws : List ℕ) → records_in (take (min (length ws) (b * record_words)) ws) ≡ take b (records_in ws)
+share_front b ws = ap records_in (take_short (b * record_words) ws) ∙ records_take b ws
 
-  pub share_front : take (share_of b left) (drop at es) ≡ take b (drop at (take m es))
-  unfolding share_of
-  share_front = go (ord left b)
-    where
-      go : Ord left b → take (share_of b left) (drop at es) ≡ take b (drop at (take m es))
-      go (lt h t) = rw (t, left_there) (sym (take_all b (take left (drop at es)) (omega (arith, length-left))))
-      go (ge h t) = rw (t, left_there) (sym (take-take b left (drop at es) h))
-
-  pub share_rest : (end : ℕ) → end ≡ at + share_of b left → drop end (take m es) ≡ drop b (drop at (take m es))
-  unfolding share_of
-  share_rest end e = ap (λ (n : ℕ). drop n (take m es)) e ∙ go (ord left b)
-    where
-      whole : length (take m es) ≡ m
-      whole = length-take-le m es long
-
-      go : Ord left b → drop (at + share_of b left) (take m es) ≡ drop b (drop at (take m es))
-      go (lt h t) =
-          let none : length (take m es) ≤ at + left = omega (arith, whole) in
-          let neither : length (take m es) ≤ at + b = omega (arith, whole) in
-          rw t (drop_of_length-le (take m es) none ∙ sym (drop-drop b at (take m es) ∙ drop_of_length-le (take m es) neither))
-      go (ge h t) = rw t (sym (drop-drop b at (take m es)))
+pub share_rest : (b : ℕ) (ws : List ℕ) → records_in (drop (min (length ws) (b * record_words)) ws) ≡ drop b (records_in ws)
+share_rest b ws = ap records_in (drop_short (b * record_words) ws) ∙ records_drop b ws
 
 -- ---- Links
 

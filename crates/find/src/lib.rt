@@ -7,46 +7,45 @@ ghost use Rattle.std.specs.Prelude.{◌≡◌, List, ℕ, ◌+◌, ◌*◌, ◌�
 ghost use Rattle.model.specs.Sizes.{page_words, most_records, record_words};
 ghost use Rattle.model.specs.Pages.{page_of};
 ghost use Rattle.model.specs.Steps.Find as Find;
-ghost use Rattle.records.specs.Words.{seen, left, AtHand};
+ghost use Rattle.records.specs.Work.{seen, left, AtHand};
 ghost use Rattle.find.specs.Links.{LinksOn};
 
+use lock_requests::Lock;
 use model::{
-    ChainAddress, DAMAGE, FIRST_RECORD, MOST_RECORDS, OperationAnswer, PAGE_WORDS, PageAddress,
-    RECORD_WORDS, Restructuring, Root, StepAnswer,
+    ChainAddress, FIRST_RECORD, OperationAnswer, PageAddress, RECORD_WORDS, Refusal, Restructuring,
+    StepAnswer,
 };
-use records::{CHAIN, KEY};
+use records::Working;
 
 // "give up the chain, done".
+#[tactic(auto, unfolding(model::specs::Steps::Find::answered))]
 fn answered(
-    root: Root,
-    party: &mut [u32],
-    q: u32,
+    work: &mut Working,
     locks: &mut [u32],
     pages: &mut [u32],
     answer: OperationAnswer,
-) -> StepAnswer
-    requires { AtHand root party.old q locks.old pages.old }
-    ensures { left result root party.new q locks.new pages.new ≡ Find.answered (seen root party.old q locks.old pages.old) answer }
+) -> Result<StepAnswer, Refusal>
+    requires { AtHand work.old locks.old pages.old }
+    ensures { left result work.new locks.new pages.new ≡ Find.answered (seen work.old locks.old pages.old) answer }
 {
-    let word = lock_requests::chain_word(ChainAddress(party[CHAIN]));
-    let mode = lock_requests::mode_of(&party[..]);
-    if !lock_requests::give_up(locks, word, q, mode) {
-        return StepAnswer::Refused(DAMAGE);
-    }
-    endings::done(root, party, q, pages, answer, Restructuring::None)
+    let mode = lock_requests::mode_of(work.party);
+    let lock = Lock::chain(ChainAddress(work.party.chain), mode);
+    lock_requests::give_up(&*work, locks, &[lock])?;
+    Ok(endings::done(work, pages, answer, Restructuring::None))
 }
 
 // "Else copy the linked page over it and stay at 9": `link` is the scratch page's.
-fn looked_on(root: Root, q: u32, pages: &mut [u32], link: u32) -> StepAnswer
-    requires { LinksOn root q pages.old link }
-    ensures { (party ls : List ℕ) → left result root party q ls pages.new ≡ Find.looked_on (seen root party q ls pages.old) }
+#[tactic(auto, unfolding(model::specs::Steps::Find::looked_on))]
+fn looked_on(work: &Working, pages: &mut [u32], link: u32) -> Result<StepAnswer, Refusal>
+    requires { LinksOn work.now.root work.now.number pages.old link }
+    ensures { (ls : List ℕ) → left result work.now ls pages.new ≡ Find.looked_on (seen work.now ls pages.old) }
 {
     let w = pages::load(&pages[..], PageAddress(link - 1));
-    if !chains::page_sound(root, w) {
-        return StepAnswer::Refused(DAMAGE);
+    if !chains::page_sound(work.root, w) {
+        return Err(Refusal::Damage);
     }
-    pages::store(pages, endings::scratch_page(root, q), w);
-    StepAnswer::Moved
+    pages::store(pages, endings::scratch_page(work.root, work.number), w);
+    Ok(StepAnswer::Moved)
 }
 
 // The setting of the record at this place on page `p`, read where it stands: a page taken by value would be kept whole for it.
@@ -54,42 +53,32 @@ fn setting_at(pages: &[u32], p: PageAddress, place: usize) -> u32
     requires { (p.0 * page_words + page_words ≤ length pages.now) × (place < most_records) }
     ensures { result ≡ get_or (page_of pages.now p.0) (3 + place * record_words + 1) 0 }
 {
-    let first = p.0 as usize * PAGE_WORDS + FIRST_RECORD;
-    pages[first + place * RECORD_WORDS + 1]
+    pages::word(pages, p, FIRST_RECORD + place * RECORD_WORDS + 1)
 }
 
 // "9 key on the scratch page: give up the chain, done found. No link: the same, done absent."
 // "Found answers the setting".
+#[tactic(auto, unfolding(model::specs::Steps::Find::step09))]
 pub fn step_09(
-    root: Root,
-    party: &mut [u32],
-    q: u32,
+    work: &mut Working,
     locks: &mut [u32],
     pages: &mut [u32],
-) -> StepAnswer
-    requires { AtHand root party.old q locks.old pages.old }
-    ensures { left result root party.new q locks.new pages.new ≡ Find.step09 (seen root party.old q locks.old pages.old) }
+) -> Result<StepAnswer, Refusal>
+    requires { AtHand work.old locks.old pages.old }
+    ensures { left result work.new locks.new pages.new ≡ Find.step09 (seen work.old locks.old pages.old) }
 {
-    let scratch = endings::scratch_page(root, q);
+    let scratch = endings::scratch_page(work.root, work.number);
     let s = pages::load(&pages[..], scratch);
-    if !chains::page_sound(root, s) {
-        return StepAnswer::Refused(DAMAGE);
+    if !chains::page_sound(work.root, s) {
+        return Err(Refusal::Damage);
     }
-    let place = chain_scan::place_of(s, party[KEY]);
-    if place < MOST_RECORDS as usize {
+    if let Some(place) = chain_scan::place_of(s, work.party.key) {
         let setting = setting_at(&pages[..], scratch, place);
-        return answered(
-            root,
-            party,
-            q,
-            locks,
-            pages,
-            OperationAnswer::Found(setting),
-        );
+        return answered(work, locks, pages, OperationAnswer::Found(setting));
     }
     let link = chains::link_of(s);
     if link == 0 {
-        return answered(root, party, q, locks, pages, OperationAnswer::Absent);
+        return answered(work, locks, pages, OperationAnswer::Absent);
     }
-    looked_on(root, q, pages, link)
+    looked_on(&*work, pages, link)
 }

@@ -16,7 +16,7 @@ use Rattle.patterns.specs.Patterns.{padded}
 use Rattle.patterns.specs.Grammar.{Derives, plain, holes, Plain}
 use Rattle.patterns.proofs.Theorems.{Small, filled_derived, longest, filled_short}
 use Rattle.forms.specs.declared.Form.{Form}
-use Rattle.forms.specs.declared.FormRead.{FormRead}
+use Rattle.std.specs.Prelude.{None, Some}
 use Rattle.forms.specs.Forms.{step_form, withdraw_form, take_up_form, format_form, find_form, insert_form, delete_form, begin_form, form_pattern, size_numbers, operation_numbers, form_numbers, FormLine, form_text}
 use Rattle.forms.specs.Reading.{as_step, as_begin, as_insert, as_withdraw, as_format, as_take_up, read_take_up, read_format, read_withdraw, read_begin, read_form}
 use Rattle.forms.specs.Printing.{longest_form, given}
@@ -55,7 +55,7 @@ plain_delete = record { parted = refl; held = lit≤ tt }
 
 -- ---- A line that the grammar derives is read
 
-begin_read : (q : ℕ) (o : Operation) (k : ℕ) (line : List ℕ) → Derives (begin_form o) (q ∷ operation_numbers o k) line → read_form line ≡ FormRead.Read (Form.Begin q o k)
+begin_read : (q : ℕ) (o : Operation) (k : ℕ) (line : List ℕ) → Derives (begin_form o) (q ∷ operation_numbers o k) line → read_form line ≡ Some (Form.Begin q o k)
 unfolding read_form read_begin operation_numbers alike padded
 begin_read q Operation.Find k line d =
     skip_row step_form as_step _ plain_find plain_step refl d ∙ take_row (as_begin Operation.Find) _ plain_find d
@@ -79,16 +79,16 @@ past_begin h d s f i e =
     ∙ skip_row insert_form as_insert _ h plain_insert i d
     ∙ skip_row delete_form (as_begin Operation.Delete) _ h plain_delete e d
 
-withdraw_read : (q : ℕ) (line : List ℕ) → Derives withdraw_form (q ∷ []) line → read_form line ≡ FormRead.Read (Form.Withdraw q)
+withdraw_read : (q : ℕ) (line : List ℕ) → Derives withdraw_form (q ∷ []) line → read_form line ≡ Some (Form.Withdraw q)
 unfolding read_withdraw alike padded
 withdraw_read q line d = past_begin plain_withdraw d refl refl refl refl ∙ take_row as_withdraw _ plain_withdraw d
 
-format_read : (s : FileSizes) (line : List ℕ) → Derives format_form (size_numbers s) line → read_form line ≡ FormRead.Read (Form.Format s)
+format_read : (s : FileSizes) (line : List ℕ) → Derives format_form (size_numbers s) line → read_form line ≡ Some (Form.Format s)
 unfolding read_withdraw read_format alike padded size_numbers
 format_read s line d =
     past_begin plain_format d refl refl refl refl ∙ skip_row withdraw_form as_withdraw _ plain_format plain_withdraw refl d ∙ take_row as_format _ plain_format d
 
-take_up_read : (line : List ℕ) → Derives take_up_form [] line → read_form line ≡ FormRead.Read Form.TakeUp
+take_up_read : (line : List ℕ) → Derives take_up_form [] line → read_form line ≡ Some Form.TakeUp
 unfolding read_withdraw read_format read_take_up alike padded
 take_up_read line d =
     past_begin plain-take_up d refl refl refl refl
@@ -96,7 +96,7 @@ take_up_read line d =
     ∙ skip_row format_form as_format _ plain-take_up plain_format refl d
     ∙ take_row as_take_up _ plain-take_up d
 
-pub form_read : (f : Form) (line : List ℕ) → FormLine f line → read_form line ≡ FormRead.Read f
+pub form_read : (f : Form) (line : List ℕ) → FormLine f line → read_form line ≡ Some f
 unfolding FormLine form_pattern form_numbers read_form padded
 form_read (Form.Format s) line d = format_read s line d
 form_read (Form.Begin q o k) line d = begin_read q o k line d
@@ -107,45 +107,45 @@ form_read Form.TakeUp line d = take_up_read line d
 -- ---- A line that is read is derived by the grammar
 
 -- A row's form is read as itself.
-row_form : (f g : Form) (ns line : List ℕ) → form_numbers g ≡ ns → Derives (form_pattern g) ns line → FormRead.Read g ≡ FormRead.Read f → FormLine f line
+row_form : (f g : Form) (ns line : List ℕ) → form_numbers g ≡ ns → Derives (form_pattern g) ns line → Some g ≡ Some f → FormLine f line
 unfolding FormLine
 row_form f g ns line same d e =
     let equal : g ≡ f = cc in
     let derived : Derives (form_pattern g) (form_numbers g) line = rw same d in
     subst (λ (x : Form). Derives (form_pattern x) (form_numbers x) line) equal derived
 
-find_row : (f : Form) (line ns : List ℕ) → length ns ≡ 2 → Derives find_form ns line → as_begin Operation.Find (padded ns) ≡ FormRead.Read f → FormLine f line
+find_row : (f : Form) (line ns : List ℕ) → length ns ≡ 2 → Derives find_form ns line → as_begin Operation.Find (padded ns) ≡ Some f → FormLine f line
 unfolding form_pattern form_numbers operation_numbers
 find_row f line ns long d e = row_form f (Form.Begin (get_or (padded ns) 0 0) Operation.Find (get_or (padded ns) 1 0)) ns line (two_numbers ns long) d e
 
-insert_row : (f : Form) (line ns : List ℕ) → length ns ≡ 3 → Derives insert_form ns line → as_insert (padded ns) ≡ FormRead.Read f → FormLine f line
+insert_row : (f : Form) (line ns : List ℕ) → length ns ≡ 3 → Derives insert_form ns line → as_insert (padded ns) ≡ Some f → FormLine f line
 unfolding form_pattern form_numbers operation_numbers
 insert_row f line ns long d e =
     row_form f (Form.Begin (get_or (padded ns) 0 0) (Operation.Insert (get_or (padded ns) 2 0)) (get_or (padded ns) 1 0)) ns line (three_numbers ns long) d e
 
-delete_row : (f : Form) (line ns : List ℕ) → length ns ≡ 2 → Derives delete_form ns line → as_begin Operation.Delete (padded ns) ≡ FormRead.Read f → FormLine f line
+delete_row : (f : Form) (line ns : List ℕ) → length ns ≡ 2 → Derives delete_form ns line → as_begin Operation.Delete (padded ns) ≡ Some f → FormLine f line
 unfolding form_pattern form_numbers operation_numbers
 delete_row f line ns long d e = row_form f (Form.Begin (get_or (padded ns) 0 0) Operation.Delete (get_or (padded ns) 1 0)) ns line (two_numbers ns long) d e
 
-take_up_row : (f : Form) (line : List ℕ) → read_take_up line ≡ FormRead.Read f → FormLine f line
+take_up_row : (f : Form) (line : List ℕ) → read_take_up line ≡ Some f → FormLine f line
 unfolding read_take_up form_pattern form_numbers holes
 take_up_row f line =
-    row_sound_lem take_up_form line as_take_up FormRead.Unread (λ ns long d e. row_form f Form.TakeUp ns line (no_number ns long) d e)
-    (λ e. absurd (let z : ◌≡◌ {A = ℕ} 0 1 = cc in omega arith))
+    row_sound_lem take_up_form line as_take_up None (λ ns long d e. row_form f Form.TakeUp ns line (no_number ns long) d e)
+    (λ e. cc)
 
-format_row : (f : Form) (line : List ℕ) → read_format line ≡ FormRead.Read f → FormLine f line
+format_row : (f : Form) (line : List ℕ) → read_format line ≡ Some f → FormLine f line
 unfolding read_format form_pattern form_numbers size_numbers holes
 format_row f line =
     row_sound_lem format_form line as_format (read_take_up line)
     (λ ns long d e. row_form f (Form.Format (record { originals = get_or (padded ns) 0 0; capacity = get_or (padded ns) 1 0; primaries = get_or (padded ns) 2 0; overflow = get_or (padded ns) 3 0; parties = get_or (padded ns) 4 0 })) ns line (five_numbers ns long) d e)
     (take_up_row f line)
 
-withdraw_row : (f : Form) (line : List ℕ) → read_withdraw line ≡ FormRead.Read f → FormLine f line
+withdraw_row : (f : Form) (line : List ℕ) → read_withdraw line ≡ Some f → FormLine f line
 unfolding read_withdraw form_pattern form_numbers holes
 withdraw_row f line =
     row_sound_lem withdraw_form line as_withdraw (read_format line) (λ ns long d e. row_form f (Form.Withdraw (get_or (padded ns) 0 0)) ns line (one_number ns long) d e) (format_row f line)
 
-pub read_form_lem : (f : Form) (line : List ℕ) → read_form line ≡ FormRead.Read f → FormLine f line
+pub read_form_lem : (f : Form) (line : List ℕ) → read_form line ≡ Some f → FormLine f line
 unfolding read_form read_begin form_pattern form_numbers holes
 read_form_lem f line =
     row_sound_lem step_form line as_step (read_begin line) (λ ns long d e. row_form f (Form.Step (get_or (padded ns) 0 0)) ns line (one_number ns long) d e)
@@ -163,11 +163,10 @@ one_form f g line d e =
     cc
 
 -- A line that is unread is no form.
-pub unread_form : (line : List ℕ) → read_form line ≡ FormRead.Unread → (f : Form) → FormLine f line → ⊥
+pub unread_form : (line : List ℕ) → read_form line ≡ None → (f : Form) → FormLine f line → ⊥
 unread_form line e f d =
     let as_f = form_read f line d in
-    let z : ◌≡◌ {A = ℕ} 0 1 = cc in
-    omega arith
+    cc
 
 -- The numbers of a form fit 32 bits, as those of the code do.
 unfoldable pub FormFits : Form → Type 0
@@ -183,7 +182,7 @@ form_holes (Form.Step q) = refl
 form_holes (Form.Withdraw q) = refl
 form_holes Form.TakeUp = refl
 
-pub printed_form_read : (f : Form) → FormFits f → read_form (form_text f) ≡ FormRead.Read f
+pub printed_form_read : (f : Form) → FormFits f → read_form (form_text f) ≡ Some f
 unfolding FormFits FormLine form_text
 printed_form_read f small = form_read f (form_text f) (filled_derived (form_pattern f) (form_numbers f) (form_holes f) small)
 
@@ -201,7 +200,7 @@ form_short Form.TakeUp = omega (arith, filled_short take_up_form (form_numbers F
 
 -- A form that is printed stands at its place and is read again from there.
 pub printed_form_there : (f : Form) (out : List ℕ) (at : ℕ) → FormFits f → at + longest_form ≤ length out
-    → read_form (take (length (form_text f)) (drop at (sets out at (given (length out) at longest_form (form_text f))))) ≡ FormRead.Read f
+    → read_form (take (length (form_text f)) (drop at (sets out at (given (length out) at longest_form (form_text f))))) ≡ Some f
 printed_form_there f out at small room =
     let text : given (length out) at longest_form (form_text f) ≡ form_text f = is-given (length out) at longest_form (form_text f) room in
     rw (text, put_there at out (form_text f) (omega (arith, form_short f))) (printed_form_read f small)

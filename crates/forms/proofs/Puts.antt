@@ -1,12 +1,12 @@
 -- Texts put at a place: room for them, and one text for another.
--- Main statements: room (a pattern filled is no longer than its longest text), put_as, put_then, put_nothing; is-given, not-given; put_there (what was put
+-- Main statements: room (a pattern filled is no longer than its longest text), put_as, put_then, put_three, room_behind, placed, put_nothing; is-given, not-given; put_there (what was put
 -- stands at its place).
 use mathlib.Core.Path.{◌≡◌, refl, sym, ap, ◌∙◌}
 use mathlib.Core.List.{List, [], ◌++◌, append_assoc}
 use Prim.Native.Nat.{ℕ, ◌+◌, ◌≤◌, ◌<◌}
 use native.Mathlib.Omega.{arith}
 use lib.ListN.{length, take, drop, length-append}
-use lib.Seq.{sets, sets-eq, length-take-le, take_at, drop_at}
+use lib.Seq.{sets, length-sets, sets-eq, length-take-le, take_at, drop_at}
 use lib.Dec.{T, leb, leb→le}
 use borrow.Author.Tests.{le-leb, lt-leb}
 use Rattle.patterns.specs.Patterns.{filled}
@@ -29,6 +29,19 @@ pub put_then : {r s : ℕ} {out mid : List ℕ} (at : ℕ) (first t u : List ℕ
     → IsPut r out at first (t ++ u)
 put_then at first t u one other =
     record { value = omega (arith, one.value, other.value, length-append t u); out_after = other.out_after ∙ rw (one.value, one.out_after) (sym (sets_append first at t u)) }
+
+-- Three texts, one behind the other.
+pub put_three : {r s k : ℕ} {out mid next : List ℕ} (at : ℕ) (first t u v : List ℕ) → IsPut s mid at first t → IsPut k next s mid u → IsPut r out k next v
+    → IsPut r out at first (t ++ (u ++ v))
+put_three {s = s} {mid = mid} at first t u v one two three = put_then at first t (u ++ v) one (put_then s mid u v two three)
+
+-- Behind a text there is room for the other.
+pub room_behind : {s : ℕ} {mid : List ℕ} (at : ℕ) (first t u : List ℕ) → IsPut s mid at first t → at + length (t ++ u) ≤ length first → s + length u ≤ length mid
+room_behind at first t u put fits = omega (arith, put.value, ap length put.out_after, length-sets first at t, length-append t u)
+
+-- Where a text no longer than `most` was put, its end is near and the bytes are as many.
+pub placed : {s : ℕ} {mid : List ℕ} (at : ℕ) (first t : List ℕ) (most : ℕ) → IsPut s mid at first t → length t ≤ most → (s ≤ at + most) × (length mid ≡ length first)
+placed at first t most put short = (omega (arith, put.value), ap length put.out_after ∙ length-sets first at t)
 
 -- Nothing put.
 pub put_nothing : (at : ℕ) (first t : List ℕ) → t ≡ [] → IsPut at first at first t

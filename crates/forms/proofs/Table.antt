@@ -1,5 +1,5 @@
 -- Rows of a table tried one after the other, against the grammar.
--- Main statements: take_row, skip_row (the row that derives a line is taken, any other is skipped); row_sound_lem (what a row answers is derived by its pattern);
+-- Main statements: numbers_matched, numbers_unmatched (what the code answers of a pattern); take_row, skip_row (the row that derives a line is taken, any other is skipped); row_sound_lem (what a row answers is derived by its pattern);
 -- no_number to five_numbers (the numbers of a match, from the places where the code holds them).
 use mathlib.Core.Path.{◌≡◌, refl, sym, ap, ◌∙◌, subst}
 use mathlib.Core.Bool.{Bool, true, false, ◌&&◌, true≢false}
@@ -9,10 +9,12 @@ use native.Mathlib.Omega.{arith}
 use lib.ListN.{length, get_or}
 use lib.Dec.{eqb}
 use borrow.Author.Tests.{eq-eqb}
-use Rattle.patterns.specs.Patterns.{Matching, no, yes, match_from, to_end, padded}
+use Rattle.patterns.specs.Patterns.{Matching, no, yes, match_from, to_end, padded, matched}
 use Rattle.patterns.specs.Grammar.{Derives, holes, Plain}
 use Rattle.patterns.proofs.Theorems.{line_matched, matched_line, same_pattern, derives_holes}
-use Rattle.forms.specs.Reading.{or_else, wholly}
+use Rattle.std.specs.Prelude.{None, Some}
+use Rattle.patterns.specs.declared.Match.{Match}
+use Rattle.forms.specs.Reading.{or_else, wholly, numbers_of, numbers_in}
 
 -- Whether two patterns are the same.
 unfoldable pub alike : List ℕ → List ℕ → Bool
@@ -50,23 +52,34 @@ other_pattern {p} {ns} {line} q hp hq differ d = go (wholly q line) refl
         let same : p ≡ q = same_pattern hp hq d (wholly_derived q line ms rest e) in
         absurd (true≢false (sym (subst (λ (x : List ℕ). alike p x ≡ true) same (alike_self p)) ∙ differ))
 
+-- The numbers of a match that the code found, and none where it found none.
+pub numbers_matched : (n : ℕ) (m : Matching) {found : Match} → Some found ≡ matched n m → Some found.numbers ≡ numbers_of m
+unfolding matched numbers_of
+numbers_matched n no e = cc
+numbers_matched n (yes ns rest) e = cc
+
+pub numbers_unmatched : (n : ℕ) (m : Matching) → None ≡ matched n m → None ≡ numbers_of m
+unfolding matched numbers_of
+numbers_unmatched n no e = refl
+numbers_unmatched n (yes ns rest) e = cc
+
 -- The row of the pattern that derives a line is taken, and the rows before it are skipped.
-pub take_row : {A : Type 0} {p ns line : List ℕ} (f : List ℕ → A) (other : A) → Plain p → Derives p ns line → or_else (wholly p line) f other ≡ f (padded ns)
-unfolding or_else
+pub take_row : {A : Type 0} {p ns line : List ℕ} (f : List ℕ → A) (other : A) → Plain p → Derives p ns line → or_else (numbers_in p line) f other ≡ f (padded ns)
+unfolding or_else numbers_of
 take_row f other h d = rw (derived_wholly h d)
 
 pub skip_row : {A : Type 0} {p ns line : List ℕ} (q : List ℕ) (f : List ℕ → A) (other : A) → Plain p → Plain q → alike p q ≡ false → Derives p ns line
-    → or_else (wholly q line) f other ≡ other
-unfolding or_else
+    → or_else (numbers_in q line) f other ≡ other
+unfolding or_else numbers_of
 skip_row q f other hp hq differ d = rw (other_pattern q hp hq differ d)
 
 -- What a row answers: either its pattern derives the line with as many numbers as it has holes, or the rows after it answer.
 pub row_sound_lem : {A B : Type 0} {x : A} (p line : List ℕ) (f : List ℕ → A) (other : A)
-    → ((ns : List ℕ) → length ns ≡ holes p → Derives p ns line → f (padded ns) ≡ x → B) → (other ≡ x → B) → or_else (wholly p line) f other ≡ x → B
-unfolding or_else
+    → ((ns : List ℕ) → length ns ≡ holes p → Derives p ns line → f (padded ns) ≡ x → B) → (other ≡ x → B) → or_else (numbers_in p line) f other ≡ x → B
+unfolding or_else numbers_of
 row_sound_lem {B = B} {x = x} p line f other here there = go (wholly p line) refl
   where
-    go : (m : Matching) → wholly p line ≡ m → or_else m f other ≡ x → B
+    go : (m : Matching) → wholly p line ≡ m → or_else (numbers_of m) f other ≡ x → B
     go no q e = there e
     go (yes ns rest) q e =
         let d = wholly_derived p line ns rest q in

@@ -1,9 +1,10 @@
 -- The words for an operation's answer and for a restructuring: found has its setting, no number is in the others; they are short and no digit begins them.
--- Main statements: answer_short, restructuring_short, tail_holes, tail_plain, restructuring_stops; done_text (a step that is done, printed in parts);
+-- Main statements: answer_short, restructuring_short, tail_holes, tail_plain, restructuring_stops; done_text, done_pieces (a step that is done, printed in parts);
+-- format_text, begin_text, withdraw_text, take_up_text (other replies in parts);
 -- answer_complete, answer_sound, restructuring_complete, restructuring_sound (the words are read as they are derived, and nothing else is).
 use mathlib.Core.Path.{◌≡◌, refl, sym, ap, ◌∙◌, subst}
 use mathlib.Core.Bool.{Bool, true, false}
-use mathlib.Core.List.{List, [], ◌∷◌, ◌++◌, append-nil}
+use mathlib.Core.List.{List, [], ◌∷◌, ◌++◌, append_assoc, append-nil}
 use Prim.Native.Nat.{ℕ, ◌+◌, ◌≤◌}
 use native.Mathlib.Omega.{arith}
 use lib.ListN.{length, get_or}
@@ -11,15 +12,17 @@ use lib.Dec.{lit≤}
 use Rattle.model.specs.declared.OperationAnswer.{OperationAnswer}
 use Rattle.model.specs.declared.Restructuring.{Restructuring}
 use Rattle.model.specs.declared.StepAnswer.TheVariants as StepAnswer
-use Rattle.patterns.specs.Numbers.{is_digit}
+use Rattle.std.specs.Prelude.{Option, None, Some, Ok, Err}
+use Rattle.patterns.specs.Texts.{bytes}
+use Rattle.patterns.specs.Numbers.{is_digit, decimal}
 use Rattle.patterns.specs.Patterns.{Matching, no, yes, and_then, byte_in, symbol_in, match_from, to_end, padded, filled, symbol_text, numbers_after}
 use Rattle.patterns.specs.Grammar.{Derives, holes, plain}
 use Rattle.patterns.proofs.Numerals.{stops}
 use Rattle.patterns.proofs.Theorems.{filled_append, filled_literal, filled_short, longest, literal_line, match_complete, match_sound, derives_holes}
-use Rattle.forms.specs.declared.RestructuringRead.{RestructuringRead}
 use Rattle.forms.specs.declared.Reply.TheVariants as Reply
-use Rattle.forms.specs.Replies.{step_done, found_answer, answer_pattern, answer_numbers, answer_text, restructuring_text, step_pattern, step_numbers, reply_pattern, reply_numbers, reply_text}
-use Rattle.forms.specs.Reading.{or_else, wholly, AnswerAt, none, at, or_next, answer_in, found_in, read_answer, restructuring_in, read_restructuring}
+use Rattle.forms.specs.Replies.{step_done, found_answer, answer_pattern, answer_numbers, answer_text, restructuring_text, Outcome, format_pattern, begin_pattern, withdraw_pattern, take_up_pattern, outcome_numbers, outcome_text, step_pattern, step_numbers, reply_pattern, reply_numbers, reply_text}
+use Rattle.forms.specs.Reading.{or_else, wholly, numbers_of, AnswerAt, none, at, or_next, answer_in, found_in, read_answer, restructuring_in, read_restructuring}
+use Rattle.forms.proofs.StepLine.{step_text}
 use Rattle.forms.proofs.Table.{row_sound_lem, no_number, one_number}
 
 -- ---- How long the words are, and their numbers
@@ -75,26 +78,47 @@ holes_append (b ∷ p) q = omega (arith, holes_append p q)
 pub tail_holes : (a : OperationAnswer) (r : Restructuring) → length (answer_numbers a) ≡ holes (answer_pattern a ++ restructuring_text r)
 tail_holes a r = omega (arith, answer_holes a, holes_append (answer_pattern a) (restructuring_text r), restructuring_literal r)
 
-first_number : (q : ℕ) → filled step_done (q ∷ (0 ∷ (0 ∷ (0 ∷ (0 ∷ []))))) ≡ filled step_done (q ∷ [])
-unfolding filled symbol_text numbers_after
-first_number q = refl
-
 done-hole : 1 ≡ holes step_done
 unfolding holes
 done-hole = refl
 
 -- A text put in parts is the reply's.
 pub done_text : (q : ℕ) (a : OperationAnswer) (r : Restructuring)
-    → filled step_done (q ∷ (0 ∷ (0 ∷ (0 ∷ (0 ∷ []))))) ++ (answer_text a ++ restructuring_text r) ≡ reply_text (Reply.Step q (StepAnswer.Done a r))
+    → filled step_done (q ∷ []) ++ (answer_text a ++ restructuring_text r) ≡ reply_text (Reply.Step q (Ok (StepAnswer.Done a r)))
 unfolding reply_text reply_pattern reply_numbers step_pattern step_numbers answer_text
 done_text q a r =
     let tail = answer_pattern a ++ restructuring_text r in
-    let same : filled step_done (q ∷ (0 ∷ (0 ∷ (0 ∷ (0 ∷ []))))) ≡ filled step_done (q ∷ []) = first_number q in
     let behind : filled tail (answer_numbers a) ≡ answer_text a ++ restructuring_text r =
     ap (filled tail) (sym (append-nil (answer_numbers a)))
     ∙ filled_append (answer_pattern a) (restructuring_text r) (answer_numbers a) [] (answer_holes a)
     ∙ ap (λ (x : List ℕ). answer_text a ++ x) (filled_literal (restructuring_text r) [] (restructuring_literal r)) in
-    rw same (ap (λ (x : List ℕ). filled step_done (q ∷ []) ++ x) (sym behind) ∙ sym (filled_append step_done tail (q ∷ []) (answer_numbers a) done-hole))
+    ap (λ (x : List ℕ). filled step_done (q ∷ []) ++ x) (sym behind) ∙ sym (filled_append step_done tail (q ∷ []) (answer_numbers a) done-hole)
+
+pub done_pieces : (q : ℕ) (a : OperationAnswer) (r : Restructuring)
+    → step_text ++ (decimal q ++ (bytes " (done " ++ (answer_text a ++ restructuring_text r))) ≡ reply_text (Reply.Step q (Ok (StepAnswer.Done a r)))
+unfolding filled symbol_text numbers_after
+done_pieces q a r = ap (λ (x : List ℕ). step_text ++ x) (sym (append_assoc (decimal q) (bytes " (done ") (answer_text a ++ restructuring_text r))) ∙ done_text q a r
+
+-- What a call answers that is no step, in parts.
+pub format_text : (a : Outcome) → filled (bytes "(format ") [] ++ outcome_text a ≡ reply_text (Reply.Format a)
+unfolding reply_text reply_pattern reply_numbers format_pattern outcome_numbers outcome_text filled symbol_text numbers_after
+format_text (Ok a) = refl
+format_text (Err n) = refl
+
+pub begin_text : (q : ℕ) (a : Outcome) → filled (bytes "(begin # ") (q ∷ []) ++ outcome_text a ≡ reply_text (Reply.Begin q a)
+unfolding reply_text reply_pattern reply_numbers begin_pattern outcome_numbers outcome_text holes filled symbol_text numbers_after
+begin_text q (Ok a) = sym (filled_append (bytes "(begin # ") (bytes "ok)") (q ∷ []) [] refl)
+begin_text q (Err n) = sym (filled_append (bytes "(begin # ") (bytes "(refused #))") (q ∷ []) (n ∷ []) refl)
+
+pub withdraw_text : (q : ℕ) (a : Outcome) → filled (bytes "(withdraw # ") (q ∷ []) ++ outcome_text a ≡ reply_text (Reply.Withdraw q a)
+unfolding reply_text reply_pattern reply_numbers withdraw_pattern outcome_numbers outcome_text holes filled symbol_text numbers_after
+withdraw_text q (Ok a) = sym (filled_append (bytes "(withdraw # ") (bytes "ok)") (q ∷ []) [] refl)
+withdraw_text q (Err n) = sym (filled_append (bytes "(withdraw # ") (bytes "(refused #))") (q ∷ []) (n ∷ []) refl)
+
+pub take_up_text : (a : Outcome) → filled (bytes "(take-up ") [] ++ outcome_text a ≡ reply_text (Reply.TakeUp a)
+unfolding reply_text reply_pattern reply_numbers take_up_pattern outcome_numbers outcome_text filled symbol_text numbers_after
+take_up_text (Ok a) = refl
+take_up_text (Err n) = refl
 
 restructuring_plain : (r : Restructuring) → plain false (restructuring_text r) ≡ true
 unfolding plain is_digit
@@ -145,8 +169,8 @@ answer_complete OperationAnswer.Present text rest d s = word_complete OperationA
 answer_complete OperationAnswer.Deleted text rest d s = word_complete OperationAnswer.Deleted text rest d refl
 answer_complete OperationAnswer.NoPage text rest d s = word_complete OperationAnswer.NoPage text rest d refl
 
-pub restructuring_complete : (r : Restructuring) → read_restructuring (restructuring_text r) ≡ RestructuringRead.Read r
-unfolding read_restructuring restructuring_in or_else wholly to_end match_from symbol_in byte_in and_then
+pub restructuring_complete : (r : Restructuring) → read_restructuring (restructuring_text r) ≡ Some r
+unfolding read_restructuring restructuring_in or_else numbers_of wholly to_end match_from symbol_in byte_in and_then
 restructuring_complete Restructuring.None = refl
 restructuring_complete Restructuring.Split = refl
 restructuring_complete Restructuring.SplitSkipped = refl
@@ -204,21 +228,21 @@ answer_sound l b rest =
     (word_row OperationAnswer.Inserted refl l _ b rest
     (word_row OperationAnswer.Present refl l _ b rest
     (word_row OperationAnswer.Deleted refl l _ b rest
-    (word_row OperationAnswer.NoPage refl l none b rest (λ e. absurd (let z : ◌≡◌ {A = ℕ} 0 1 = cc in omega arith)))))))
+    (word_row OperationAnswer.NoPage refl l none b rest (λ e. cc))))))
 
-restructuring_row : (r : Restructuring) (l : List ℕ) (other : RestructuringRead) (m : Restructuring) → (other ≡ RestructuringRead.Read m → l ≡ restructuring_text m)
-    → restructuring_in r l other ≡ RestructuringRead.Read m → l ≡ restructuring_text m
+restructuring_row : (r : Restructuring) (l : List ℕ) (other : Option Restructuring) (m : Restructuring) → (other ≡ Some m → l ≡ restructuring_text m)
+    → restructuring_in r l other ≡ Some m → l ≡ restructuring_text m
 unfolding restructuring_in
 restructuring_row r l other m next =
-    row_sound_lem (restructuring_text r) l (λ ns. RestructuringRead.Read r) other
+    row_sound_lem (restructuring_text r) l (λ ns. Some r) other
     (λ ns long d e. let same : r ≡ m = cc in (literal_line d (restructuring_literal r)).0 ∙ ap restructuring_text same)
     next
 
-pub restructuring_sound : (l : List ℕ) (m : Restructuring) → read_restructuring l ≡ RestructuringRead.Read m → l ≡ restructuring_text m
+pub restructuring_sound : (l : List ℕ) (m : Restructuring) → read_restructuring l ≡ Some m → l ≡ restructuring_text m
 unfolding read_restructuring
 restructuring_sound l m =
     restructuring_row Restructuring.None l _ m
     (restructuring_row Restructuring.Split l _ m
     (restructuring_row Restructuring.SplitSkipped l _ m
     (restructuring_row Restructuring.Merged l _ m
-    (restructuring_row Restructuring.MergeSkipped l RestructuringRead.Unread m (λ e. absurd (let z : ◌≡◌ {A = ℕ} 0 1 = cc in omega arith))))))
+    (restructuring_row Restructuring.MergeSkipped l None m (λ e. cc)))))

@@ -1,15 +1,11 @@
 -- The replies that turns prints (document 01, "The turns program"; document 02, changes 2 and 6): each has a pattern
 -- and the numbers in it.
--- Main definitions: reply_pattern and reply_numbers, a row for each reply; a step that is done has a row for its answer
--- and one for the restructuring; ReplyLine, reply_text.
-use Rattle.std.specs.Prelude.{List, [], ◌∷◌, ◌++◌, ℕ}
-use Rattle.model.specs.declared.BeginAnswer.{BeginAnswer}
-use Rattle.model.specs.declared.FormatAnswer.{FormatAnswer}
+-- Main definitions: Outcome and StepOutcome (an answer, or a refusal's number); reply_pattern and reply_numbers, a row for
+-- each reply; a step that is done has a row for its answer and one for the restructuring; ReplyLine, reply_text.
+use Rattle.std.specs.Prelude.{Result, Ok, Err, ⊤, List, [], ◌∷◌, ◌++◌, ℕ}
 use Rattle.model.specs.declared.OperationAnswer.{OperationAnswer}
 use Rattle.model.specs.declared.Restructuring.{Restructuring}
 use Rattle.model.specs.declared.StepAnswer.{StepAnswer}
-use Rattle.model.specs.declared.TakeUpAnswer.{TakeUpAnswer}
-use Rattle.model.specs.declared.WithdrawAnswer.{WithdrawAnswer}
 use Rattle.patterns.specs.Texts.{bytes}
 use Rattle.patterns.specs.Patterns.{filled}
 use Rattle.patterns.specs.Grammar.{Derives}
@@ -77,27 +73,34 @@ restructuring_text Restructuring.MergeSkipped = bytes "merge-skipped))"
 
 -- ---- The rows
 
-unfoldable pub format_pattern : FormatAnswer → List ℕ
-format_pattern FormatAnswer.Formatted = format_ok
-format_pattern (FormatAnswer.Refused n) = format_refused
+-- Of a call that is answered ok or refused, and of a step; a refusal stands by its number.
+abbrev pub Outcome : Type 0
+Outcome = Result ⊤ ℕ
 
-unfoldable pub begin_pattern : BeginAnswer → List ℕ
-begin_pattern BeginAnswer.Begun = begin_ok
-begin_pattern (BeginAnswer.Refused n) = begin_refused
+abbrev pub StepOutcome : Type 0
+StepOutcome = Result StepAnswer ℕ
 
-unfoldable pub withdraw_pattern : WithdrawAnswer → List ℕ
-withdraw_pattern WithdrawAnswer.Withdrawn = withdraw_ok
-withdraw_pattern (WithdrawAnswer.Refused n) = withdraw_refused
+unfoldable pub format_pattern : Outcome → List ℕ
+format_pattern (Ok a) = format_ok
+format_pattern (Err n) = format_refused
 
-unfoldable pub take_up_pattern : TakeUpAnswer → List ℕ
-take_up_pattern TakeUpAnswer.TakenUp = take_up_ok
-take_up_pattern (TakeUpAnswer.Refused n) = take_up_refused
+unfoldable pub begin_pattern : Outcome → List ℕ
+begin_pattern (Ok a) = begin_ok
+begin_pattern (Err n) = begin_refused
 
-unfoldable pub step_pattern : StepAnswer → List ℕ
-step_pattern StepAnswer.Waiting = step_waiting
-step_pattern StepAnswer.Moved = step_moved
-step_pattern (StepAnswer.Done a r) = step_done ++ (answer_pattern a ++ restructuring_text r)
-step_pattern (StepAnswer.Refused n) = step_refused
+unfoldable pub withdraw_pattern : Outcome → List ℕ
+withdraw_pattern (Ok a) = withdraw_ok
+withdraw_pattern (Err n) = withdraw_refused
+
+unfoldable pub take_up_pattern : Outcome → List ℕ
+take_up_pattern (Ok a) = take_up_ok
+take_up_pattern (Err n) = take_up_refused
+
+unfoldable pub step_pattern : StepOutcome → List ℕ
+step_pattern (Ok StepAnswer.Waiting) = step_waiting
+step_pattern (Ok StepAnswer.Moved) = step_moved
+step_pattern (Ok (StepAnswer.Done a r)) = step_done ++ (answer_pattern a ++ restructuring_text r)
+step_pattern (Err n) = step_refused
 
 unfoldable pub reply_pattern : Reply → List ℕ
 reply_pattern Reply.Unread = unread_reply
@@ -107,21 +110,10 @@ reply_pattern (Reply.Step q a) = step_pattern a
 reply_pattern (Reply.Withdraw q a) = withdraw_pattern a
 reply_pattern (Reply.TakeUp a) = take_up_pattern a
 
-unfoldable pub format_numbers : FormatAnswer → List ℕ
-format_numbers FormatAnswer.Formatted = []
-format_numbers (FormatAnswer.Refused n) = n ∷ []
-
-unfoldable pub begin_numbers : BeginAnswer → List ℕ
-begin_numbers BeginAnswer.Begun = []
-begin_numbers (BeginAnswer.Refused n) = n ∷ []
-
-unfoldable pub withdraw_numbers : WithdrawAnswer → List ℕ
-withdraw_numbers WithdrawAnswer.Withdrawn = []
-withdraw_numbers (WithdrawAnswer.Refused n) = n ∷ []
-
-unfoldable pub take_up_numbers : TakeUpAnswer → List ℕ
-take_up_numbers TakeUpAnswer.TakenUp = []
-take_up_numbers (TakeUpAnswer.Refused n) = n ∷ []
+-- The number of a refusal.
+unfoldable pub outcome_numbers : Outcome → List ℕ
+outcome_numbers (Ok a) = []
+outcome_numbers (Err n) = n ∷ []
 
 -- Found has its setting.
 unfoldable pub answer_numbers : OperationAnswer → List ℕ
@@ -132,19 +124,24 @@ answer_numbers OperationAnswer.Present = []
 answer_numbers OperationAnswer.Deleted = []
 answer_numbers OperationAnswer.NoPage = []
 
-unfoldable pub step_numbers : StepAnswer → List ℕ
-step_numbers StepAnswer.Waiting = []
-step_numbers StepAnswer.Moved = []
-step_numbers (StepAnswer.Done a r) = answer_numbers a
-step_numbers (StepAnswer.Refused n) = n ∷ []
+unfoldable pub step_numbers : StepOutcome → List ℕ
+step_numbers (Ok StepAnswer.Waiting) = []
+step_numbers (Ok StepAnswer.Moved) = []
+step_numbers (Ok (StepAnswer.Done a r)) = answer_numbers a
+step_numbers (Err n) = n ∷ []
 
 unfoldable pub reply_numbers : Reply → List ℕ
 reply_numbers Reply.Unread = []
-reply_numbers (Reply.Format a) = format_numbers a
-reply_numbers (Reply.Begin q a) = q ∷ begin_numbers a
+reply_numbers (Reply.Format a) = outcome_numbers a
+reply_numbers (Reply.Begin q a) = q ∷ outcome_numbers a
 reply_numbers (Reply.Step q a) = q ∷ step_numbers a
-reply_numbers (Reply.Withdraw q a) = q ∷ withdraw_numbers a
-reply_numbers (Reply.TakeUp a) = take_up_numbers a
+reply_numbers (Reply.Withdraw q a) = q ∷ outcome_numbers a
+reply_numbers (Reply.TakeUp a) = outcome_numbers a
+
+-- What stands behind a call's name and party.
+unfoldable pub outcome_text : Outcome → List ℕ
+outcome_text (Ok a) = bytes "ok)"
+outcome_text (Err n) = filled (bytes "(refused #))") (n ∷ [])
 
 -- An answer as it is printed, with the space behind it.
 unfoldable pub answer_text : OperationAnswer → List ℕ

@@ -1,6 +1,6 @@
 -- A list given back page by page while its links are read: one turn, over the model's given_back.
 -- Main statements: walked_at_most (a list walked has at most V pages), walked_list, first-within, rest_list (its
--- pages, one by one); all_to_give (the start), one_given (a turn), all_given (the end); same_sizes, free_list_kept
+-- pages, one by one); all_to_give (the start), next_given and one_given (a turn), all_given (the end); same_sizes, free_list_kept
 -- (giving back leaves the rest of the root record).
 use mathlib.Core.Path.{◌≡◌, refl, sym, ap, ◌∙◌}
 use mathlib.Core.Bool.{true}
@@ -11,7 +11,7 @@ use lib.ListN.{length}
 use Rattle.model.specs.declared.Root.{Root}
 use Rattle.model.specs.Sizes.{page_words}
 use Rattle.model.specs.Pages.{page_of, with_page, link_of, free_page, link_sound, link_to_first}
-use Rattle.model.specs.Chains.{Checked, damaged, sound, list_from}
+use Rattle.model.specs.Chains.{Checked, list_from}
 use Rattle.model.specs.FreeList.{GivenBack, given_back}
 use Rattle.model.proofs.Laws.Lists.{All}
 use Rattle.model.proofs.Laws.Pages.{Has, length-free_page}
@@ -19,23 +19,21 @@ use Rattle.model.proofs.Laws.Structure.{linked_frame}
 use Rattle.model.proofs.Laws.Filling.{Chained, IsOverflow}
 use Rattle.model.proofs.Laws.Walks.{walked_chained, linked_overflow, linked_distinct, same_beside}
 use Rattle.chains.specs.Walks.{counted}
-use Rattle.chains.specs.declared.Walked.TheVariants as Walked
+use Rattle.chains.proofs.Answered.{answered_sound}
+use Rattle.std.specs.Prelude.{Ok}
 use Rattle.model.specs.Records.{with_free_list}
 use Rattle.free_list.specs.Giving.{listed, Returned, returned, after_giving}
 
 -- A list that was walked without damage has at most V pages.
-pub walked_at_most : (r : Root) (ps : List ℕ) (l n : ℕ) → counted (list_from r ps l) ≡ Walked.Pages n → n ≤ r.overflow
+pub walked_at_most : (r : Root) (ps : List ℕ) (l n : ℕ) → counted (list_from r ps l) ≡ Ok n → n ≤ r.overflow
 unfolding list_from
-walked_at_most r ps l n e = go (list_from r ps l) refl e
-  where
-    go : (x : Checked (List ℕ)) → x ≡ list_from r ps l → counted x ≡ Walked.Pages n → n ≤ r.overflow
-    go damaged ex e = absurd (let z : ◌≡◌ {A = ℕ} 0 1 = cc in omega arith)
-    go (sound xs) ex e = let count : length xs ≡ n = cc in omega (arith, (walked_chained r ps r.overflow l xs (sym ex)).1)
+walked_at_most r ps l n e =
+    let read = answered_sound length (list_from r ps l) (sym e) in
+    omega (arith, read.answer, (walked_chained r ps r.overflow l read.value read.is_sound).1)
 
 -- The list's length is what the walk counted.
-pub listed-length : (x : Checked (List ℕ)) (n : ℕ) → counted x ≡ Walked.Pages n → length (listed x) ≡ n
-listed-length damaged n e = absurd (let z : ◌≡◌ {A = ℕ} 0 1 = cc in omega arith)
-listed-length (sound xs) n e = cc
+pub listed-length : (x : Checked (List ℕ)) (n : ℕ) → counted x ≡ Ok n → length (listed x) ≡ n
+listed-length x n e = let read = answered_sound length x (sym e) in rw read.is_sound read.answer
 
 -- Link l leads to the pages xs, which are overflow pages.
 pub record ListAt (r : Root) (ps : List ℕ) (l : ℕ) (xs : List ℕ) : Type 0 where
@@ -43,15 +41,12 @@ pub record ListAt (r : Root) (ps : List ℕ) (l : ℕ) (xs : List ℕ) : Type 0 
   pub overflow : All (IsOverflow r) xs
 
 -- The pages of the list that was walked.
-pub walked_list : (r : Root) (ps : List ℕ) (first n : ℕ) → link_sound r first ≡ true → counted (list_from r ps first) ≡ Walked.Pages n → ListAt r ps first (listed (list_from r ps first))
+pub walked_list : (r : Root) (ps : List ℕ) (first n : ℕ) → link_sound r first ≡ true → counted (list_from r ps first) ≡ Ok n → ListAt r ps first (listed (list_from r ps first))
 unfolding list_from
-walked_list r ps first n s e = go (list_from r ps first) refl e
-  where
-    go : (x : Checked (List ℕ)) → x ≡ list_from r ps first → counted x ≡ Walked.Pages n → ListAt r ps first (listed x)
-    go damaged ex e = absurd (let z : ◌≡◌ {A = ℕ} 0 1 = cc in omega arith)
-    go (sound xs) ex e =
-        let found = (walked_chained r ps r.overflow first xs (sym ex)).0 in
-        record { chained = found; overflow = linked_overflow r ps xs (rw found.first at s) found.linked }
+walked_list r ps first n s e =
+    let read = answered_sound length (list_from r ps first) (sym e) in
+    let found = (walked_chained r ps r.overflow first read.value read.is_sound).0 in
+    rw read.is_sound record { chained = found; overflow = linked_overflow r ps read.value (rw found.first at s) found.linked }
 
 -- The first page is an overflow page.
 pub first-within : (r : Root) (ps : List ℕ) (l : ℕ) (xs : List ℕ) → ListAt r ps l xs → 0 < length xs → (r.primaries < l) × (l ≤ r.primaries + r.overflow)
@@ -77,8 +72,12 @@ pub record ToGive (r : Root) (whole : GivenBack) (ps : List ℕ) (head l left : 
   pub count : length rest ≡ left
   pub same : whole ≡ given_back ps head rest
 
+-- The next page stands in the memory.
+pub next_given : {r : Root} {whole : GivenBack} {ps : List ℕ} {head l left : ℕ} → ToGive r whole ps head l left → 0 < left → (r.primaries < l) × (l ≤ r.primaries + r.overflow)
+next_given {r} {ps = ps} {l = l} g more = first-within r ps l g.rest g.list (omega (arith, g.count))
+
 -- Nothing is given back yet.
-pub all_to_give : (r : Root) (ps : List ℕ) (head first n : ℕ) → link_sound r first ≡ true → counted (list_from r ps first) ≡ Walked.Pages n
+pub all_to_give : (r : Root) (ps : List ℕ) (head first n : ℕ) → link_sound r first ≡ true → counted (list_from r ps first) ≡ Ok n
     → ToGive r (given_back ps head (listed (list_from r ps first))) ps head first n
 all_to_give r ps head first n s e = record { rest = listed (list_from r ps first); list = walked_list r ps first n s e; count = listed-length (list_from r ps first) n e; same = refl }
 

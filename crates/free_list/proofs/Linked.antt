@@ -1,6 +1,6 @@
 -- Pages taken from the free list are those that its links lead to: for those who follow the links again.
--- Main statements: taken_drawn (what holds of pages taken), head-drawn and damage-drawn (what the answer of `draw` says of them).
-use mathlib.Core.Path.{◌≡◌, refl, sym}
+-- Main statements: taken_drawn (what holds of pages taken), head_drawn and damage-drawn (what the answer of `draw` says of them).
+use mathlib.Core.Path.{◌≡◌, refl, sym, ◌∙◌}
 use mathlib.Core.Bool.{Bool, true, false, cond, not, ◌&&◌}
 use mathlib.Core.List.{List, [], ◌∷◌}
 use Prim.Native.Nat.{ℕ, zero, suc}
@@ -14,7 +14,9 @@ use Rattle.model.proofs.Laws.Lists.{All, all_map, or_neither, eqb-false}
 use Rattle.model.proofs.Laws.Distinct.{Outside}
 use Rattle.model.proofs.Laws.Filling.{IsOverflow}
 use Rattle.model.proofs.Laws.Tests.{named-within}
-use Rattle.free_list.specs.declared.Drawn.TheVariants as Drawn
+use Rattle.std.specs.Prelude.{Ok, Err}
+use Rattle.model.specs.declared.Damaged.{Damaged}
+use Rattle.chains.proofs.Answered.{ReadAs, answered_damaged, answered_sound}
 use Rattle.chains.specs.Links.{next_link, linked_pages, none, also, LeadsApart}
 use Rattle.chains.proofs.Links.{leads_all}
 use Rattle.free_list.specs.Taking.{drawn}
@@ -74,16 +76,11 @@ taken_drawn r ps k t e =
 
 -- What the answer of `draw` says of pages taken.
 module _ (r : Root) (ps : List ℕ) (k : ℕ) where
-  pub head_drawn : (h : ℕ) → Drawn.Head h ≡ drawn (pages_taken r ps k) → pages_taken r ps k ≡ sound (record { pages = linked_pages ps k r.head; head = h })
-  head_drawn h e = go (pages_taken r ps k) (taken_drawn r ps k) e
+  pub head_drawn : (h : ℕ) → Ok h ≡ drawn (pages_taken r ps k) → pages_taken r ps k ≡ sound (record { pages = linked_pages ps k r.head; head = h })
+  head_drawn h e = go (answered_sound (λ (t : Taken). t.head) (pages_taken r ps k) e)
     where
-      go : (x : Checked Taken) → ((t : Taken) → x ≡ sound t → DrawnPages r ps k t) → Drawn.Head h ≡ drawn x → x ≡ sound (record { pages = linked_pages ps k r.head; head = h })
-      go damaged f e = absurd (let z : ◌≡◌ {A = ℕ} 0 1 = cc in omega arith)
-      go (sound t) f e = let d = f t refl in let q : h ≡ t.head = cc in rw (q, ← d.pages) refl
+      go : ReadAs (λ t. t.head) (pages_taken r ps k) h → pages_taken r ps k ≡ sound (record { pages = linked_pages ps k r.head; head = h })
+      go read = read.is_sound ∙ rw (← (taken_drawn r ps k read.value read.is_sound).pages, ← read.answer) refl
 
-  pub damage-drawn : Drawn.Damaged ≡ drawn (pages_taken r ps k) → pages_taken r ps k ≡ damaged
-  damage-drawn e = go (pages_taken r ps k) e
-    where
-      go : (x : Checked Taken) → Drawn.Damaged ≡ drawn x → x ≡ damaged
-      go damaged e = refl
-      go (sound t) e = absurd (let z : ◌≡◌ {A = ℕ} 0 1 = cc in omega arith)
+  pub damage-drawn : {e : Damaged} → Err e ≡ drawn (pages_taken r ps k) → pages_taken r ps k ≡ damaged
+  damage-drawn e = answered_damaged (λ (t : Taken). t.head) (pages_taken r ps k) e

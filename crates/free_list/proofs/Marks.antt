@@ -1,5 +1,6 @@
 -- Marks: none is set at first, setting one leaves every other; a link followed.
--- Main statements: none_marked, marked-same, marked_other; unnamed-old, mark-decides, new-within (whether a link names a new page), new-marksWith, old-marksWith.
+-- Main statements: none_marked, marked_same, marked_other; unnamed_old, mark_decides, new_within (whether a link names a
+-- new page), new_marks_with, old_marks_with; old_followed, new_followed, followed_err, followed_ok (what the link after it says).
 use mathlib.Core.Path.{◌≡◌, refl, ap, ◌∙◌}
 use mathlib.Core.Logic.{◌≢◌}
 use mathlib.Core.Bool.{Bool, true, false, not}
@@ -10,13 +11,15 @@ use native.Mathlib.Omega.{arith}
 use lib.ListN.{length, get_or, replicate, get_or-replicate}
 use lib.Seq.{get_or-set_same, get_or-set_other}
 use lib.Dec.{lit<}
+use Rattle.std.specs.Prelude.{Ok, Err}
+use Rattle.model.specs.declared.Damaged.{Damaged}
 use Rattle.model.specs.declared.Root.{Root}
 use Rattle.model.specs.LockWords.{field_of}
-use Rattle.model.specs.Pages.{names_overflow}
-use Rattle.model.proofs.Laws.Lists.{Cmp, same, diff, cmp, and_both}
+use Rattle.model.specs.Pages.{page_of, link_of, names_overflow}
+use Rattle.model.proofs.Laws.Lists.{Told, holds, fails, tell, Cmp, same, diff, cmp, and_both}
 use Rattle.model.proofs.Laws.Fields.{field_same, bit_other}
 use Rattle.model.proofs.Laws.Tests.{named-within}
-use Rattle.free_list.specs.Marks.{is_marked, with_mark, names_new, marks_with}
+use Rattle.free_list.specs.Marks.{is_marked, with_mark, names_new, marks_with, followed}
 
 -- No bit of 0 is set.
 zero_field : (k n : ℕ) → field_of k n 0 ≡ 0
@@ -66,3 +69,29 @@ module _ (r : Root) (marks : List ℕ) (l : ℕ) where
   pub old_marks_with : names_new r marks l ≡ false → marks_with r marks l ≡ marks
   unfolding marks_with
   old_marks_with e = rw e refl
+
+  module _ (ps : List ℕ) where
+    pub old_followed : names_new r marks l ≡ false → followed r marks ps l ≡ Err (record {})
+    unfolding followed
+    old_followed e = rw e refl
+
+    pub new_followed : names_new r marks l ≡ true → followed r marks ps l ≡ Ok (link_of (page_of ps (l - 1)))
+    unfolding followed
+    new_followed e = rw e refl
+
+    pub followed_err : {e : Damaged} → Err e ≡ followed r marks ps l → names_new r marks l ≡ false
+    followed_err e = go (tell (names_new r marks l)) e
+      where
+        go : Told (names_new r marks l) → {e : Damaged} → Err e ≡ followed r marks ps l → names_new r marks l ≡ false
+        go (holds t) e = cc (new_followed t)
+        go (fails t) e = t
+
+    pub followed_ok : {next : ℕ} → Ok next ≡ followed r marks ps l → (names_new r marks l ≡ true) × (next ≡ link_of (page_of ps (l - 1)))
+    followed_ok e = go (tell (names_new r marks l)) e
+      where
+        go : Told (names_new r marks l) → {next : ℕ} → Ok next ≡ followed r marks ps l → (names_new r marks l ≡ true) × (next ≡ link_of (page_of ps (l - 1)))
+        go (holds t) e = (t, cc (new_followed t))
+        go (fails t) e = cc (old_followed t)
+
+    pub followed_linked : {next : ℕ} → Ok next ≡ followed r marks ps l → 1 ≤ l
+    followed_linked e = omega (arith, (new_within (followed_ok e).0).0)

@@ -1,26 +1,30 @@
 -- Pages taken from the free list one by one: one turn, over the model's taken_from.
--- Main statements: none_taken (the start), none-new-ends and one-taken (a turn), all_taken (the end); taken-overflow (what holds of pages taken).
+-- Main statements: none_taken (the start), none_new_ends and one_taken (a turn), all_taken (the end);
+-- front_whole and damage_drawn_as (what is answered); taken_overflow (what holds of pages taken).
 -- The code marks the overflow pages taken, a bit each; Marked says that the marks are those pages.
 use mathlib.Core.Path.{◌≡◌, refl, sym, ap, ◌∙◌}
 use mathlib.Core.Logic.{◌≢◌}
-use mathlib.Core.Bool.{true, false, not, ◌&&◌, ◌||◌}
+use mathlib.Core.Bool.{not, ◌&&◌, ◌||◌}
 use mathlib.Core.List.{List, [], ◌∷◌, ◌++◌, append-nil}
 use Prim.Native.Nat.{ℕ, zero, suc, ◌+◌, ◌-◌, ◌*◌, ◌≤◌, ◌<◌}
 use native.Mathlib.Nat.{sub-zero}
-use native.Mathlib.Numerals.{add-one}
 use native.Mathlib.Omega.{arith}
-use lib.ListN.{length, set, take, replicate}
-use lib.Seq.{append_snoc, take-suc-set}
+use lib.ListN.{length, take, replicate}
+use lib.Seq.{append_snoc, take_all}
+use Rattle.std.proofs.lemmas.List.{take_at}
 use lib.Dec.{eqb}
+use Rattle.std.specs.Prelude.{Result, Ok, Err, IsErr}
+use Rattle.model.specs.declared.Damaged.{Damaged}
 use Rattle.model.specs.declared.Root.{Root}
 use Rattle.model.specs.Pages.{page_of, link_of, names_overflow}
 use Rattle.model.specs.Chains.{Checked, damaged, sound, and_then}
 use Rattle.model.specs.FreeList.{Taken, is_among, also_taken, taken_from, pages_taken}
 use Rattle.model.proofs.Laws.Lists.{Told, holds, fails, tell, Cmp, same, diff, cmp, eqb_same, eqb-diff}
 use Rattle.model.proofs.Laws.Tests.{named-within}
-use Rattle.free_list.specs.Marks.{is_marked, with_mark, names_new, marks_with}
+use Rattle.free_list.specs.Taking.{drawn_as}
+use Rattle.free_list.specs.Marks.{is_marked, with_mark, names_new, marks_with, followed}
 pub use Rattle.free_list.proofs.Linked.{taken_drawn as taken_overflow}
-use Rattle.free_list.proofs.Marks.{none_marked, marked_same, marked_other, new_within, new_marks_with}
+use Rattle.free_list.proofs.Marks.{none_marked, marked_same, marked_other, new_within, new_marks_with, followed_err, followed_ok}
 
 -- An overflow page is marked where it is among those taken before.
 pub record Marked (r : Root) (marks before : List ℕ) : Type 0 where
@@ -77,20 +81,21 @@ module _ (r : Root) (ps : List ℕ) (k : ℕ) (marks front : List ℕ) (l i : �
     fewer : k - i ≡ suc (k - (i + 1))
     fewer = omega arith
 
-    pub none_new_ends : names_new r marks l ≡ false → damaged ≡ pages_taken r ps k
+    pub none_new_ends : {e : Damaged} → Err e ≡ followed r marks ps l → pages_taken r ps k ≡ damaged
     unfolding taken_from
-    none_new_ends e = let stops = sym same_test ∙ e in sym (g.rest ∙ rw (fewer, taken_from, stops) refl)
+    none_new_ends e = let stops = sym same_test ∙ followed_err r marks l ps e in g.rest ∙ rw (fewer, taken_from, stops) refl
 
-    pub one_taken : names_new r marks l ≡ true → r.overflow ≤ 32 * length marks
-        → Taking r ps k (marks_with r marks l) (front ++ ((l - 1) ∷ [])) (link_of (page_of ps (l - 1))) (i + 1)
+    pub one_taken : {next : ℕ} {marks' : List ℕ} → Ok next ≡ followed r marks ps l → marks' ≡ marks_with r marks l → r.overflow ≤ 32 * length marks
+        → Taking r ps k marks' (front ++ ((l - 1) ∷ [])) next (i + 1)
     unfolding taken_from after also_taken
-    one_taken e long =
-        let new = sym same_test ∙ e in
-        let w = new_within r marks l e in
+    one_taken e set long =
+        let read = followed_ok r marks l ps e in
+        let new = sym same_test ∙ read.0 in
+        let w = new_within r marks l read.0 in
         record {
           before = (l - 1) ∷ g.before;
-          marked = rw (new_marks_with r marks l e) (one_marked r marks g.before (l - 1) (omega (arith, w.0)) (omega (arith, w.0, w.1)) long g.marked);
-          rest = g.rest ∙ ap (λ (n : ℕ). and_then (taken_from r ps n l g.before) (λ t. sound (after front t))) fewer ∙ rw new (go (taken_from r ps (k - (i + 1)) (link_of (page_of ps (l - 1))) ((l - 1) ∷ g.before)));
+          marked = rw (set, new_marks_with r marks l read.0) (one_marked r marks g.before (l - 1) (omega (arith, w.0)) (omega (arith, w.0, w.1)) long g.marked);
+          rest = rw read.1 (g.rest ∙ ap (λ (n : ℕ). and_then (taken_from r ps n l g.before) (λ t. sound (after front t))) fewer ∙ rw new (go (taken_from r ps (k - (i + 1)) (link_of (page_of ps (l - 1))) ((l - 1) ∷ g.before))));
         }
       where
         go : (x : Checked Taken) → and_then (and_then x (λ t. sound (also_taken (l - 1) t))) (λ t. sound (after front t))
@@ -110,6 +115,11 @@ pub record Drawing (r : Root) (ps : List ℕ) (k : ℕ) (marks : List ℕ) (l i 
   pub front : List ℕ
   pub taking : Taking r ps k marks front l i
 
--- With page x recorded at i, the buffer has one page more in front.
-pub front_stored : (taken : List ℕ) (i x : ℕ) → i < length taken → take (i + 1) (set taken i x) ≡ take i taken ++ (x ∷ [])
-front_stored taken i x room = rw add-one (take-suc-set taken i x room)
+-- Once all k places of the buffer's front are recorded, the front is what was recorded.
+pub front_whole : (items rest : List ℕ) (k i : ℕ) → length items ≡ k → i ≡ k → take k (items ++ rest) ≡ take i items
+front_whole items rest k i long e = rw (e, take_at items rest k long) (sym (take_all k items (omega arith)))
+
+-- An error says damage.
+pub damage_drawn_as : (a : Result ℕ Damaged) (xs : List ℕ) → IsErr a → drawn_as a xs ≡ damaged
+damage_drawn_as (Ok h) xs e = cc
+damage_drawn_as (Err d) xs e = refl

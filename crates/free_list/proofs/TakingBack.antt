@@ -1,7 +1,7 @@
 -- A list given back in reverse order by one walk from its first page on: each page keeps its link, the last is linked
 -- to the head that stood there.
--- Main statements: reversed_laid (that this is given_back of the list reversed); all_to_lay (the start), one_laid (a
--- turn), all_laid (the end).
+-- Main statements: reversed_laid (that this is given_back of the list reversed); all_to_lay (the start), next_laid
+-- and one_laid (a turn), all_laid (the end).
 use mathlib.Core.Path.{◌≡◌, refl, ap, ◌∙◌}
 use mathlib.Core.Bool.{true}
 use mathlib.Core.List.{List, [], ◌∷◌, reverse, reverse_aux}
@@ -18,9 +18,9 @@ use Rattle.model.proofs.Laws.Distinct.{Outside, Distinct}
 use Rattle.model.proofs.Laws.Pages.{Has, has_with_page, length-free_page, with_page_comm}
 use Rattle.model.proofs.Laws.Walks.{linked_distinct}
 use Rattle.chains.specs.Walks.{counted}
-use Rattle.chains.specs.declared.Walked.TheVariants as Walked
+use Rattle.std.specs.Prelude.{Ok}
 use Rattle.free_list.specs.Giving.{listed, link_or}
-use Rattle.free_list.proofs.Giving.{ListAt, walked_list, rest_list, listed-length}
+use Rattle.free_list.proofs.Giving.{ListAt, first-within, walked_list, rest_list, listed-length}
 
 -- The link to the first of the pages xs, to head where there is none.
 abbrev first_or : List ℕ → ℕ → ℕ
@@ -61,8 +61,12 @@ pub record ToLay (r : Root) (whole ps : List ℕ) (head l left : ℕ) : Type 0 w
   pub count : length rest ≡ left
   pub same : whole ≡ laid ps head rest
 
+-- The next page stands in the memory.
+pub next_laid : {r : Root} {whole ps : List ℕ} {head l left : ℕ} → ToLay r whole ps head l left → 0 < left → (r.primaries < l) × (l ≤ r.primaries + r.overflow)
+next_laid {r} {ps = ps} {l = l} g more = first-within r ps l g.rest g.list (omega (arith, g.count))
+
 -- No page is written yet.
-pub all_to_lay : (r : Root) (ps : List ℕ) (head first n : ℕ) → link_sound r first ≡ true → counted (list_from r ps first) ≡ Walked.Pages n
+pub all_to_lay : (r : Root) (ps : List ℕ) (head first n : ℕ) → link_sound r first ≡ true → counted (list_from r ps first) ≡ Ok n
     → ToLay r (laid ps head (listed (list_from r ps first))) ps head first n
 all_to_lay r ps head first n s e = record { rest = listed (list_from r ps first); list = walked_list r ps first n s e; count = listed-length (list_from r ps first) n e; same = refl }
 
@@ -86,7 +90,7 @@ one_laid r whole ps head l left more fits g e₁ e₂ e₃ = rw (e₂, e₁, e�
         }
 
 -- None is left, and the first is the head.
-pub all_laid : (r : Root) (ps ps' : List ℕ) (head first n : ℕ) → link_sound r first ≡ true → counted (list_from r ps first) ≡ Walked.Pages n
+pub all_laid : (r : Root) (ps ps' : List ℕ) (head first n : ℕ) → link_sound r first ≡ true → counted (list_from r ps first) ≡ Ok n
     → page_words * (r.primaries + r.overflow) ≤ length ps → {l left : ℕ} → left ≤ 0 → ToLay r (laid ps head (listed (list_from r ps first))) ps' head l left
     → given_back ps head (reverse (listed (list_from r ps first))) ≡ record { pages = ps'; head = link_or first head }
 unfolding laid

@@ -1,6 +1,6 @@
 -- What giving back a list leaves of the root record and the page words.
 -- Main definitions: listed (the pages of a list that was walked), CanGive (what must hold of it), link_or, Returned and after_giving.
-use Rattle.std.specs.Prelude.{◌≡◌, true, cond, List, [], ℕ, ◌+◌, ◌*◌, ◌≤◌, length, eqb}
+use Rattle.std.specs.Prelude.{◌≡◌, true, cond, List, [], ℕ, ◌+◌, ◌*◌, ◌≤◌, length, eqb, Ok}
 use Rattle.model.specs.declared.Root.{Root}
 use Rattle.model.specs.Records.{with_free_list}
 use Rattle.model.specs.Sizes.{page_words}
@@ -8,7 +8,6 @@ use Rattle.model.specs.Pages.{link_sound}
 use Rattle.model.specs.Chains.{Checked, damaged, sound, list_from}
 use Rattle.model.specs.FreeList.{given_back}
 use Rattle.chains.specs.Walks.{counted}
-use Rattle.chains.specs.declared.Walked.TheVariants as Walked
 
 -- The pages of the list, in order; none where a number was damaged.
 abbrev pub listed : Checked (List ℕ) → List ℕ
@@ -18,7 +17,7 @@ listed (sound xs) = xs
 -- The link leads to n pages, they were walked without damage, the free count has room for them, and the page memory has all primary and overflow pages.
 pub record CanGive (r : Root) (ps : List ℕ) (first n : ℕ) : Type 0 where
   pub links : link_sound r first ≡ true
-  pub walked : counted (list_from r ps first) ≡ Walked.Pages n
+  pub walked : counted (list_from r ps first) ≡ Ok n
   pub room : r.free + n ≤ r.overflow
   pub fits : page_words * (r.primaries + r.overflow) ≤ length ps
 

@@ -1,9 +1,11 @@
 -- Marks for numbers: a bit for each, 32 to a word, the lowest bit first. An overflow page is marked by its number among the overflow pages.
--- Main definitions: is_marked, with_mark; names_new and marks_with (a link that names an overflow page not marked yet, and the marks with that page).
-use Rattle.std.specs.Prelude.{Bool, cond, not, ◌&&◌, List, ℕ, ◌-◌, ◌/◌, ◌%◌, get_or, set, eqb}
+-- Main definitions: is_marked, with_mark; names_new and marks_with (a link that names an overflow page not marked yet, and the marks with that page),
+-- followed (the link after it).
+use Rattle.std.specs.Prelude.{Bool, cond, not, ◌&&◌, List, ℕ, ◌-◌, ◌/◌, ◌%◌, get_or, set, eqb, Result, Ok, Err}
+use Rattle.model.specs.declared.Damaged.{Damaged}
 use Rattle.model.specs.declared.Root.{Root}
 use Rattle.model.specs.LockWords.{field_of, with_field}
-use Rattle.model.specs.Pages.{names_overflow, linked_page}
+use Rattle.model.specs.Pages.{page_of, link_of, names_overflow, linked_page}
 
 -- Whether the bit of v is set.
 unfoldable pub is_marked : List ℕ → ℕ → Bool
@@ -20,3 +22,7 @@ names_new r marks l = names_overflow r l && not (is_marked marks (linked_page l 
 -- The marks once link l was followed: with its page, where that is new.
 unfoldable pub marks_with : Root → List ℕ → ℕ → List ℕ
 marks_with r marks l = cond (names_new r marks l) (with_mark marks (linked_page l - r.primaries)) marks
+
+-- The link after it, or damage where it names no page that is new.
+unfoldable pub followed : Root → List ℕ → List ℕ → ℕ → Result ℕ Damaged
+followed r marks ps l = cond (names_new r marks l) (Ok (link_of (page_of ps (linked_page l)))) (Err (record {}))

@@ -1,73 +1,56 @@
 // The free list (document 01: "Pages are taken from the head; a page given back becomes the head").
 // Main statements: free_page is free_page; give_back is given_back of the pages that a link leads to, and take_back of
 // the same pages in reverse order, for every memory in which they were walked; take_pages is pages_taken and draw what
-// pages_taken leaves, for every memory; link_at is the link of a page; is_marked and mark read and set one bit.
+// pages_taken leaves, for every memory; is_marked and mark read and set one bit.
 
 #![tactic(auto)]
 
 ghost use Rattle.std.specs.Prelude.{◌≡◌, reverse, ◌+◌, ◌*◌, ◌≤◌, ◌<◌, length, take};
 ghost use Rattle.model.specs.Records.{with_free_list};
 ghost use Rattle.model.specs.Sizes.{page_words};
-ghost use Rattle.model.specs.Pages.{page_of, link_of, free_page};
+ghost use Rattle.model.specs.Pages.{free_page};
 ghost use Rattle.model.specs.Chains.{list_from};
 ghost use Rattle.model.specs.FreeList.{pages_taken};
 ghost use Rattle.free_list.specs.Giving.{CanGive, listed, link_or, returned, after_giving};
-ghost use Rattle.free_list.specs.Marks.{is_marked, with_mark, names_new, marks_with};
+ghost use Rattle.free_list.specs.Marks.{is_marked, with_mark, marks_with, followed};
 ghost use Rattle.free_list.specs.Taking.{drawn_as, drawn};
 
-use model::{LINK_WORD, PAGE_WORDS, Page, PageAddress, Root};
-
-// Pages that were taken: the link word that is then the head, or that a number was damaged.
-#[derive(Clone, Copy)]
-pub enum Drawn {
-    Damaged,
-    Head(u32),
-}
+use model::{Damaged, LINK_WORD, PAGE_WORDS, Page, PageAddress, Root};
 
 // "A free page is zero except word 2, its link in the free list."
+#[tactic(auto, unfolding(model::specs::Pages::free_page, model::specs::Pages::filled_page, model::specs::Pages::words_of))]
 pub fn free_page(link: u32) -> Page
     ensures { result ≡ free_page link }
 {
-    [0, 0, link, 0, 0, 0, 0, 0, 0, 0, 0, 0, 0, 0, 0, 0]
+    let mut page = [0; PAGE_WORDS];
+    page[LINK_WORD] = link;
+    page
 }
 
 // The root record with another free list: its head, as a link word, and its length.
 pub fn with_free_list(root: Root, head: u32, free: u32) -> Root
     ensures { result ≡ with_free_list head free root }
 {
-    let mut next = root;
-    next.head = head;
-    next.free = free;
-    next
+    Root { head, free, ..root }
 }
 
 // The n pages that link `first` leads to are given back in order: each "becomes the head".
-// A page's link is read before the page is written. The list was walked to its end, so it names no page twice, and no link is read from a page given back.
+// A page's link is read before the page is written. The list was walked to its end, so it names no page twice, and no
+// link is read from a page given back.
 pub fn give_back(root: Root, first: u32, n: u32, pages: &mut [u32]) -> Root
     requires { CanGive root pages.old first n }
     ensures { returned result pages.new ≡ after_giving root pages.old (listed (list_from root pages.old first)) }
 {
     let mut head = root.head;
     let mut l = first;
-    let mut left = n;
-    while 0 < left {
+    for _ in 0..n {
         let p = PageAddress(l - 1);
-        let old = pages::load(&pages[..], p);
-        let new = free_page(head);
-        pages::store(pages, p, new);
+        let next = pages::word(&pages[..], p, LINK_WORD);
+        pages::store(pages, p, free_page(head));
         head = l;
-        l = chains::link_of(old);
-        left -= 1;
+        l = next;
     }
     with_free_list(root, head, root.free + n)
-}
-
-// The link word of page `p`: the page's other words are not read.
-pub fn link_at(pages: &[u32], p: PageAddress) -> u32
-    requires { p.0 * page_words + page_words ≤ length pages.now }
-    ensures { result ≡ link_of (page_of pages.now p.0) }
-{
-    pages[p.0 as usize * PAGE_WORDS + LINK_WORD]
 }
 
 // The link l, where it names a page; else the link `head`.
@@ -78,19 +61,17 @@ fn link_or(l: u32, head: u32) -> u32
 }
 
 // The n pages that link `first` leads to are given back in reverse order. The first of them is then the head: each
-// page keeps its link and is else zeroed, and the last leads to the former head.
+// page keeps its link and is else zeroed, and the last leads to the former head. This is no case of give_back: there a
+// page is linked to the one before it, here to the one after it.
 pub fn take_back(root: Root, first: u32, n: u32, pages: &mut [u32]) -> Root
     requires { CanGive root pages.old first n }
     ensures { returned result pages.new ≡ after_giving root pages.old (reverse (listed (list_from root pages.old first))) }
 {
     let mut l = first;
-    let mut left = n;
-    while 0 < left {
+    for _ in 0..n {
         let p = PageAddress(l - 1);
-        l = link_at(&pages[..], p);
-        let freed = free_page(link_or(l, root.head));
-        pages::store(pages, p, freed);
-        left -= 1;
+        l = pages::word(&pages[..], p, LINK_WORD);
+        pages::store(pages, p, free_page(link_or(l, root.head)));
     }
     with_free_list(root, link_or(first, root.head), root.free + n)
 }
@@ -109,64 +90,54 @@ fn mark(marks: &mut [u32], v: u32)
     requires { v < 32 * length marks.old }
     ensures { marks.new ≡ with_mark marks.old v }
 {
-    let j = (v / 32) as usize;
-    let w = marks[j];
-    marks[j] = w | (1 << (v % 32));
+    marks[(v / 32) as usize] |= 1 << (v % 32);
 }
 
-// Whether link l names an overflow page that is not marked; that page is then marked.
-fn names_new(root: Root, l: u32, marks: &mut [u32]) -> bool
-    requires { root.overflow ≤ 32 * length marks.old }
-    ensures { (result ≡ names_new root marks.old l) × (marks.new ≡ marks_with root marks.old l) }
+// The link of the page that link l names, which is then marked. "a free list that ends, or names a page twice or no
+// overflow page, before the pages taken" is damage.
+fn next_link(root: Root, l: u32, pages: &[u32], marks: &mut [u32]) -> Result<u32, Damaged>
+    requires { (page_words * (root.primaries + root.overflow) ≤ length pages.now) × (root.overflow ≤ 32 * length marks.old) }
+    ensures link { result ≡ followed root marks.old pages.now l }
+    ensures marks { marks.new ≡ marks_with root marks.old l }
 {
-    if chains::names_overflow(root, l) {
-        let v = l - 1 - root.primaries;
-        if is_marked(&marks[..], v) {
-            return false;
-        }
-        mark(marks, v);
-        return true;
+    if !chains::names_overflow(root, l) {
+        return Err(Damaged);
     }
-    false
+    let page = l - 1;
+    let number = page - root.primaries;
+    if is_marked(&marks[..], number) {
+        return Err(Damaged);
+    }
+    mark(marks, number);
+    Ok(pages::word(pages, PageAddress(page), LINK_WORD))
 }
 
-// The k pages at the head of the free list go into `taken`, in order. No word of the page memory changes.
-// "a free list that ends, or names a page twice or no overflow page, before the pages taken" is damage: the pages met are marked.
-pub fn take_pages(root: Root, k: usize, pages: &[u32], taken: &mut [u32]) -> Drawn
+// The k pages at the head of the free list go into `taken`, in order. What is left is the link word that is then the
+// head. No word of the page memory changes.
+pub fn take_pages(root: Root, k: usize, pages: &[u32], taken: &mut [u32]) -> Result<u32, Damaged>
     requires { (page_words * (root.primaries + root.overflow) ≤ length pages.now) × (root.overflow ≤ 752) × (k ≤ length taken.old) }
     ensures { drawn_as result (take k taken.new) ≡ pages_taken root pages.now k }
 {
+    // A bit for each of 752 pages, since there is no heap.
     let mut marks = [0u32; 24];
     let mut l = root.head;
-    let mut i = 0;
-    while i < k {
-        if names_new(root, l, &mut marks[..]) {
-            let page = l - 1;
-            taken[i] = page;
-            l = link_at(pages, PageAddress(page));
-            i += 1;
-        } else {
-            return Drawn::Damaged;
-        }
+    for page in &mut taken[..k] {
+        let next = next_link(root, l, pages, &mut marks)?;
+        *page = l - 1;
+        l = next;
     }
-    Drawn::Head(l)
+    Ok(l)
 }
 
-// The k pages at the head of the free list are tested: the link word that is the head once they are taken. No word of the page memory changes.
-pub fn draw(root: Root, k: u32, pages: &[u32]) -> Drawn
+// The same for pages that are not kept: they are only tested.
+pub fn draw(root: Root, k: u32, pages: &[u32]) -> Result<u32, Damaged>
     requires { (page_words * (root.primaries + root.overflow) ≤ length pages.now) × (root.overflow ≤ 752) }
     ensures { result ≡ drawn (pages_taken root pages.now k) }
 {
     let mut marks = [0u32; 24];
     let mut l = root.head;
-    let mut i = 0;
-    while i < k {
-        if names_new(root, l, &mut marks[..]) {
-            l = link_at(pages, PageAddress(l - 1));
-            i += 1;
-        } else {
-            return Drawn::Damaged;
-        }
+    for _ in 0..k {
+        l = next_link(root, l, pages, &mut marks)?;
     }
-    Drawn::Head(l)
+    Ok(l)
 }

@@ -1,8 +1,8 @@
 -- Outputs put line by line.
--- Main statements: PutLines (what stands once all lines but `left` are put); none_put, line-put, all-put; front_put.
+-- Main statements: PutLines (what stands once all lines but `left` are put); none_put, line_put, all_put; front_put.
 use mathlib.Core.Path.{◌≡◌, refl, sym, ap, ◌∙◌}
 use mathlib.Core.List.{List, [], ◌∷◌, ◌++◌}
-use Prim.Native.Nat.{ℕ, suc, ◌+◌, ◌-◌, ◌*◌, ◌≤◌, ◌<◌}
+use Prim.Native.Nat.{ℕ, suc, ◌+◌, ◌*◌, ◌≤◌}
 use native.Mathlib.Numerals.{add-one}
 use native.Mathlib.Omega.{arith}
 use lib.ListN.{length, set, take, drop, length-append, length-set}
@@ -24,23 +24,27 @@ pub none_put : (n x : ℕ) (first : List ℕ) → n * line_bytes ≤ length firs
 none_put n x first h = record { room = omega arith; long = refl; place = omega arith; text = refl }
 
 -- The first line of those that are left.
-next_line : (left word : ℕ) → 0 < left → lines_of (outputs left word) ≡ decimal (next_word word) ++ (newline ∷ lines_of (outputs (left - 1) (next_word word)))
+next_line : (rest word : ℕ) → lines_of (outputs (suc rest) word)
+    ≡ decimal (next_word word) ++ (newline ∷ lines_of (outputs rest (next_word word)))
 unfolding outputs lines_of
-next_line left word some = let e : left ≡ suc (left - 1) = omega arith in ap (λ (n : ℕ). lines_of (outputs n word)) e
+next_line rest word = refl
 
 module _ {n x : ℕ} {first out : List ℕ} {word at left : ℕ} (put : PutLines n x first out word at left) where
-  pub line_put : 0 < left → {w : ℕ} {after : List ℕ} {next : ℕ} → w ≡ next_word word → after ≡ sets out at (decimal w) → next ≡ at + length (decimal w)
-      → PutLines n x first (set after next newline) w (next + 1) (left - 1)
-  line_put some {w} {after} {next} ew ea en =
-      let rest = lines_of (outputs (left - 1) w) in
-      let line : lines_of (outputs left word) ≡ decimal w ++ (newline ∷ rest) = rw ew (next_line left word some) in
-      let total = ap length line ∙ length-append (decimal w) (newline ∷ rest) in
-      let same : length (set after next newline) ≡ length out = length-set after next newline ∙ ap length ea ∙ length-sets out at (decimal w) in
+  pub line_put : {rest : ℕ} → left ≡ suc rest → {w : ℕ} {after : List ℕ} {next : ℕ}
+      → w ≡ next_word word → after ≡ sets out at (decimal w) → next ≡ at + length (decimal w)
+      → PutLines n x first (set after next newline) w (next + 1) rest
+  line_put {rest} some {w} {after} {next} ew ea en =
+      let others = lines_of (outputs rest w) in
+      let line : lines_of (outputs left word) ≡ decimal w ++ (newline ∷ others) = rw (some, ew) (next_line rest word) in
+      let total = ap length line ∙ length-append (decimal w) (newline ∷ others) in
+      let same : length (set after next newline) ≡ length out =
+      length-set after next newline ∙ ap length ea ∙ length-sets out at (decimal w) in
       record {
         room = omega (arith, put.room, decimal_short w, same, en);
         long = same ∙ put.long;
         place = omega (arith, put.place, total, en);
-        text = put.text ∙ ap (sets out at) line ∙ sets_append out at (decimal w) (newline ∷ rest) ∙ rw (ea, en, add-one) refl;
+        text = put.text ∙ ap (sets out at) line ∙ sets_append out at (decimal w) (newline ∷ others)
+            ∙ rw (ea, en, add-one) refl;
       }
 
   pub all_put : left ≡ 0 → (at ≡ length (lines_of (outputs n x))) × (out ≡ sets first 0 (lines_of (outputs n x)))

@@ -5,9 +5,9 @@
 #![tactic(auto)]
 
 ghost use Rattle.std.specs.Prelude.{◌≡◌, ◌*◌, ◌≤◌, length, take};
+ghost use Rattle.std.specs.List.{concat};
 ghost use Rattle.std.proofs.lemmas.List.Edits.{sets};
 ghost use Rattle.model.specs.Mixing.{next_word, outputs, table_words, table};
-ghost use Rattle.mixing.specs.Places.{words_of};
 ghost use Rattle.mixing.specs.Constant.{constant};
 ghost use Rattle.generator.specs.Printed.{line_bytes, lines_of};
 
@@ -32,13 +32,11 @@ fn put_outputs(count: usize, x: u32, out: &mut [u8]) -> usize
 {
     let mut word = x;
     let mut at = 0;
-    let mut left = count;
-    while 0 < left {
+    for _line in 0..count {
         word = next_word(word);
         at = patterns::put_number(word, out, at);
         out[at] = b'\n';
         at += 1;
-        left -= 1;
     }
     at
 }
@@ -48,7 +46,7 @@ fn put_outputs(count: usize, x: u32, out: &mut [u8]) -> usize
 fn put_table(out: &mut [u8]) -> usize
     requires { table_words * line_bytes ≤ length out.old }
     ensures upper_bound { (result ≤ length out.new) × (take result out.new ≡ lines_of table) }
-    ensures out_after { take result out.new ≡ lines_of (words_of constant) }
+    ensures out_after { take result out.new ≡ lines_of (concat constant) }
 {
     put_outputs(TABLE_WORDS, SEED, out)
 }
@@ -61,6 +59,7 @@ fn write_table(rt: &impl Print, text: &[u8])
 }
 
 fn main(rt: HostRuntime) {
+    // 1,024 lines of at most eleven bytes, since there is no heap.
     let mut out = [0u8; 11264];
     let end = put_table(&mut out[..]);
     write_table(&rt, &out[0..end]);

@@ -1,9 +1,9 @@
 -- What a caller reads off StartRight, FormatRight and IndexRight, of the memory that he lent, the calls that he made
 -- and the events that he saw, and of nothing else.
--- Main statements: formatted_told, empty_told; singly_told (a list of operations run singly); events-told,
--- memory-told; answer_told, somebody-moves, sizes-kept, links-told, no-page-told, grants-told; overtaken-told,
--- wanted-told, passed-told, row_told, again-told, clear_told (who waits); alone-told (one operation run alone);
--- order-told, found_told; withdrawn-told, restored-told, merges-told, calls_told; goes_on (at rest the memory opens
+-- Main statements: formatted_told, empty_told; singly_told (a list of operations run singly); events_told,
+-- memory_told; answer_told, somebody_moves, sizes_kept, links_told, no_page_told, grants_told; overtaken_told,
+-- wanted_told, passed_told, row_told, again_told, clear_told (who waits); alone_told (one operation run alone);
+-- order_told, found_told; withdrawn_told, restored_told, merges_told, calls_told; goes_on (at rest the memory opens
 -- another run, with the records of the book), first-look.
 use mathlib.Core.Path.{◌≡◌, refl, sym, ◌∙◌, ap, ap₂, subst}
 use mathlib.Core.Bool.{Bool, true, false, cond}
@@ -16,10 +16,9 @@ use borrow.Author.Tests.{eqb-true}
 use Rattle.model.specs.declared.Root.{Root}
 use Rattle.model.specs.declared.FileSizes.{FileSizes}
 use Rattle.model.specs.declared.OperationAnswer.TheVariants as OperationAnswer
-use Rattle.model.specs.declared.BeginAnswer.TheVariants as BeginAnswer
-use Rattle.model.specs.declared.WithdrawAnswer.TheVariants as WithdrawAnswer
 use Rattle.model.specs.declared.StepAnswer.TheVariants as StepAnswer
-use Rattle.model.specs.declared.TakeUpAnswer.{TakeUpAnswer}
+use Rattle.std.specs.Prelude.{Ok}
+use Rattle.model.specs.Answers.{CallReply, refusal_number}
 use Rattle.model.specs.Records.{root_of_sizes, root_sized}
 use Rattle.model.specs.Memory.{Memory, formatted}
 use Rattle.model.specs.Sizes.{within_limits}
@@ -27,7 +26,7 @@ use Rattle.model.specs.Refusals.{lengths_fit}
 use Rattle.model.specs.LockWords.{Claim, table_one}
 use Rattle.model.specs.WaitingRow.{all_zero}
 use Rattle.model.specs.Calls.{begin_call, step_call, withdraw_call}
-use Rattle.model.specs.TakeUp.{is_saved, records_saved, open_book, saved_book, unsaved_refusal}
+use Rattle.model.specs.TakeUp.{is_saved, records_saved, open_book, saved_book}
 use Rattle.model.specs.Runs.{Call, Event, after_call, events, final_memory}
 use Rattle.model.specs.Book.{Book, empty_book, book_at_end, book_after, agrees, book_agrees}
 use Rattle.model.specs.Progress.{is_entered, under_way, can_move, some_below, progresses, book_after_call}
@@ -51,7 +50,7 @@ use Rattle.model.proofs.Theorems.Calls.{within_limits_lem, lengths_fit_ok}
 use Rattle.theory.proofs.Reached.{final_append, reached_inv}
 use Rattle.theory.proofs.NoDeadlock.{Found, some_found}
 use Rattle.theory.proofs.Made.{start-opens, ran_events, ran_memory}
-use Rattle.index.specs.TheIndex.{Opened, Ran, looked, Looked, take_up_refusal, looks_right, StartRight, FormatRight, IndexRight}
+use Rattle.index.specs.TheIndex.{Opened, Ran, looked, Looked, looks_right, StartRight, FormatRight, IndexRight}
 
 -- The sizes of a root, all else zero.
 abbrev sizes_in : Memory → Root
@@ -200,7 +199,7 @@ module _ {m₀ m : Memory} {cs : List Call} {es : List Event} {run : Ran m₀ cs
 
     -- A party that did not wait then, and now wants a lock that clashes with it, is told to wait.
     pub overtaken_told : (q : ℕ) (d : Claim) → waits_after_events q es ≡ false → wanted_by (sizes_in m₀) m' q ≡ some d → d.word ≡ c.word
-        → table_one d.mode c.mode ≡ false → (step_call m' q).answer ≡ StepAnswer.Waiting
+        → table_one d.mode c.mode ≡ false → (step_call m' q).answer ≡ Ok StepAnswer.Waiting
     overtaken_told q d later wants' word apart =
         ap (λ (u : Memory). (step_call u q).answer) left_there
         ∙ (right.overtaken ds p q c d).waits_too (waits_for p c waits wants) (sym (waits_there q) ∙ later) stays_there (sym (wants-later q) ∙ wants') word apart
@@ -225,9 +224,9 @@ module _ {m₀ m : Memory} {cs : List Call} {es : List Event} {run : Ran m₀ cs
       ∙ at_lent (λ x. (Reached s cs).waiting ≡ words_of_ledger (waits_at_end (sizes_in x) [] x cs) ++ replicate (x.root.parties - length (waits_at_end (sizes_in x) [] x cs)) 0) right.row.row_is
 
   -- A waiting call of one that waits alters nothing.
-  pub again_told : (p : ℕ) → waits_after_events p es ≡ true → (step_call m p).answer ≡ StepAnswer.Waiting → (step_call m p).memory ≡ m
+  pub again_told : (p : ℕ) → waits_after_events p es ≡ true → (step_call m p).answer ≡ Ok StepAnswer.Waiting → (step_call m p).memory ≡ m
   again_told p waits answer =
-      subst (λ (u : Memory). (step_call u p).answer ≡ StepAnswer.Waiting → (step_call u p).memory ≡ u) (sym right.memory_is)
+      subst (λ (u : Memory). (step_call u p).answer ≡ Ok StepAnswer.Waiting → (step_call u p).memory ≡ u) (sym right.memory_is)
       (λ a. (right.again p).again (sym (waits_there p) ∙ waits) a) answer
 
   -- Where nobody is under way, nobody waits.
@@ -258,14 +257,14 @@ module _ {m₀ m : Memory} {cs : List Call} {es : List Event} {run : Ran m₀ cs
   pub withdrawn_told : withdrawn_unwritten none_wrote es ≡ true
   withdrawn_told = ap (withdrawn_unwritten none_wrote) right.events_are ∙ right.withdrawals.none_written
 
-  pub restored_told : (x : Wanted) (n : ℕ) → (begin_call m x.party x.operation x.key).answer ≡ BeginAnswer.Begun
-      → (withdraw_call (final_memory m (calls_begun x n)) x.party).answer ≡ WithdrawAnswer.Withdrawn → {fs : List Event} {m' : Memory} → Ran m (calls_withdrawn x n) fs m' → m' ≡ m
+  pub restored_told : (x : Wanted) (n : ℕ) → (begin_call m x.party x.operation x.key).answer ≡ Ok tt
+      → (withdraw_call (final_memory m (calls_begun x n)) x.party).answer ≡ Ok tt → {fs : List Event} {m' : Memory} → Ran m (calls_withdrawn x n) fs m' → m' ≡ m
   restored_told x n begins withdraws again =
       let left = right.memory_is in
       let there : final_memory m (calls_begun x n) ≡ Reached s (cs ++ calls_begun x n) = ap (λ (u : Memory). final_memory u (calls_begun x n)) left ∙ sym (final_append (start s) cs (calls_begun x n)) in
       ran_memory again ∙ ap (λ (u : Memory). final_memory u (calls_withdrawn x n)) left ∙ sym (final_append (start s) cs (calls_withdrawn x n))
-      ∙ (right.restores x n).restored (subst (λ (u : Memory). (begin_call u x.party x.operation x.key).answer ≡ BeginAnswer.Begun) left begins)
-      (subst (λ (u : Memory). (withdraw_call u x.party).answer ≡ WithdrawAnswer.Withdrawn) there withdraws)
+      ∙ (right.restores x n).restored (subst (λ (u : Memory). (begin_call u x.party x.operation x.key).answer ≡ Ok tt) left begins)
+      (subst (λ (u : Memory). (withdraw_call u x.party).answer ≡ Ok tt) there withdraws)
       ∙ sym left
 
   pub merges_told : merges_fit nothing_had m₀ cs ≡ true
@@ -299,9 +298,9 @@ module _ {m₀ m : Memory} {cs : List Call} {es : List Event} {run : Ran m₀ cs
 -- ---- Looks
 
 -- A look before the first call is answered taken up.
-pub first-look : {m₀ m₁ m : Memory} {a : TakeUpAnswer} {cs : List Call} {es : List Event} (look : Looked m₀ a m₁) (run : Ran m₁ cs es m)
-    → IndexRight m₀ cs es m (looked look run) → take_up_refusal a ≡ 0
+pub first-look : {m₀ m₁ m : Memory} {a : CallReply} {cs : List Call} {es : List Event} (look : Looked m₀ a m₁) (run : Ran m₁ cs es m)
+    → IndexRight m₀ cs es m (looked look run) → refusal_number a ≡ 0
 unfolding looks_right open_book under_way is_entered
 first-look {m₀} {m₁} {m} {a} {cs} {es} look run right =
-    eqb-true (take_up_refusal a) 0
-    (rw (none_below m₀.root.parties (λ q. false) (λ q. refl)) at (and_both (eqb (take_up_refusal a) (cond (some_below m₀.root.parties (λ q. false)) unsaved_refusal 0)) (looks_right m₀.root.parties (saved_book m₀) run) right.looks).0)
+    eqb-true (refusal_number a) 0
+    (rw (none_below m₀.root.parties (λ q. false) (λ q. refl)) at (and_both (eqb (refusal_number a) (cond (some_below m₀.root.parties (λ q. false)) 8 0)) (looks_right m₀.root.parties (saved_book m₀) run) right.looks).0)

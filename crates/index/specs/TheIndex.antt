@@ -28,7 +28,7 @@ use Rattle.theory.specs.TakenUp.{always_taken}
 -- ---- Calls of the functions
 
 -- A call, a way into a run, a list of calls with looks among them, and what looks are to answer.
-pub use Rattle.theory.specs.Made.{Formatted, Looked, Opened, by_format, by-take_up, Made, begun, stepped, withdrew, happened, Ran, ended, next, looked, take_up_refusal}
+pub use Rattle.theory.specs.Made.{Formatted, Looked, Opened, by_format, by-take_up, Made, begun, stepped, withdrew, happened, Ran, ended, next, looked}
 unfoldable pub use Rattle.theory.specs.Made.{looks_made, looks_right}
 
 -- ---- What holds of them
@@ -86,9 +86,9 @@ pub record IndexRight (m₀ : Memory) (cs : List Call) (es : List Event) (m : Me
   pub taken : always_taken m₀.root.parties (saved_book m₀) m₀ cs ≡ true
   pub looks : looks_right m₀.root.parties (saved_book m₀) ran ≡ true
   pub records : AtRest (book_at_end (saved_book m₀) es) → records_saved m ≡ (book_at_end (saved_book m₀) es).contents
-  -- Change 7: who waits is overtaken by nobody that comes later, whatever calls ds follow; the lock that it wants stays
-  -- the same; each other party passes it at most once; the waiting row is the ledger of waits, a second waiting call
-  -- alters nothing, and where nobody is under way the row is zero.
+  -- Change 7: who waits is overtaken by nobody that comes later, whatever calls ds follow; the lock that it wants
+  -- stays the same; each other party passes it at most once; the waiting row is the ledger of waits, a second waiting
+  -- call alters nothing, and where nobody is under way the row is zero.
   pub overtaken : (ds : List Call) (p q : ℕ) (c d : Claim) → NobodyOvertaken begins cs ds p q c d
   pub wanted : (ds : List Call) (p : ℕ) (c : Claim) → SameWant begins cs ds p c
   pub passed : (ds : List Call) (p : ℕ) (c : Claim) → PassedOnce begins cs ds p c

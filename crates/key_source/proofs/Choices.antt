@@ -1,5 +1,5 @@
 -- Choices record by record.
--- Main statements: no_extra (a choice other than With adds no record); chosen_none, chosen-kept, chosen_dropped (the records chosen of a list); with_none, with-before, with-after (one record more);
+-- Main statements: no_extra (a choice other than With adds no record); chosen_none, chosen-kept, chosen_dropped (the records chosen of a list); with_none, with_before, with_after (one record more);
 -- length-chosen-none, length-chosen, with_length, halves_length, most_chosen (how many records are chosen).
 use mathlib.Core.Path.{◌≡◌, refl, ap, ◌∙◌}
 use mathlib.Core.Bool.{Bool, true, false, cond, not}

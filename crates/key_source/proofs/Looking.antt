@@ -4,6 +4,7 @@ use mathlib.Core.Path.{◌≡◌, sym, ap, subst, ◌∙◌}
 use mathlib.Core.List.{List, ◌++◌}
 use Prim.Native.Nat.{ℕ, ◌≤◌}
 use lib.ListN.{length}
+use Rattle.std.specs.Prelude.{Ok}
 use Rattle.model.specs.declared.Root.{Root}
 use Rattle.model.specs.Sizes.{most_records}
 use Rattle.model.specs.Pages.{page_of, level_of, link_of, entries_of}
@@ -11,7 +12,6 @@ use Rattle.model.specs.Chains.{sound, Chain, read_chain, chain_of}
 use Rattle.model.proofs.Laws.Walks.{chain_reads}
 use Rattle.chain_keys.specs.Gathering.{CanWalk, entries_from}
 use Rattle.chain_scan.specs.declared.Looked.{Looked}
-use Rattle.chain_scan.specs.declared.Scan.TheVariants as Scan
 use Rattle.chain_scan.specs.Scans.{scanned}
 use Rattle.chain_scan.proofs.ScannedChain.{looked_at_lem}
 use Rattle.key_source.specs.Sources.{CanStart}
@@ -28,7 +28,7 @@ pub record Looks (r : Root) (ps : List ℕ) (c : ℕ) (l : Looked) : Type 0 wher
   pub count : l.count ≡ length chain.entries
 
 pub chain_looked : (r : Root) (ps : List ℕ) (c : ℕ) (l : Looked) → r.capacity ≤ most_records → r.overflow ≤ 752 → CanWalk r ps c
-    → Scan.Sound l ≡ scanned 0 (chain_of r ps c) → Looks r ps c l
+    → Ok l ≡ scanned 0 (chain_of r ps c) → Looks r ps c l
 unfolding read_chain
 chain_looked r ps c l fit overflow can e =
     let x = looked_at_lem (chain_of r ps c) 0 l e in

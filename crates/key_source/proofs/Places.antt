@@ -1,6 +1,6 @@
 -- Places in a chain: the records from a place on, record by record and page by page.
--- Main statements: first-sits, first-records (a page's first record); next_start, page-over, none_left (a page without a record left); entry_at, first_entry, onward-sits (one record further);
--- length-records_at (how many records there are at most); chain-starts, chain-records (a chain that was looked through whole).
+-- Main statements: first_sits, first_records (a page's first record); next_start, page_over, none_left (a page without a record left); entry_at, first_entry, onward_sits (one record further);
+-- length-records_at (how many records there are at most); chain_starts, chain_records (a chain that was looked through whole).
 use mathlib.Core.Path.{◌≡◌, refl, sym, ap, ◌∙◌}
 use mathlib.Core.List.{List, [], ◌∷◌, ◌++◌}
 use Prim.Native.Nat.{ℕ, zero, suc, ◌+◌, ◌-◌, ◌*◌, ◌≤◌, ◌<◌}
@@ -11,7 +11,6 @@ use lib.Seq.{drop-cons, drop-drop}
 use Rattle.model.specs.declared.Root.{Root}
 use Rattle.model.specs.declared.Entry.{Entry}
 use Rattle.model.specs.Sizes.{page_words, most_records, record_words}
-use Rattle.model.specs.Entries.{entry_of}
 use Rattle.model.specs.Pages.{page_of, count_of, link_of, records_in, entries_of}
 use Rattle.model.proofs.Laws.Lists.{all_map}
 use Rattle.model.proofs.Laws.RecordWords.{records_take}
@@ -19,11 +18,11 @@ use Rattle.model.specs.Chains.{sound, Chain, list_from, entries_on, read_chain, 
 use Rattle.model.proofs.Laws.Tests.{sound_page_links, sound_page_counts}
 use Rattle.model.proofs.Laws.Walks.{walked_chained, Reads, chain_reads, length-entries_on}
 use Rattle.chains.specs.Links.{linked_pages}
-use Rattle.chains.proofs.Walking.{count_at, link_at}
 use Rattle.chains.proofs.Links.{length-linked_pages, leads_all, next_page}
 use Rattle.chain_keys.specs.Gathering.{CanWalk, entries_from, Followed}
 use Rattle.chain_keys.proofs.Following.{Walks, walked_walks, entries_next, entries_none}
 use Rattle.key_source.specs.declared.Place.{Place}
+pub use Rattle.key_source.specs.Sources.{entry_at}
 use Rattle.key_source.specs.Sources.{records_at, Sits, CanStart, onward}
 
 -- ---- A page's first record
@@ -41,14 +40,14 @@ part_of_front (suc m) (suc k) (suc n) (x ∷ l) h = part_of_front m (suc k) n l 
 module _ (ps : List ℕ) (page n : ℕ) (can : CanStart ps page n) where
   -- The place of the page's first record.
   abbrev first_place : Place
-  first_place = record { at = page * 16 + 3; left = get_or ps (page * 16 + 1) 0; link = get_or ps (page * 16 + 2) 0; pages = n }
+  first_place = record { at = page * 16 + 3; left = count_of (page_of ps page); link = link_of (page_of ps page); pages = n }
 
   pub first_sits : Sits ps first_place
   first_sits = record {
-    within = omega (arith, count_at ps page, can.fits, can.few);
-    few = omega (arith, count_at ps page, can.few);
+    within = omega (arith, can.fits, can.few);
+    few = can.few;
     few_pages_lem = can.few_pages_lem;
-    followed = rw (link_at ps page) can.followed;
+    followed = can.followed;
   }
 
   records_read_ok : take (count_of (page_of ps page)) (records_in (drop (page * 16 + 3) ps)) ≡ entries_of (page_of ps page)
@@ -60,13 +59,9 @@ module _ (ps : List ℕ) (page n : ℕ) (can : CanStart ps page n) where
 
   pub first_records : records_at ps first_place ≡ entries_of (page_of ps page) ++ entries_from ps n (link_of (page_of ps page))
   unfolding records_at
-  first_records = rw (count_at ps page, link_at ps page, records_read_ok)
+  first_records = rw records_read_ok
 
 -- ---- A page without a record left
-
--- The record whose key is word i.
-abbrev pub entry_at : List ℕ → ℕ → Entry
-entry_at ps i = entry_of (get_or ps i 0) (get_or ps (i + 1) 0)
 
 module _ (ps : List ℕ) (p : Place) (sits : Sits ps p) where
   no_record : p.left ≡ 0 → records_at ps p ≡ entries_from ps p.pages p.link

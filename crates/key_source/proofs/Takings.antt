@@ -1,12 +1,13 @@
 -- One record taken off a source. q is the place p past the pages that have no record left, and r is one record after q.
--- Main statements: one_fewer (a record fewer is left); with-given-none, with-given-before, with-given-after (one record more is chosen); some_left, kept-given, kept-passed (no record more is chosen);
--- one_more, none_more, counted-on (records counted).
+-- Main statements: one_fewer (a record fewer is left); with_given-none, with_given_before, with_given_after (one record more is chosen); some_left, kept-given, kept_passed (no record more is chosen);
+-- tested-counted, counted_on (records counted).
 use mathlib.Core.Path.{◌≡◌, refl, sym, ap, ◌∙◌}
 use mathlib.Core.Bool.{Bool, true, false, cond}
 use mathlib.Core.List.{List, [], ◌∷◌}
 use Prim.Native.Nat.{ℕ, zero, suc, ◌+◌, ◌≤◌, ◌<◌}
 use native.Mathlib.Omega.{arith}
 use lib.ListN.{length, get_or}
+use mir.Val.{bool_byte}
 use Rattle.model.specs.declared.Entry.{Entry}
 use Rattle.model.specs.Entries.{key_of}
 use Rattle.key_source.specs.declared.Place.{Place}
@@ -16,12 +17,10 @@ use Rattle.key_source.specs.Sources.{records_at, Sits, onward, chosen, CanChoose
 use Rattle.key_source.proofs.Places.{entry_at, first_entry, onward_sits}
 use Rattle.key_source.proofs.Choices.{chosen_none, chosen-kept, chosen_dropped, with_none, with_before, with_after, length-chosen}
 
--- A count after a test.
-pub one_more : {b : Bool} {m : ℕ} (n : ℕ) → b ≡ true → m ≡ n + 1 → m ≡ n + cond b 1 0
-one_more n e f = rw e f
-
-pub none_more : {b : Bool} {m : ℕ} (n : ℕ) → b ≡ false → m ≡ n → m ≡ n + cond b 1 0
-none_more n e f = rw e (omega (arith, f))
+-- A test counted.
+pub tested-counted : (b : Bool) → bool_byte b ≡ cond b 1 0
+tested-counted true = refl
+tested-counted false = refl
 
 module _ (ps : List ℕ) (p q : Place) (sits : Sits ps q) (same : records_at ps q ≡ records_at ps p) where
   -- The records from p on, the first of them q's.

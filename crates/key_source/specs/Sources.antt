@@ -1,11 +1,11 @@
 -- The records of a new chain, read where they stand: a place in a chain, and which of the chain's records are chosen.
 -- Main definitions: records_at and Sits (the records from a place on, and that they can be read); chosen (of a chain's records, those of the new chain), CanChoose; chosen_of (the records of a source).
--- A choice key by key: kept, extra_records; CanStart (a page whose records, and those of the pages after it, can be read); Gives (one record taken off).
-use Rattle.std.specs.Prelude.{◌≡◌, Bool, true, not, List, ◌∷◌, ◌++◌, ℕ, ◌+◌, ◌-◌, ◌*◌, ◌≤◌, length, take, drop, eqb}
+-- entry_at (the record at a place). A choice key by key: kept, extra_records; CanStart (a page whose records, and those of the pages after it, can be read); Gives (one record taken off).
+use Rattle.std.specs.Prelude.{◌≡◌, Bool, true, not, List, ◌∷◌, ◌++◌, ℕ, ◌+◌, ◌-◌, ◌*◌, ◌≤◌, length, get_or, take, drop, eqb}
 use Rattle.model.specs.declared.Entry.{Entry}
 use Rattle.model.specs.Sizes.{page_words, most_records, record_words}
 use Rattle.model.specs.Addresses.{hash}
-use Rattle.model.specs.Entries.{inserted_into, removed_from, staying, going}
+use Rattle.model.specs.Entries.{entry_of, inserted_into, removed_from, staying, going}
 use Rattle.model.specs.Pages.{page_of, count_of, link_of, records_in}
 use Rattle.chain_keys.specs.Gathering.{entries_from, Followed}
 use Rattle.key_source.specs.declared.Place.{Place}
@@ -34,6 +34,10 @@ pub record CanStart (ps : List ℕ) (page n : ℕ) : Type 0 where
   pub few : count_of (page_of ps page) ≤ most_records
   pub few_pages_lem : n ≤ 752
   pub followed : Followed ps n (link_of (page_of ps page))
+
+-- The record whose key is word i.
+abbrev pub entry_at : List ℕ → ℕ → Entry
+entry_at ps i = entry_of (get_or ps i 0) (get_or ps (i + 1) 0)
 
 -- One record further on the same page.
 abbrev pub onward : Place → Place

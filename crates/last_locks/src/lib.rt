@@ -1,102 +1,65 @@
-// How an operation ends with all the locks that it still holds given up (document 01, "The thirty steps": 16, 17, 24, 26 and 30).
-// Main statements: ended_with_root, ended_with_split and ended_with_merge are the model's ended_with, for the three lists of locks that occur.
-// Every lock is tested on the words as found; then they are given up one after the other.
+// How an operation ends with all the locks that it still holds given up (document 01, "The thirty steps": 16, 17, 24,
+// 26 and 30).
+// Main statements: split_locks and merge_locks are the locks of a split and of a merge; ended_with is the model's
+// ended_with, for any list of locks.
 
 #![tactic(auto)]
 
-ghost use Rattle.std.specs.Prelude.{◌≡◌, [], ◌∷◌, ◌<◌, length, get_or};
-ghost use Rattle.model.specs.LockWords as LockWords;
+ghost use Rattle.std.specs.Prelude.{◌≡◌, [], ◌∷◌, ℕ, ◌+◌, ◌<◌, length};
+ghost use Rattle.records.specs.Work.{seen, left, AtHand};
 ghost use Rattle.model.specs.LockWords.{claim, root_word};
-ghost use Rattle.records.specs.Words.{party_in, seen, left, AtHand};
 ghost use Rattle.model.specs.LockRequests.{chain_selective, root_selective};
-ghost use Rattle.model.specs.Endings.{ended_with};
-ghost use Rattle.model.specs.Steps.MergeLocks.{merge_locks};
+ghost use Rattle.model.specs.Endings as Endings;
+ghost use Rattle.model.specs.Steps.MergeLocks as MergeLocks;
+ghost use Rattle.lock_requests.specs.Locks.{claims_of, AllThere};
 
-use lock_requests::ROOT_WORD;
-use model::{ChainAddress, DAMAGE, Mode, Restructuring, Root, StepAnswer};
-use records::{ANSWER, CHAIN, OTHER};
+use lock_requests::Lock;
+use model::{ChainAddress, Mode, Party, Refusal, Restructuring, StepAnswer};
+use records::Working;
 
-// Whether party q holds the lock of a word.
-fn held(locks: &[u32], word: u32, q: u32, mode: Mode) -> bool
-    requires { (word < length locks.now) × (q < 16) }
-    ensures { result ≡ LockWords.holds (get_or locks.now word 0) q mode }
+// The locks of a split: root and chain, selective.
+pub fn split_locks(party: Party) -> [Lock; 2]
+    requires { party.chain < 256 }
+    ensures claims { claims_of result ≡ root_selective ∷ (chain_selective party ∷ []) }
+    ensures words { (n : ℕ) → party.chain + 1 < n → AllThere result n }
 {
-    lock_words::holds(locks[word as usize], q, mode)
+    let chain = ChainAddress(party.chain);
+    [
+        Lock::root(Mode::Selective),
+        Lock::chain(chain, Mode::Selective),
+    ]
 }
 
-// The root's lock is given up, and the operation is done with this restructuring. "a lock given up ... that is not held" is damage.
-pub fn ended_with_root(
-    root: Root,
-    party: &mut [u32],
-    q: u32,
-    locks: &mut [u32],
-    pages: &mut [u32],
-    mode: Mode,
-    made: Restructuring,
-) -> StepAnswer
-    requires { AtHand root party.old q locks.old pages.old }
-    ensures { left result root party.new q locks.new pages.new ≡ ended_with (seen root party.old q locks.old pages.old) (claim root_word mode ∷ []) made }
+// The locks of a merge: root in this mode, chain and other chain exclusive.
+#[tactic(auto, unfolding(model::specs::Steps::MergeLocks::merge_locks))]
+pub fn merge_locks(party: Party, mode: Mode) -> [Lock; 3]
+    requires { (party.chain < 256) × (party.other < 256) }
+    ensures claims { claims_of result ≡ MergeLocks.merge_locks (claim root_word mode) party }
+    ensures words { (n : ℕ) → party.chain + 1 < n → party.other + 1 < n → AllThere result n }
 {
-    if !held(&locks[..], ROOT_WORD, q, mode) {
-        return StepAnswer::Refused(DAMAGE);
-    }
-    lock_words::release(locks, ROOT_WORD as usize, q, mode);
-    let answer = endings::answer_of(party[ANSWER]);
-    endings::done(root, party, q, pages, answer, made)
+    let target = ChainAddress(party.chain);
+    let partner = ChainAddress(party.other);
+    [
+        Lock::root(mode),
+        Lock::chain(target, Mode::Exclusive),
+        Lock::chain(partner, Mode::Exclusive),
+    ]
 }
 
-// The selective locks of root and chain are given up, and the operation is done with this restructuring: "give up both locks".
-pub fn ended_with_split(
-    root: Root,
-    party: &mut [u32],
-    q: u32,
+// These locks are given up, and the operation is done with this restructuring. "a lock given up ... that is not held"
+// is damage.
+#[tactic(auto, unfolding(model::specs::Endings::ended_with))]
+pub fn ended_with(
+    work: &mut Working,
     locks: &mut [u32],
     pages: &mut [u32],
+    claimed: &[Lock],
     made: Restructuring,
-) -> StepAnswer
-    requires { AtHand root party.old q locks.old pages.old }
-    ensures { left result root party.new q locks.new pages.new ≡ ended_with (seen root party.old q locks.old pages.old) (root_selective ∷ (chain_selective (party_in party.old) ∷ [])) made }
+) -> Result<StepAnswer, Refusal>
+    requires { AtHand work.old locks.old pages.old × AllThere claimed.now (length locks.old) }
+    ensures { left result work.new locks.new pages.new ≡ Endings.ended_with (seen work.old locks.old pages.old) (claims_of claimed.now) made }
 {
-    let chain = lock_requests::chain_word(ChainAddress(party[CHAIN]));
-    if !held(&locks[..], ROOT_WORD, q, Mode::Selective) {
-        return StepAnswer::Refused(DAMAGE);
-    }
-    if !held(&locks[..], chain, q, Mode::Selective) {
-        return StepAnswer::Refused(DAMAGE);
-    }
-    lock_words::release(locks, ROOT_WORD as usize, q, Mode::Selective);
-    lock_words::release(locks, chain as usize, q, Mode::Selective);
-    let answer = endings::answer_of(party[ANSWER]);
-    endings::done(root, party, q, pages, answer, made)
-}
-
-// The root's lock and the exclusive locks of chain and other chain are given up, and the operation is done with this restructuring: "give up all".
-pub fn ended_with_merge(
-    root: Root,
-    party: &mut [u32],
-    q: u32,
-    locks: &mut [u32],
-    pages: &mut [u32],
-    mode: Mode,
-    made: Restructuring,
-) -> StepAnswer
-    requires { AtHand root party.old q locks.old pages.old }
-    ensures { left result root party.new q locks.new pages.new ≡ ended_with (seen root party.old q locks.old pages.old) (merge_locks (claim root_word mode) (party_in party.old)) made }
-{
-    let chain = lock_requests::chain_word(ChainAddress(party[CHAIN]));
-    let other = lock_requests::chain_word(ChainAddress(party[OTHER]));
-    if !held(&locks[..], ROOT_WORD, q, mode) {
-        return StepAnswer::Refused(DAMAGE);
-    }
-    if !held(&locks[..], chain, q, Mode::Exclusive) {
-        return StepAnswer::Refused(DAMAGE);
-    }
-    if !held(&locks[..], other, q, Mode::Exclusive) {
-        return StepAnswer::Refused(DAMAGE);
-    }
-    lock_words::release(locks, ROOT_WORD as usize, q, mode);
-    lock_words::release(locks, chain as usize, q, Mode::Exclusive);
-    lock_words::release(locks, other as usize, q, Mode::Exclusive);
-    let answer = endings::answer_of(party[ANSWER]);
-    endings::done(root, party, q, pages, answer, made)
+    lock_requests::give_up(&*work, locks, claimed)?;
+    let answer = endings::answer_of(work.party.answer);
+    Ok(endings::done(work, pages, answer, made))
 }

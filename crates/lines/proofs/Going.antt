@@ -1,9 +1,9 @@
 -- A text being answered line by line: what holds between two lines.
--- Main statements: Going, going_starts, going_on (one line more), end_below (room for its newline), stopped-full, stopped-whole (what holds at the end).
+-- Main statements: Going, going_starts, going_on (one line more), end_below (room for its newline), stopped_whole (what holds at the end).
 use mathlib.Core.Path.{◌≡◌, refl, sym, ◌∙◌, ap, subst}
 use mathlib.Core.List.{List, [], ◌∷◌, ◌++◌, append_assoc}
 use Prim.Native.Nat.{ℕ, suc, ◌+◌, ◌-◌, ◌≤◌, ◌<◌}
-use native.Mathlib.Nat.{suc-ne-zero, lt_irrefl}
+use native.Mathlib.Nat.{suc-ne-zero}
 use native.Mathlib.Omega.{arith}
 use lib.ListN.{length, take, drop, set, length-set, length-append, length-drop}
 use lib.Seq.{sets, sets-eq, length-sets, take-suc-set, take_at, length-take-le, drop-drop}
@@ -15,25 +15,24 @@ use Rattle.forms.specs.Printing.{longest_reply, given}
 use Rattle.forms.proofs.ReplyTheorems.{reply_short}
 use Rattle.lines.specs.Lines.{line_answered}
 use Rattle.lines.specs.Texts.{newline, line_length, printed_before, reply_line, text_answered}
-use Rattle.lines.proofs.Texts.{then_text, length_most, line_first}
+use Rattle.lines.proofs.Texts.{then_text, FirstLine, line_first}
 
--- From memory m₀ the text was answered as far as place `from`: memory is m, the replies stand before place `end` of `out`, which has n bytes, and the line at `from` ends at `to`.
-pub record Going (text : List ℕ) (m₀ : Memory) (n : ℕ) (m : Memory) (out : List ℕ) (from end to : ℕ) : Type 0 where
+-- From memory m₀ the text was answered as far as place `from`: memory is m, and the replies stand before place `end` of `out`, which has n bytes.
+pub record Going (text : List ℕ) (m₀ : Memory) (n : ℕ) (m : Memory) (out : List ℕ) (from end : ℕ) : Type 0 where
   pub inside : from ≤ length text
   pub within : end ≤ n
   pub long : length out ≡ n
-  pub later : from ≤ to
-  pub ends : to ≡ from + line_length (drop from text)
   pub empty : from ≡ 0 → end ≡ 0
   pub said : (t : List ℕ) → text_answered [] (text ++ t) m₀ ≡ printed_before (take end out) (text_answered [] (drop from text ++ t) m)
 
-pub going_starts : (text : List ℕ) (m : Memory) (out : List ℕ) (to : ℕ) → to ≡ 0 + line_length (drop 0 text) → Going text m (length out) m out 0 0 to
-going_starts text m out to e = record { inside = omega arith; within = omega arith; long = refl; later = omega arith; ends = e; empty = λ z. refl; said = λ t. refl }
+pub going_starts : (text : List ℕ) (m : Memory) (out : List ℕ) → Going text m (length out) m out 0 0
+going_starts text m out = record { inside = omega arith; within = omega arith; long = refl; empty = λ z. refl; said = λ t. refl }
 
-module _ (text : List ℕ) (m₀ : Memory) (n : ℕ) (m : Memory) (out : List ℕ) (from end to : ℕ) (g : Going text m₀ n m out from end to) where
+-- The line at `from` has k bytes.
+module _ (text : List ℕ) (m₀ : Memory) (n : ℕ) (m : Memory) (out : List ℕ) (from end k : ℕ) (g : Going text m₀ n m out from end) where
   -- The line at `from`, and the text of its reply.
   abbrev pub line_at : List ℕ
-  line_at = take (to - from) (drop from text)
+  line_at = take (from + k - from) (drop from text)
 
   abbrev pub reply_at : List ℕ
   reply_at = reply_text (line_answered line_at m).answer
@@ -70,40 +69,32 @@ module _ (text : List ℕ) (m₀ : Memory) (n : ℕ) (m : Memory) (out : List �
       ∙ append_assoc (take end out) reply_at (newline ∷ [])
 
   -- The text from the line on: the line answered, then the text behind its newline.
-  line_then : (t : List ℕ) → to < length text → text_answered [] (drop from text ++ t) m ≡ then_text line_at (drop (to + 1) text ++ t) m
-  line_then t h =
+  line_then : (t : List ℕ) → FirstLine (drop from text) k → text_answered [] (drop from text ++ t) m ≡ then_text line_at (drop (from + (k + 1)) text ++ t) m
+  line_then t first =
       let u = drop from text in
-      let left = length-drop from text in
-      let l_is : line_length u ≡ to - from = omega (arith, g.ends) in
-      let behind : from + suc (line_length u) ≡ to + 1 = omega (arith, g.ends) in
-      line_first [] u t m (omega (arith, left, h, g.ends, g.inside))
-      ∙ ap (λ (k : ℕ). then_text (take k u) (drop (suc (line_length u)) u ++ t) m) l_is
-      ∙ ap (λ (v : List ℕ). then_text line_at (v ++ t) m) (drop-drop (suc (line_length u)) from text ∙ ap (λ (k : ℕ). drop k text) behind)
+      let l_is : line_length u ≡ from + k - from = omega (arith, first.long) in
+      let behind : from + suc (line_length u) ≡ from + (k + 1) = omega (arith, first.long) in
+      line_first [] u t m (omega (arith, first.long, first.ended))
+      ∙ ap (λ (j : ℕ). then_text (take j u) (drop (suc (line_length u)) u ++ t) m) l_is
+      ∙ ap (λ (v : List ℕ). then_text line_at (v ++ t) m) (drop-drop (suc (line_length u)) from text ∙ ap (λ (j : ℕ). drop j text) behind)
 
-  pub going_on : (m' : Memory) (next : List ℕ) (e to' : ℕ) → to < length text → end + 58 ≤ n → m' ≡ (line_answered line_at m).memory → next ≡ sets out end given_at → e ≡ end + length given_at
-      → to' ≡ to + 1 + line_length (drop (to + 1) text) → Going text m₀ n m' (set next e newline) (to + 1) (e + 1) to'
-  going_on m' next e to' h room em w q et =
+  pub going_on : (m' : Memory) (next : List ℕ) (e : ℕ) → FirstLine (drop from text) k → end + 58 ≤ n → m' ≡ (line_answered line_at m).memory → next ≡ sets out end given_at → e ≡ end + length given_at
+      → Going text m₀ n m' (set next e newline) (from + (k + 1)) (e + 1)
+  going_on m' next e first room em w q =
+      let to = from + (k + 1) in
       record {
-        inside = omega (arith, h);
+        inside = let left = length-drop from text in omega (arith, left, first.ended, g.inside);
         within = let below = end_below e room q in omega (arith, below);
         long = length-set next e newline ∙ ap (λ (l : List ℕ). length l) w ∙ length-sets out end given_at ∙ g.long;
-        later = omega (arith, et);
-        ends = et;
-        empty = λ z. let none : ◌≡◌ {A = ℕ} (suc to) 0 = omega (arith, z) in absurd (suc-ne-zero to none);
+        empty = λ z. let none : ◌≡◌ {A = ℕ} (suc (from + k)) 0 = omega (arith, z) in absurd (suc-ne-zero (from + k) none);
         said = λ t.
             g.said t
-            ∙ ap (printed_before (take end out)) (line_then t h)
-            ∙ ap (λ (x : Memory). printed_before (take end out) (printed_before (reply_line (line_answered line_at m).answer) (text_answered [] (drop (to + 1) text ++ t) x))) (sym em)
-            ∙ ap (λ (l : List ℕ). called l (text_answered [] (drop (to + 1) text ++ t) m').memory) (sym (append_assoc (take end out) (reply_line (line_answered line_at m).answer) (text_answered [] (drop (to + 1) text ++ t) m').answer))
-            ∙ ap (λ (l : List ℕ). printed_before l (text_answered [] (drop (to + 1) text ++ t) m')) (sym (one_more e next room q w));
+            ∙ ap (printed_before (take end out)) (line_then t first)
+            ∙ ap (λ (x : Memory). printed_before (take end out) (printed_before (reply_line (line_answered line_at m).answer) (text_answered [] (drop to text ++ t) x))) (sym em)
+            ∙ ap (λ (l : List ℕ). called l (text_answered [] (drop to text ++ t) m').memory) (sym (append_assoc (take end out) (reply_line (line_answered line_at m).answer) (text_answered [] (drop to text ++ t) m').answer))
+            ∙ ap (λ (l : List ℕ). printed_before l (text_answered [] (drop to text ++ t) m')) (sym (one_more e next room q w));
       }
 
-  -- Where no line was answered, there was no room for a reply, or no whole line.
-  pub stopped_full : n - end < 58 → from ≡ 0 → 58 ≤ n → line_length text ≡ length text
-  stopped_full h z room = let none = g.empty z in absurd (lt_irrefl 0 (omega (arith, room, none, h)))
-
-  pub stopped_whole : length text ≤ to → from ≡ 0 → 58 ≤ n → line_length text ≡ length text
-  stopped_whole h z room =
-      let most = length_most text in
-      let ends : to ≡ 0 + line_length (drop 0 text) = subst (λ (k : ℕ). to ≡ k + line_length (drop k text)) z g.ends in
-      omega (arith, h, most, ends)
+-- Where no line was answered, there was no whole line.
+pub stopped_whole : (text : List ℕ) (from : ℕ) → line_length (drop from text) ≡ length (drop from text) → from ≡ 0 → line_length text ≡ length text
+stopped_whole text from none z = subst (λ (j : ℕ). line_length (drop j text) ≡ length (drop j text)) z none

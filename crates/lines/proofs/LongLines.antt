@@ -11,6 +11,7 @@ use native.Mathlib.Omega.{arith}
 use lib.ListN.{length, take, length-append}
 use lib.Seq.{length-take-le}
 use lib.Dec.{eqb}
+use Rattle.std.specs.Prelude.{Option, None, Some}
 use Rattle.model.specs.declared.Operation.TheVariants as Operation
 use Rattle.model.specs.Memory.{Memory}
 use Rattle.model.specs.Calls.{Called, called}
@@ -19,7 +20,6 @@ use Rattle.patterns.specs.Patterns.{hole}
 use Rattle.patterns.specs.Grammar.{Derives, end, byte, number}
 use Rattle.patterns.proofs.Theorems.{longest}
 use Rattle.forms.specs.declared.Form.{Form}
-use Rattle.forms.specs.declared.FormRead.{FormRead}
 use Rattle.forms.specs.declared.Reply.{Reply}
 use Rattle.forms.specs.Forms.{form_pattern, FormLine}
 use Rattle.forms.specs.Reading.{read_form}
@@ -45,12 +45,12 @@ form_line_short (Form.Step q) line d = omega (arith, derived_short d)
 form_line_short (Form.Withdraw q) line d = omega (arith, derived_short d)
 form_line_short Form.TakeUp line d = omega (arith, derived_short d)
 
-pub long_unread : (line : List ℕ) → longest_form < length line → read_form line ≡ FormRead.Unread
+pub long_unread : (line : List ℕ) → longest_form < length line → read_form line ≡ None
 long_unread line h = go (read_form line) refl
   where
-    go : (r : FormRead) → read_form line ≡ r → r ≡ FormRead.Unread
-    go FormRead.Unread e = refl
-    go (FormRead.Read f) e = let short = form_line_short f line (read_form_lem f line e) in absurd (lt_irrefl 0 (omega (arith, h, short)))
+    go : (r : Option Form) → read_form line ≡ r → r ≡ None
+    go None e = refl
+    go (Some f) e = let short = form_line_short f line (read_form_lem f line e) in absurd (lt_irrefl 0 (omega (arith, h, short)))
 
 -- A long line is answered unread, and alters nothing.
 long_answered : (line : List ℕ) (m : Memory) → longest_form < length line → line_answered line m ≡ called Reply.Unread m

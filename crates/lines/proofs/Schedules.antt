@@ -7,8 +7,9 @@ use Prim.Native.Nat.{ℕ, ◌≤◌}
 use native.Mathlib.Omega.{arith}
 use lib.ListN.{length, drop}
 use lib.Seq.{take_at, length-take-le}
+use Rattle.std.specs.Prelude.{Ok}
 use Rattle.model.specs.declared.Party.{Party}
-use Rattle.model.specs.declared.FormatAnswer.{FormatAnswer}
+use Rattle.model.specs.Answers.{CallReply}
 use Rattle.model.specs.Sizes.{lock_words, all_page_words}
 use Rattle.model.specs.Refusals.{lengths_fit}
 use Rattle.model.specs.Memory.{Memory, formatted, formatted_root}
@@ -23,10 +24,10 @@ use Rattle.model.proofs.Theorems.RefusalOrder.{format_order}
 use Rattle.theory.specs.Demands.{Sizes, sizes_given}
 use Rattle.model.proofs.Invariant.Start.{start_inv}
 use Rattle.calls.specs.Lent.{lent}
-use Rattle.held.specs.Held.{first_of}
+use Rattle.lines.specs.Held.{first_of}
 use Rattle.forms.specs.declared.Form.{Form}
 use Rattle.forms.specs.declared.Reply.{Reply}
-use Rattle.lines.specs.Lines.{words_for, performed}
+use Rattle.lines.specs.Lines.{words_for, by_number, performed}
 use Rattle.lines.specs.Schedules.{file_in, forms_answered, file_sizes, form_of, reply_as, reply_of}
 
 -- A memory with other records and words behind it is the file in both together.
@@ -44,9 +45,9 @@ formatted_inv s = start_inv s.originals s.capacity s.primaries s.overflow s.part
 -- Where there are records and words enough, a format of these sizes is accepted, and makes the file that every schedule starts from.
 pub format_starts : (s : Sizes) (m : Memory) → length m.parties ≡ 16 → lock_words (sizes_given s) ≤ length m.locks → all_page_words (sizes_given s) ≤ length m.pages
     → s.parties ≤ length m.waiting
-    → ((performed (Form.Format (file_sizes s)) m).answer ≡ Reply.Format FormatAnswer.Formatted) × (file_in (performed (Form.Format (file_sizes s)) m).memory ≡ formatted (sizes_given s))
-unfolding performed lengths_fit formatted formatted_root
-format_starts s m records locks pages waiting = (ap (λ (c : Called FormatAnswer). Reply.Format c.answer) made, ap (λ (c : Called FormatAnswer). file_in (behind c.memory)) made ∙ file_in_lem (formatted (sizes_given s)) empty_book (formatted_inv s) _ _ _ _)
+    → ((performed (Form.Format (file_sizes s)) m).answer ≡ Reply.Format (Ok tt)) × (file_in (performed (Form.Format (file_sizes s)) m).memory ≡ formatted (sizes_given s))
+unfolding performed by_number lengths_fit formatted formatted_root
+format_starts s m records locks pages waiting = (ap (λ (c : Called CallReply). Reply.Format (by_number c.answer)) made, ap (λ (c : Called CallReply). file_in (behind c.memory)) made ∙ file_in_lem (formatted (sizes_given s)) empty_book (formatted_inv s) _ _ _ _)
   where
     given : Memory
     given = first_of s.parties (words_for (sizes_given s) m)
@@ -65,7 +66,7 @@ format_starts s m records locks pages waiting = (ap (λ (c : Called FormatAnswer
           eqb_same (length given.waiting) s.parties (length-take-le s.parties m.waiting waiting),
         ) refl
 
-    made : format_call given s.originals s.capacity s.primaries s.overflow s.parties ≡ called FormatAnswer.Formatted (formatted (sizes_given s))
+    made : format_call given s.originals s.capacity s.primaries s.overflow s.parties ≡ called (Ok tt) (formatted (sizes_given s))
     made = (format_order given s.originals s.capacity s.primaries s.overflow s.parties).none s.fit fits
 
 -- ---- Begins, steps and withdraws
@@ -94,11 +95,11 @@ calls_printed (c ∷ cs) m x b i e =
 
 -- In memory as large as turns has it, whatever its contents: for a format and the calls of a schedule turns prints that it formatted, then the replies of the schedule's events.
 pub schedule_printed : (s : Sizes) (cs : List Call) (m : Memory) → length m.parties ≡ 16 → 257 ≤ length m.locks → 16384 ≤ length m.pages → 16 ≤ length m.waiting
-    → (forms_answered (Form.Format (file_sizes s) ∷ map form_of cs) m).answer ≡ Reply.Format FormatAnswer.Formatted ∷ map reply_of (events (formatted (sizes_given s)) cs)
+    → (forms_answered (Form.Format (file_sizes s) ∷ map form_of cs) m).answer ≡ Reply.Format (Ok tt) ∷ map reply_of (events (formatted (sizes_given s)) cs)
 unfolding forms_answered formatted formatted_root
 schedule_printed s cs m records locks pages waiting =
     let limits = (formatted_inv s).limits in
     let first = format_starts s m records (omega (arith, limits.chains_fit_ok, locks)) (omega (arith, limits.chains_fit_ok, limits.overflow_fits, limits.parties_fit_lem, pages)) (omega (arith, limits.parties_fit_lem, waiting)) in
     let after = (performed (Form.Format (file_sizes s)) m).memory in
     let rest = calls_printed cs after (formatted (sizes_given s)) empty_book (formatted_inv s) first.1 in
-    ap (λ (r : Reply). r ∷ (forms_answered (map form_of cs) after).answer) first.0 ∙ ap (λ (rs : List Reply). Reply.Format FormatAnswer.Formatted ∷ rs) rest.0
+    ap (λ (r : Reply). r ∷ (forms_answered (map form_of cs) after).answer) first.0 ∙ ap (λ (rs : List Reply). Reply.Format (Ok tt) ∷ rs) rest.0

@@ -5,8 +5,11 @@
 -- the course of it), take_up_between (forms before and after a take-up).
 use mathlib.Core.Path.{◌≡◌, refl, sym, ◌∙◌, ap}
 use mathlib.Core.List.{List, [], ◌∷◌, ◌++◌, map}
+use Prim.Native.Nat.{ℕ}
 use lib.ListN.{take-append-drop}
-use Rattle.model.specs.declared.TakeUpAnswer.{TakeUpAnswer}
+use Rattle.std.specs.Prelude.{Result, Ok, Err}
+use Rattle.model.specs.declared.Refusal.{Refusal}
+use Rattle.model.specs.Answers.{CallReply, cause_number}
 use Rattle.model.specs.Sizes.{lock_words, all_page_words}
 use Rattle.model.specs.Memory.{Memory}
 use Rattle.model.specs.Calls.{Called}
@@ -19,7 +22,7 @@ use Rattle.theory.proofs.TakenUp.{taken_start}
 use Rattle.calls.specs.Lent.{lent}
 use Rattle.forms.specs.declared.Form.{Form}
 use Rattle.forms.specs.declared.Reply.{Reply}
-use Rattle.lines.specs.Lines.{performed}
+use Rattle.lines.specs.Lines.{by_number, performed}
 use Rattle.lines.specs.Schedules.{file_in, forms_answered, form_of, reply_of}
 use Rattle.lines.proofs.Schedules.{calls_printed}
 
@@ -33,42 +36,51 @@ take_up_kept m =
     (take-append-drop m.root.parties m.waiting i)
 
 -- The answer is the one that take-up gives for the file held.
-answered : (m : Memory) → (performed Form.TakeUp m).answer ≡ Reply.TakeUp (take_up_call (file_in m)).answer
+answered : (m : Memory) → (performed Form.TakeUp m).answer ≡ Reply.TakeUp (by_number (take_up_call (file_in m)).answer)
 unfolding performed
 answered m = refl
+
+-- Where it is ok, the call's was.
+was_ok : {A : Type 0} (x : Result A Refusal) (a : A) → by_number x ≡ Ok a → x ≡ Ok a
+unfolding by_number
+was_ok {A} (Ok b) a e =
+    let given : ◌≡◌ {A = Result A ℕ} (Ok b) (Ok a) = e in
+    let same : b ≡ a = cc in
+    ap (λ (x : A). Ok x) same
+was_ok {A} (Err c) a e = let none : ◌≡◌ {A = Result A ℕ} (Err (cause_number c)) (Ok a) = e in cc
 
 -- The file held is one that a run may start from.
 pub record HeldStart (m : Memory) : Type 0 where
   pub begins : Start
   pub starts : file_in m ≡ start begins
 
-pub take_up_starts : (m : Memory) → (performed Form.TakeUp m).answer ≡ Reply.TakeUp TakeUpAnswer.TakenUp → HeldStart m
+pub take_up_starts : (m : Memory) → (performed Form.TakeUp m).answer ≡ Reply.TakeUp (Ok tt) → HeldStart m
 unfolding taken_start
 take_up_starts m e =
-    let same : Reply.TakeUp (take_up_call (file_in m)).answer ≡ Reply.TakeUp TakeUpAnswer.TakenUp = sym (answered m) ∙ e in
-    let is : (take_up_call (file_in m)).answer ≡ TakeUpAnswer.TakenUp = cc in
-    record { begins = taken_start (file_in m) is; starts = refl }
+    let same : Reply.TakeUp (by_number (take_up_call (file_in m)).answer) ≡ Reply.TakeUp (Ok tt) = sym (answered m) ∙ e in
+    let ok : by_number (take_up_call (file_in m)).answer ≡ Ok tt = cc in
+    record { begins = taken_start (file_in m) (was_ok (take_up_call (file_in m)).answer tt ok); starts = refl }
 
 -- ---- A schedule after it
 
 -- From a file that passes, held in whatever memory: turns prints that it is taken up, then the replies of the
 -- schedule.
 pub start_printed : (s : Start) (cs : List Call) (m : Memory) → file_in m ≡ start s
-    → (forms_answered (Form.TakeUp ∷ map form_of cs) m).answer ≡ Reply.TakeUp TakeUpAnswer.TakenUp ∷ map reply_of (events (start s) cs)
-unfolding forms_answered
+    → (forms_answered (Form.TakeUp ∷ map form_of cs) m).answer ≡ Reply.TakeUp (Ok tt) ∷ map reply_of (events (start s) cs)
+unfolding forms_answered by_number
 start_printed s cs m e =
-    let passes : (take_up_call (start s)).answer ≡ TakeUpAnswer.TakenUp = ap (λ (c : Called TakeUpAnswer). c.answer) ((take_up_order (start s)).none s.sizes_fit s.lengths_fit_ok s.saved) in
-    let first : (performed Form.TakeUp m).answer ≡ Reply.TakeUp TakeUpAnswer.TakenUp = answered m ∙ ap (λ (x : Memory). Reply.TakeUp (take_up_call x).answer) e ∙ ap (λ (a : TakeUpAnswer). Reply.TakeUp a) passes in
+    let passes : (take_up_call (start s)).answer ≡ Ok tt = ap (λ (c : Called CallReply). c.answer) ((take_up_order (start s)).none s.sizes_fit s.lengths_fit_ok s.saved) in
+    let first : (performed Form.TakeUp m).answer ≡ Reply.TakeUp (Ok tt) = answered m ∙ ap (λ (x : Memory). Reply.TakeUp (by_number (take_up_call x).answer)) e ∙ ap (λ (a : CallReply). Reply.TakeUp (by_number a)) passes in
     let rest : (forms_answered (map form_of cs) (performed Form.TakeUp m).memory).answer ≡ map reply_of (events (start s) cs) =
     ap (λ (x : Memory). (forms_answered (map form_of cs) x).answer) (take_up_kept m) ∙ (calls_printed cs m (start s) (book_start s) (started_inv s) e).0 in
     λ i. first i ∷ rest i
 
 -- In the course of the schedule a take-up prints what take-up answers for the memory reached.
 pub take_up_printed : (s : Start) (cs : List Call) (m : Memory) → file_in m ≡ start s
-    → (performed Form.TakeUp (forms_answered (map form_of cs) m).memory).answer ≡ Reply.TakeUp (take_up_call (Reached s cs)).answer
+    → (performed Form.TakeUp (forms_answered (map form_of cs) m).memory).answer ≡ Reply.TakeUp (by_number (take_up_call (Reached s cs)).answer)
 take_up_printed s cs m e =
     answered (forms_answered (map form_of cs) m).memory
-    ∙ ap (λ (x : Memory). Reply.TakeUp (take_up_call x).answer) (calls_printed cs m (start s) (book_start s) (started_inv s) e).1
+    ∙ ap (λ (x : Memory). Reply.TakeUp (by_number (take_up_call x).answer)) (calls_printed cs m (start s) (book_start s) (started_inv s) e).1
 
 -- ---- Between two forms
 
@@ -89,9 +101,9 @@ parted_memory (f ∷ fs) gs m = parted_memory fs gs (performed f m).memory
 pub record Between (fs gs : List Form) (m : Memory) : Type 0 where
   pub before : List Reply
   pub after : List Reply
-  pub own : TakeUpAnswer
+  pub own : CallReply
   pub without : (forms_answered (fs ++ gs) m).answer ≡ before ++ after
-  pub with_it : (forms_answered (fs ++ (Form.TakeUp ∷ gs)) m).answer ≡ before ++ (Reply.TakeUp own ∷ after)
+  pub with_it : (forms_answered (fs ++ (Form.TakeUp ∷ gs)) m).answer ≡ before ++ (Reply.TakeUp (by_number own) ∷ after)
   pub memory : (forms_answered (fs ++ (Form.TakeUp ∷ gs)) m).memory ≡ (forms_answered (fs ++ gs) m).memory
 
 pub take_up_between : (fs gs : List Form) (m : Memory) → Between fs gs m

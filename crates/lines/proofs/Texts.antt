@@ -1,19 +1,20 @@
 -- A text by its first line.
--- Main statements: line_here, line_on, line_over (where the first newline stands); line_first (a text that has a newline: its first line is answered, then the rest), no_line (a text that has none).
+-- Main statements: first_newline, no_newline (where the first newline stands); line_first (a text that has a newline: its first line is answered, then the rest), no_line (a text that has none).
 use mathlib.Core.Path.{◌≡◌, refl, sym, ◌∙◌, ap}
-use mathlib.Core.Logic.{◌≢◌}
 use mathlib.Core.Bool.{Bool, true, false, cond}
 use mathlib.Core.List.{List, [], ◌∷◌, ◌++◌}
-use Prim.Native.Nat.{ℕ, suc, ◌<◌, ◌≤◌, suc-le-suc}
+use Prim.Native.Nat.{ℕ, suc, ◌+◌, ◌-◌, ◌<◌, ◌≤◌, suc-le-suc}
 use native.Mathlib.Omega.{arith}
 use native.Mathlib.Nat.{le_of_suc-le-suc, lt_irrefl, not-suc-le-zero}
-use lib.ListN.{length, get_or, take, drop, drop_of_length-le}
-use lib.Seq.{append_snoc, drop-cons}
+use lib.ListN.{length, take, drop, length-drop}
+use lib.Seq.{append_snoc, take_all}
 use mathlib.Core.List.{append-nil}
-use lib.Dec.{eqb}
+use lib.Dec.{eqb, ltb}
+use Rattle.std.specs.Prelude.{None, Some, not, position}
+use Rattle.std.specs.List.{position_or_len}
 use Rattle.model.specs.Memory.{Memory}
 use Rattle.model.specs.Calls.{Called, called}
-use Rattle.model.proofs.Laws.Lists.{cond-true, cond-false, eqb_same, eqb-diff}
+use Rattle.model.proofs.Laws.Lists.{Ord, lt, ge, ord}
 use Rattle.lines.specs.Lines.{line_answered}
 use Rattle.lines.specs.Texts.{newline, line_length, printed_before, reply_line, text_answered}
 
@@ -30,19 +31,54 @@ length_most (b ∷ u) = go (eqb b newline) (length_most u)
     go true h = omega arith
     go false h = suc-le-suc h
 
--- The byte at place i of a text is a newline, or is not; or there is none.
-pub line_here : (xs : List ℕ) (i : ℕ) → i < length xs → get_or xs i 0 ≡ newline → line_length (drop i xs) ≡ 0
-unfolding line_length
-line_here xs i h e = ap line_length (drop-cons xs i 0 h) ∙ cond-true (eqb (get_or xs i 0) newline) 0 (suc (line_length (drop (suc i) xs))) (eqb_same (get_or xs i 0) newline e)
+-- The first line of a text has k bytes, and a newline ends it.
+pub record FirstLine (text : List ℕ) (k : ℕ) : Type 0 where
+  pub long : line_length text ≡ k
+  pub ended : k < length text
 
-pub line_on : (xs : List ℕ) (i j : ℕ) → j ≡ suc i → i < length xs → get_or xs i 0 ≢ newline → line_length (drop i xs) ≡ suc (line_length (drop j xs))
+-- Where the first newline is looked for: the place, or the length where there is none.
+first_place : (xs : List ℕ) → position_or_len (λ b. eqb b newline) xs ≡ line_length xs
 unfolding line_length
-line_on xs i j n h e =
-    ap line_length (drop-cons xs i 0 h) ∙ cond-false (eqb (get_or xs i 0) newline) 0 (suc (line_length (drop (suc i) xs))) (eqb-diff (get_or xs i 0) newline e) ∙ ap (λ (k : ℕ). suc (line_length (drop k xs))) (sym n)
+first_place [] = refl
+first_place (b ∷ xs) = go (eqb b newline) (first_place xs)
+  where
+    go : (x : Bool) → position_or_len (λ b. eqb b newline) xs ≡ line_length xs → cond (not x) (1 + position_or_len (λ b. eqb b newline) xs) 0 ≡ cond x 0 (suc (line_length xs))
+    go true e = refl
+    go false e = omega (arith, e)
 
-pub line_over : (xs : List ℕ) (i : ℕ) → length xs ≤ i → line_length (drop i xs) ≡ 0
-unfolding line_length
-line_over xs i h = ap line_length (drop_of_length-le xs h)
+-- In what is left of a text.
+left_from : (text : List ℕ) (from : ℕ) → take (length text - from) (drop from text) ≡ drop from text
+left_from text from = let left = length-drop from text in take_all (length text - from) (drop from text) (omega (arith, left))
+
+looked_for : (text : List ℕ) (from : ℕ) → position (λ b. eqb b newline) (take (length text - from) (drop from text))
+    ≡ cond (ltb (line_length (drop from text)) (length (drop from text))) (Some (line_length (drop from text))) None
+looked_for text from =
+    ap (λ (u : List ℕ). position (λ b. eqb b newline) u) (left_from text from)
+    ∙ ap (λ (n : ℕ). cond (ltb n (length (drop from text))) (Some n) None) (first_place (drop from text))
+
+pub first_newline : (text : List ℕ) (from k : ℕ) → Some k ≡ position (λ b. eqb b newline) (take (length text - from) (drop from text)) → FirstLine (drop from text) k
+first_newline text from k e = go (ord (line_length u) (length u)) (e ∙ looked_for text from)
+  where
+    u : List ℕ
+    u = drop from text
+
+    go : Ord (line_length u) (length u) → Some k ≡ cond (ltb (line_length u) (length u)) (Some (line_length u)) None → FirstLine u k
+    go (lt h t) e =
+        let same : Some k ≡ Some (line_length u) = rw t at e in
+        let is : k ≡ line_length u = cc in
+        record { long = sym is; ended = omega (arith, is, h) }
+    go (ge h t) e = let none : Some k ≡ None = rw t at e in cc
+
+pub no_newline : (text : List ℕ) (from : ℕ) → None ≡ position (λ b. eqb b newline) (take (length text - from) (drop from text))
+    → line_length (drop from text) ≡ length (drop from text)
+no_newline text from e = go (ord (line_length u) (length u)) (e ∙ looked_for text from)
+  where
+    u : List ℕ
+    u = drop from text
+
+    go : Ord (line_length u) (length u) → None ≡ cond (ltb (line_length u) (length u)) (Some (line_length u)) None → line_length u ≡ length u
+    go (lt h t) e = let none : None ≡ Some (line_length u) = rw t at e in cc
+    go (ge h t) e = let most = length_most u in omega (arith, most, h)
 
 pub line_first : (line u t : List ℕ) (m : Memory) → line_length u < length u → text_answered line (u ++ t) m ≡ then_text (line ++ take (line_length u) u) (drop (suc (line_length u)) u ++ t) m
 unfolding line_length text_answered

@@ -8,10 +8,10 @@ use Rattle.model.specs.Calls.{Called, called}
 use Rattle.model.specs.Runs.{Call, begin_for, step_for, withdraw_for, caller_of, to_begin, to_step, to_withdraw, Event}
 use Rattle.model.specs.Runs as Runs
 use Rattle.theory.specs.Demands.{Sizes}
-use Rattle.held.specs.Held.{first_of}
+use Rattle.lines.specs.Held.{first_of}
 use Rattle.forms.specs.declared.Form.{Form}
 use Rattle.forms.specs.declared.Reply.{Reply}
-use Rattle.lines.specs.Lines.{words_for, performed}
+use Rattle.lines.specs.Lines.{words_for, by_number, performed}
 
 -- The root record, and of the records and words held as many as its sizes ask for.
 abbrev pub file_in : Memory → Memory
@@ -35,11 +35,11 @@ form_of (begin_for q o k) = Form.Begin q o k
 form_of (step_for q) = Form.Step q
 form_of (withdraw_for q) = Form.Withdraw q
 
--- What a call returned, as it is printed: the party stands first.
+-- What a call returned, as it is printed: the party stands first, and a refusal by its number.
 unfoldable pub reply_as : Call → Runs.Reply → Reply
-reply_as c (to_begin a) = Reply.Begin (caller_of c) a
-reply_as c (to_step a) = Reply.Step (caller_of c) a
-reply_as c (to_withdraw a) = Reply.Withdraw (caller_of c) a
+reply_as c (to_begin a) = Reply.Begin (caller_of c) (by_number a)
+reply_as c (to_step a) = Reply.Step (caller_of c) (by_number a)
+reply_as c (to_withdraw a) = Reply.Withdraw (caller_of c) (by_number a)
 
 abbrev pub reply_of : Event → Reply
 reply_of e = reply_as e.call e.reply

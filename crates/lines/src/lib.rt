@@ -1,343 +1,216 @@
-// A line of turns answered (document 01, "The turns program"): the form is read, its call is performed on the root
-// record and on records and words that are lent, and the reply is printed. Each call is lent the first lock words,
-// page words and words of the waiting row that the sizes ask for: those given for a format, else those of the root
-// record.
+// A line of turns answered (document 01, "The turns program"): the form is read, its call is performed on the file that
+// the program holds, and the reply is printed. Of the records and words that are there each call is lent the first, as
+// many as the sizes ask for: those given for a format, else those of the root record. The others stay.
 // Main statements: answer leaves the memory, and prints the reply, that line_answered says of the line and of all
-// memory (specs/Lines.antt); there is nothing that a caller must see to.
+// memory (specs/Lines.antt, specs/Held.antt); there is nothing that a caller must see to.
 
 #![tactic(auto)]
 
-ghost use Rattle.std.specs.Prelude.{◌≡◌, ℕ, ◌+◌, ◌*◌, ◌≤◌, min, List, [], ◌++◌, length, take, drop};
+ghost use Rattle.std.specs.Prelude.{◌≡◌, eqb, ℕ, ◌+◌, ◌≤◌, min, List, [], ◌++◌, length, take, drop, position};
 ghost use Rattle.std.proofs.lemmas.List.Edits.{sets};
+ghost use Rattle.model.specs.Sizes.{lock_words, all_page_words};
 ghost use Rattle.model.specs.Calls.{called};
-ghost use Rattle.held.specs.Held.{held_in};
 ghost use Rattle.forms.specs.declared.Form.TheVariants as Form;
+ghost use Rattle.forms.specs.declared.Reply.TheVariants as Reply;
 ghost use Rattle.forms.specs.Replies.{reply_text};
 ghost use Rattle.forms.specs.Printing.{longest_reply, given};
-ghost use Rattle.lines.specs.Lines.{performed, line_answered};
-ghost use Rattle.lines.specs.Texts.{line_length, printed_before, text_answered};
+ghost use Rattle.lines.specs.Held.{held_in};
+ghost use Rattle.lines.specs.Lines.{by_number, performed, line_answered};
+ghost use Rattle.lines.specs.Texts.{newline, line_length, printed_before, text_answered};
 
-use forms::{Form, FormRead, LONGEST_REPLY, Reply};
-use model::{FileSizes, Operation, PAGE_WORDS, Root};
+use forms::{Form, LONGEST_REPLY, Reply};
+use model::{FileSizes, Operation, PAGE_WORDS, Party, Refusal, Root, StepAnswer};
+use refusals::Lengths;
 
-// The root record after a line, and the place behind what was printed.
-#[derive(Clone, Copy)]
-pub struct Answered {
-    pub root: Root,
-    pub end: usize,
+// The file that a program holds: its root record, and a row of party records, lock words, page words and a waiting row
+// of any lengths.
+#[derive(Drop)]
+pub struct File<'a> {
+    pub root: &'a mut Root,
+    pub row: &'a mut [Party],
+    pub locks: &'a mut [u32],
+    pub pages: &'a mut [u32],
+    pub waiting: &'a mut [u32],
 }
 
-// The root record after a call, and the reply to its form.
-#[derive(Clone, Copy)]
-struct Performed {
-    root: Root,
-    reply: Reply,
-}
-
-// How many of the words that are there are lent where so many are asked for.
-fn words_lent(asked: usize, there: usize) -> usize
-    ensures { (result ≡ min asked there) × (result ≤ there) }
+// What a call answers, its refusal by its number.
+#[tactic(auto, unfolding(crate::specs::Lines::by_number))]
+fn by_number<T: Drop>(answer: Result<T, Refusal>) -> Result<T, u32>
+    ensures { result ≡ by_number answer }
 {
-    if asked <= there {
-        return asked;
+    answer.map_err(u32::from)
+}
+
+impl File<'_> {
+    // As many as the sizes in a root record ask for, or all.
+    fn lent(&self, root: Root) -> Lengths
+        ensures parties { result.parties ≡ min root.parties (length self.now.row.now) }
+        ensures locks { result.locks ≡ min (lock_words root) (length self.now.locks.now) }
+        ensures pages { result.pages ≡ min (all_page_words root) (length self.now.pages.now) }
+        ensures waiting { result.waiting ≡ min root.parties (length self.now.waiting.now) }
+    {
+        let chains = root.primaries as usize;
+        let parties = root.parties as usize;
+        let page_words = PAGE_WORDS * (chains + root.overflow as usize + parties);
+        Lengths {
+            parties: parties.min(self.row.len()),
+            locks: (chains + 1).min(self.locks.len()),
+            pages: page_words.min(self.pages.len()),
+            waiting: parties.min(self.waiting.len()),
+        }
     }
-    there
-}
 
-// How many lock words P chains and the root have.
-fn lock_words(primaries: u32) -> usize
-    ensures { result ≡ primaries + 1 }
-{
-    primaries as usize + 1
-}
-
-// How many words P + V + Q pages have.
-fn page_words(primaries: u32, overflow: u32, parties: u32) -> usize
-    ensures { result ≡ 16 * (primaries + overflow + parties) }
-{
-    PAGE_WORDS * (primaries as usize + overflow as usize + parties as usize)
-}
-
-// A format.
-fn format(
-    sizes: FileSizes,
-    root: Root,
-    row: &mut [[u32; 10]],
-    locks: &mut [u32],
-    pages: &mut [u32],
-    waiting: &mut [u32],
-) -> Performed
-    ensures { called result.reply (held_in result.root row.new locks.new pages.new waiting.new) ≡ performed (Form.Format sizes) (held_in root row.old locks.old pages.old waiting.old) }
-{
-    let l = words_lent(lock_words(sizes.primaries), locks.len());
-    let g = words_lent(
-        page_words(sizes.primaries, sizes.overflow, sizes.parties),
-        pages.len(),
-    );
-    let w = words_lent(sizes.parties as usize, waiting.len());
-    let c = held::format(
-        root,
-        row,
-        &mut locks[0..l],
-        &mut pages[0..g],
-        &mut waiting[0..w],
-        sizes,
-    );
-    let after = c.root;
-    let answer = c.answer;
-    Performed {
-        root: after,
-        reply: Reply::Format(answer),
+    // Format with these sizes.
+    fn format(&mut self, sizes: FileSizes) -> Result<(), Refusal>
+        ensures { called (Reply.Format (by_number result)) (held_in self.new) ≡ performed (Form.Format sizes) (held_in self.old) }
+    {
+        let n = self.lent(records::root_of_sizes(sizes));
+        index::format(
+            self.root,
+            &mut self.row[..n.parties],
+            &mut self.locks[..n.locks],
+            &mut self.pages[..n.pages],
+            &mut self.waiting[..n.waiting],
+            sizes,
+        )
     }
-}
 
-// A begin.
-fn begin(
-    q: u32,
-    operation: Operation,
-    key: u32,
-    root: Root,
-    row: &mut [[u32; 10]],
-    locks: &[u32],
-    pages: &[u32],
-    waiting: &[u32],
-) -> Performed
-    ensures { called result.reply (held_in result.root row.new locks.now pages.now waiting.now) ≡ performed (Form.Begin q operation key) (held_in root row.old locks.now pages.now waiting.now) }
-{
-    let l = words_lent(lock_words(root.primaries), locks.len());
-    let g = words_lent(
-        page_words(root.primaries, root.overflow, root.parties),
-        pages.len(),
-    );
-    let w = words_lent(root.parties as usize, waiting.len());
-    let answer = held::begin(
-        root,
-        row,
-        &locks[0..l],
-        &pages[0..g],
-        &waiting[0..w],
-        q,
-        operation,
-        key,
-    );
-    Performed {
-        root,
-        reply: Reply::Begin(q, answer),
+    // Begin an operation for party q. It alters no word, but is lent them by `&mut`: beside the row, lent so, a `&` of
+    // another field of one struct gets no proof.
+    fn begin(&mut self, q: u32, operation: Operation, key: u32) -> Result<(), Refusal>
+        ensures { called (Reply.Begin q (by_number result)) (held_in self.new) ≡ performed (Form.Begin q operation key) (held_in self.old) }
+    {
+        let n = self.lent(*self.root);
+        index::begin(
+            self.root,
+            &mut self.row[..n.parties],
+            &mut self.locks[..n.locks],
+            &mut self.pages[..n.pages],
+            &mut self.waiting[..n.waiting],
+            q,
+            operation,
+            key,
+        )
     }
-}
 
-// A step.
-fn step(
-    q: u32,
-    root: Root,
-    row: &mut [[u32; 10]],
-    locks: &mut [u32],
-    pages: &mut [u32],
-    waiting: &mut [u32],
-) -> Performed
-    ensures { called result.reply (held_in result.root row.new locks.new pages.new waiting.new) ≡ performed (Form.Step q) (held_in root row.old locks.old pages.old waiting.old) }
-{
-    let l = words_lent(lock_words(root.primaries), locks.len());
-    let g = words_lent(
-        page_words(root.primaries, root.overflow, root.parties),
-        pages.len(),
-    );
-    let w = words_lent(root.parties as usize, waiting.len());
-    let c = held::step(
-        root,
-        row,
-        &mut locks[0..l],
-        &mut pages[0..g],
-        &mut waiting[0..w],
-        q,
-    );
-    let after = c.root;
-    let answer = c.answer;
-    Performed {
-        root: after,
-        reply: Reply::Step(q, answer),
+    // One step for party q.
+    fn step(&mut self, q: u32) -> Result<StepAnswer, Refusal>
+        ensures { called (Reply.Step q (by_number result)) (held_in self.new) ≡ performed (Form.Step q) (held_in self.old) }
+    {
+        let n = self.lent(*self.root);
+        index::step(
+            self.root,
+            &mut self.row[..n.parties],
+            &mut self.locks[..n.locks],
+            &mut self.pages[..n.pages],
+            &mut self.waiting[..n.waiting],
+            q,
+        )
     }
-}
 
-// A withdraw.
-fn withdraw(
-    q: u32,
-    root: Root,
-    row: &mut [[u32; 10]],
-    locks: &mut [u32],
-    pages: &mut [u32],
-    waiting: &mut [u32],
-) -> Performed
-    ensures { called result.reply (held_in result.root row.new locks.new pages.new waiting.new) ≡ performed (Form.Withdraw q) (held_in root row.old locks.old pages.old waiting.old) }
-{
-    let l = words_lent(lock_words(root.primaries), locks.len());
-    let g = words_lent(
-        page_words(root.primaries, root.overflow, root.parties),
-        pages.len(),
-    );
-    let w = words_lent(root.parties as usize, waiting.len());
-    let c = held::withdraw(
-        root,
-        row,
-        &mut locks[0..l],
-        &mut pages[0..g],
-        &mut waiting[0..w],
-        q,
-    );
-    let after = c.root;
-    let answer = c.answer;
-    Performed {
-        root: after,
-        reply: Reply::Withdraw(q, answer),
+    // Withdraw for party q.
+    // Like step but for the call and the form: one function for both would be given the call as a closure.
+    fn withdraw(&mut self, q: u32) -> Result<(), Refusal>
+        ensures { called (Reply.Withdraw q (by_number result)) (held_in self.new) ≡ performed (Form.Withdraw q) (held_in self.old) }
+    {
+        let n = self.lent(*self.root);
+        index::withdraw(
+            self.root,
+            &mut self.row[..n.parties],
+            &mut self.locks[..n.locks],
+            &mut self.pages[..n.pages],
+            &mut self.waiting[..n.waiting],
+            q,
+        )
     }
-}
 
-// A take-up: nothing is altered.
-fn take_up(
-    root: Root,
-    row: &[[u32; 10]],
-    locks: &[u32],
-    pages: &[u32],
-    waiting: &[u32],
-) -> Performed
-    ensures { called result.reply (held_in result.root row.now locks.now pages.now waiting.now) ≡ performed Form.TakeUp (held_in root row.now locks.now pages.now waiting.now) }
-{
-    let l = words_lent(lock_words(root.primaries), locks.len());
-    let g = words_lent(
-        page_words(root.primaries, root.overflow, root.parties),
-        pages.len(),
-    );
-    let w = words_lent(root.parties as usize, waiting.len());
-    let answer = held::take_up(root, row, &locks[0..l], &pages[0..g], &waiting[0..w]);
-    Performed {
-        root,
-        reply: Reply::TakeUp(answer),
+    // Take the file up: it is tested, and nothing is altered.
+    fn take_up(&self) -> Result<(), Refusal>
+        ensures { called (Reply.TakeUp (by_number result)) (held_in self.now) ≡ performed Form.TakeUp (held_in self.now) }
+    {
+        let n = self.lent(*self.root);
+        index::take_up(
+            self.root,
+            &self.row[..n.parties],
+            &self.locks[..n.locks],
+            &self.pages[..n.pages],
+            &self.waiting[..n.waiting],
+        )
     }
-}
 
-// The call that a form names.
-fn perform(
-    form: Form,
-    root: Root,
-    row: &mut [[u32; 10]],
-    locks: &mut [u32],
-    pages: &mut [u32],
-    waiting: &mut [u32],
-) -> Performed
-    ensures { called result.reply (held_in result.root row.new locks.new pages.new waiting.new) ≡ performed form (held_in root row.old locks.old pages.old waiting.old) }
-{
-    match form {
-        Form::Format(sizes) => format(sizes, root, row, locks, pages, waiting),
-        Form::Begin(q, operation, key) => begin(
-            q, operation, key, root, row, locks, pages, waiting,
-        ),
-        Form::Step(q) => step(q, root, row, locks, pages, waiting),
-        Form::Withdraw(q) => withdraw(q, root, row, locks, pages, waiting),
-        Form::TakeUp => take_up(root, row, locks, pages, waiting),
+    // The call that a form names.
+    fn perform(&mut self, form: Form) -> Reply
+        ensures { called result (held_in self.new) ≡ performed form (held_in self.old) }
+    {
+        match form {
+            Form::Format(sizes) => Reply::Format(by_number(self.format(sizes))),
+            Form::Begin(q, operation, key) => {
+                Reply::Begin(q, by_number(self.begin(q, operation, key)))
+            }
+            Form::Step(q) => Reply::Step(q, by_number(self.step(q))),
+            Form::Withdraw(q) => Reply::Withdraw(q, by_number(self.withdraw(q))),
+            Form::TakeUp => Reply::TakeUp(by_number(self.take_up())),
+        }
     }
 }
 
 // What a line asks for; a line that is no form alters nothing.
-fn perform_line(
-    line: &[u8],
-    root: Root,
-    row: &mut [[u32; 10]],
-    locks: &mut [u32],
-    pages: &mut [u32],
-    waiting: &mut [u32],
-) -> Performed
-    ensures { called result.reply (held_in result.root row.new locks.new pages.new waiting.new) ≡ line_answered line.now (held_in root row.old locks.old pages.old waiting.old) }
+fn perform_line(line: &[u8], file: &mut File) -> Reply
+    ensures { called result (held_in file.new) ≡ line_answered line.now (held_in file.old) }
 {
-    let read = forms::read_form(line);
-    match read {
-        FormRead::Unread => Performed {
-            root,
-            reply: Reply::Unread,
-        },
-        FormRead::Read(form) => perform(form, root, row, locks, pages, waiting),
+    match forms::read_form(line) {
+        None => Reply::Unread,
+        Some(form) => file.perform(form),
     }
 }
 
 // Answers a line: its reply is printed into `out` at place `at`, and nothing where there is no room for the longest
-// reply.
-pub fn answer(
-    line: &[u8],
-    root: Root,
-    row: &mut [[u32; 10]],
-    locks: &mut [u32],
-    pages: &mut [u32],
-    waiting: &mut [u32],
-    out: &mut [u8],
-    at: usize,
-) -> Answered
-    ensures waiting_after { held_in result.root row.new locks.new pages.new waiting.new ≡ (line_answered line.now (held_in root row.old locks.old pages.old waiting.old)).memory }
-    ensures out_after { out.new ≡ sets out.old at (given (length out.old) at longest_reply (reply_text (line_answered line.now (held_in root row.old locks.old pages.old waiting.old)).answer)) }
-    ensures end_value { result.end ≡ at + length (given (length out.old) at longest_reply (reply_text (line_answered line.now (held_in root row.old locks.old pages.old waiting.old)).answer)) }
+// reply. The result is the place behind it.
+pub fn answer(line: &[u8], file: &mut File, out: &mut [u8], at: usize) -> usize
+    ensures memory_after { held_in file.new ≡ (line_answered line.now (held_in file.old)).memory }
+    ensures out_after { out.new ≡ sets out.old at (given (length out.old) at longest_reply (reply_text (line_answered line.now (held_in file.old)).answer)) }
+    ensures end_value { result ≡ at + length (given (length out.old) at longest_reply (reply_text (line_answered line.now (held_in file.old)).answer)) }
 {
-    let p = perform_line(line, root, row, locks, pages, waiting);
-    let after = p.root;
-    let reply = p.reply;
-    let end = forms::print_reply(reply, out, at);
-    Answered { root: after, end }
+    let reply = perform_line(line, file);
+    forms::print_reply(reply, out, at)
 }
 
 // ---- Every line of a text
 
 const NEWLINE: u8 = b'\n';
 
-// The root record after the lines answered, where the first line not answered begins, and the place behind the replies.
+// Where the first line not answered begins, and the place behind the replies.
 #[derive(Clone, Copy)]
 pub struct Lines {
-    pub root: Root,
     pub from: usize,
     pub end: usize,
 }
 
-// The place of the first newline from a place on, the text's end where there is none.
-fn line_end(text: &[u8], from: usize) -> usize
-    requires { from ≤ length text.now }
-    ensures { result ≡ from + line_length (drop from text.now) }
+// How many bytes stand before the first newline, where there is one.
+fn first_newline(text: &[u8]) -> Option<usize>
+    ensures { result ≡ position (λ b. eqb b newline) text.now }
 {
-    let mut i = from;
-    while i < text.len() {
-        if text[i] == NEWLINE {
-            return i;
-        }
-        i += 1;
-    }
-    i
+    text.iter().position(|byte| *byte == NEWLINE)
 }
 
 // Answers the whole lines of a text, one after the other, each reply with a newline after it, until there is no room
 // for one more.
-pub fn answer_lines(
-    text: &[u8],
-    root: Root,
-    row: &mut [[u32; 10]],
-    locks: &mut [u32],
-    pages: &mut [u32],
-    waiting: &mut [u32],
-    out: &mut [u8],
-) -> Lines
+pub fn answer_lines(text: &[u8], file: &mut File, out: &mut [u8]) -> Lines
     ensures from_in_bounds { (result.from ≤ length text.now) × (result.end ≤ length out.new) }
-    ensures by_index { (t : List ℕ) → text_answered [] (text.now ++ t) (held_in root row.old locks.old pages.old waiting.old) ≡ printed_before (take result.end out.new) (text_answered [] (drop result.from text.now ++ t) (held_in result.root row.new locks.new pages.new waiting.new)) }
+    ensures by_index { (t : List ℕ) → text_answered [] (text.now ++ t) (held_in file.old) ≡ printed_before (take result.end out.new) (text_answered [] (drop result.from text.now ++ t) (held_in file.new)) }
     ensures text_value { result.from ≡ 0 → 58 ≤ length out.old → line_length text.now ≡ length text.now }
 {
-    let mut root = root;
     let mut from = 0;
     let mut end = 0;
-    let mut to = line_end(text, 0);
-    while to < text.len() {
+    // A walk from line to line, as far as there is room for replies: no index is counted.
+    while let Some(length) = first_newline(&text[from..]) {
         if out.len() - end < LONGEST_REPLY + 1 {
-            return Lines { root, from, end };
+            return Lines { from, end };
         }
-        let a = answer(&text[from..to], root, row, locks, pages, waiting, out, end);
-        let e = a.end;
-        root = a.root;
-        out[e] = NEWLINE;
-        end = e + 1;
-        from = to + 1;
-        to = line_end(text, from);
+        end = answer(&text[from..from + length], file, out, end);
+        out[end] = NEWLINE;
+        end += 1;
+        from += length + 1;
     }
-    Lines { root, from, end }
+    Lines { from, end }
 }

@@ -4,45 +4,36 @@
 #![tactic(auto)]
 
 ghost use Rattle.std.specs.Prelude.{◌≡◌, List, ℕ, ◌≤◌};
-ghost use Rattle.model.specs.declared.Root.{Root};
 ghost use Rattle.model.specs.Addresses.{address_level, address_of};
 ghost use Rattle.model.specs.Steps.Locate as Locate;
-ghost use Rattle.records.specs.Words.{seen, left, AtHand};
-ghost use Rattle.lock_requests.specs.Words.{CanLock};
+ghost use Rattle.records.specs.Work.{seen, left, AtHand};
+ghost use Rattle.lock_requests.specs.Locks.{CanLock};
 
-use lock_requests::{CHASE, ROOT_WORD};
-use model::{ChainAddress, DAMAGE, Mode, Root, StepAnswer};
-use records::{CHAIN, KEY, LEV};
+use addresses::Located;
+use lock_requests::{CHASE, Lock};
+use model::{Mode, Refusal, Root, StepAnswer};
+use records::Working;
 
 // "1 request read on root."
-pub fn step_01(party: &mut [u32], q: u32, locks: &mut [u32]) -> StepAnswer
-    requires { CanLock party.old q locks.old }
-    ensures { (r : Root) (ps : List ℕ) → left result r party.new q locks.new ps ≡ Locate.step01 (seen r party.old q locks.old ps) }
+pub fn step_01(work: &mut Working, locks: &mut [u32]) -> Result<StepAnswer, Refusal>
+    requires { CanLock work.old locks.old }
+    ensures { (ps : List ℕ) → left result work.new locks.new ps ≡ Locate.step01 (seen work.old locks.old ps) }
 {
-    lock_requests::request_step(party, q, locks, ROOT_WORD, Mode::Read, 2)
+    Ok(lock_requests::request(work, locks, Lock::root(Mode::Read), 2))
 }
 
 // "2 read level."
 pub fn step_02(
-    root: Root,
-    party: &mut [u32],
-    q: u32,
+    work: &mut Working,
     locks: &mut [u32],
     pages: &mut [u32],
-) -> StepAnswer
-    requires { AtHand root party.old q locks.old pages.old }
-    ensures { left result root party.new q locks.new pages.new ≡ Locate.step02 (seen root party.old q locks.old pages.old) }
+) -> Result<StepAnswer, Refusal>
+    requires { AtHand work.old locks.old pages.old }
+    ensures { left result work.new locks.new pages.new ≡ Locate.step02 (seen work.old locks.old pages.old) }
 {
-    party[LEV] = root.level;
-    records::at_step(party, 3);
-    StepAnswer::Moved
-}
-
-// A key's chain, and the lev whose hash names it.
-#[derive(Clone, Copy)]
-struct Located {
-    lev: u32,
-    chain: ChainAddress,
+    work.party.lev = work.root.level;
+    work.party.step = 3;
+    Ok(StepAnswer::Moved)
 }
 
 // Step 3's lev and chain: h_lev(k), or h_(lev+1)(k) with lev raised where the former is below next.
@@ -59,46 +50,41 @@ fn locate(root: Root, lev: u32, key: u32) -> Located
             chain: addresses::hash(root.originals, raised, m),
         };
     }
-    Located {
-        lev: lev,
-        chain: low,
-    }
+    Located { lev, chain: low }
 }
 
 // "3 read next; fix lev and chain."
 pub fn step_03(
-    root: Root,
-    party: &mut [u32],
-    q: u32,
+    work: &mut Working,
     locks: &mut [u32],
     pages: &mut [u32],
-) -> StepAnswer
-    requires { AtHand root party.old q locks.old pages.old }
-    ensures { left result root party.new q locks.new pages.new ≡ Locate.step03 (seen root party.old q locks.old pages.old) }
+) -> Result<StepAnswer, Refusal>
+    requires { AtHand work.old locks.old pages.old }
+    ensures { left result work.new locks.new pages.new ≡ Locate.step03 (seen work.old locks.old pages.old) }
 {
-    let at = locate(root, party[LEV], party[KEY]);
-    let chain = at.chain;
-    if root.primaries <= chain.0 {
-        return StepAnswer::Refused(DAMAGE);
+    let at = locate(work.root, work.party.lev, work.party.key);
+    if work.root.primaries <= at.chain.0 {
+        return Err(Refusal::Damage);
     }
-    party[LEV] = at.lev;
-    party[CHAIN] = chain.0;
-    records::at_step(party, 4);
-    StepAnswer::Moved
+    work.party.lev = at.lev;
+    work.party.chain = at.chain.0;
+    work.party.step = 4;
+    Ok(StepAnswer::Moved)
 }
 
 // "4 request the chain".
-pub fn step_04(party: &mut [u32], q: u32, locks: &mut [u32]) -> StepAnswer
-    requires { CanLock party.old q locks.old }
-    ensures { (r : Root) (ps : List ℕ) → left result r party.new q locks.new ps ≡ Locate.step04 (seen r party.old q locks.old ps) }
+#[tactic(auto, unfolding(model::specs::Steps::Locate::step04))]
+pub fn step_04(work: &mut Working, locks: &mut [u32]) -> Result<StepAnswer, Refusal>
+    requires { CanLock work.old locks.old }
+    ensures { (ps : List ℕ) → left result work.new locks.new ps ≡ Locate.step04 (seen work.old locks.old ps) }
 {
-    lock_requests::request_chain(party, q, locks, 5)
+    Ok(lock_requests::request_chain(work, locks, 5))
 }
 
 // "5 give up root."
-pub fn step_05(party: &mut [u32], q: u32, locks: &mut [u32]) -> StepAnswer
-    requires { CanLock party.old q locks.old }
-    ensures { (r : Root) (ps : List ℕ) → left result r party.new q locks.new ps ≡ Locate.step05 (seen r party.old q locks.old ps) }
+pub fn step_05(work: &mut Working, locks: &mut [u32]) -> Result<StepAnswer, Refusal>
+    requires { CanLock work.old locks.old }
+    ensures { (ps : List ℕ) → left result work.new locks.new ps ≡ Locate.step05 (seen work.old locks.old ps) }
 {
-    lock_requests::release_step(party, q, locks, ROOT_WORD, Mode::Read, CHASE)
+    lock_requests::release(work, locks, Lock::root(Mode::Read), CHASE)
 }

@@ -1,3 +1,3 @@
 -- Laws that the proofs of this crate and of those above it share.
-pub mod Requests
+pub mod Claimed
 pub mod Releases

@@ -1,2 +1,2 @@
--- What giving up a lock makes of the lent lock words.
-pub mod Words
+-- The locks that the functions of this crate are given, and what they ask of the memory.
+pub mod Locks

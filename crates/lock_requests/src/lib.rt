@@ -1,27 +1,57 @@
-// Lock requests and give-ups, as steps of several groups make them (document 01, "The thirty steps"): the lock word of a chain and the mode of an operation,
-// the one path of all requesting steps, and that of all steps that give up one lock and move on.
-// Main statements: chain_word, mode_of, request_step and release_step equal the model's definitions, whatever the lock, its mode and the next step's number,
-// and so does request_chain, the one path of steps 4 and 7; give_up says whether a lock was held, and gives up a held one.
+// Lock requests and give-ups, as steps of several groups make them (document 01, "The thirty steps"): the lock of the
+// root or of a chain and the mode of an operation, the one path of all requesting steps, and that of all steps that
+// give locks up.
+// Main statements: chain_word and mode_of are the model's; request_for, request and request_chain are the model's
+// request, whatever the lock and the next step's number; give_up tests a list of locks on the words as found and gives
+// up all of them, or none; release is the model's release of one lock.
 
 #![tactic(auto)]
 
-ghost use Rattle.std.specs.Prelude.{◌≡◌, List, [], ◌∷◌, ℕ, ◌<◌, length, get_or};
-ghost use Rattle.model.specs.declared.Root.{Root};
+ghost use Rattle.std.specs.Prelude.{◌≡◌, List, [], ◌∷◌, ℕ, ◌<◌, length};
 ghost use Rattle.model.specs.Records.{at_step};
 ghost use Rattle.model.specs.LockWords as LockWords;
-ghost use Rattle.model.specs.LockWords.{claim};
 ghost use Rattle.model.specs.LockRequests as LockRequests;
-ghost use Rattle.records.specs.Words.{party_words, party_in, seen, left};
-ghost use Rattle.lock_requests.specs.Words.{left_after, CanLock};
+ghost use Rattle.records.specs.Work.{seen, left};
+ghost use Rattle.lock_requests.specs.Locks.{root_lock, chain_lock, claim_of, claims_of, AllThere, held_or_damaged, after_giving_up, CanLock};
 
-use model::{ChainAddress, DAMAGE, FIND, Mode, StepAnswer};
-use records::{CHAIN, OPERATION};
+use model::{ChainAddress, Damaged, FIND, Mode, Party, Refusal, StepAnswer};
+use records::Working;
 
 // The root's lock word: "word 0 for the root, word c+1 for chain c".
 pub const ROOT_WORD: u32 = 0;
 
 // The step that copies the primary page and chases: after 5, and "back to 6" after 8.
 pub const CHASE: u32 = 6;
+
+// A lock that is requested, held or given up: its word, and the mode.
+#[derive(Clone, Copy)]
+pub struct Lock {
+    pub word: u32,
+    pub mode: Mode,
+}
+
+impl Lock {
+    // The root's lock.
+    pub fn root(mode: Mode) -> Lock
+        ensures { result ≡ root_lock mode }
+    {
+        Lock {
+            word: ROOT_WORD,
+            mode,
+        }
+    }
+
+    // A chain's lock.
+    pub fn chain(chain: ChainAddress, mode: Mode) -> Lock
+        requires { chain.0 < 256 }
+        ensures { result ≡ chain_lock chain.0 mode }
+    {
+        Lock {
+            word: chain_word(chain),
+            mode,
+        }
+    }
+}
 
 // The lock word of chain c.
 pub fn chain_word(c: ChainAddress) -> u32
@@ -32,78 +62,92 @@ pub fn chain_word(c: ChainAddress) -> u32
 }
 
 // The mode in which an operation locks its chain: "read for find, selective otherwise".
-pub fn mode_of(party: &[u32]) -> Mode
-    requires { length party.now ≡ party_words }
-    ensures { result ≡ LockRequests.mode_of (party_in party.now) }
+#[tactic(auto, unfolding(model::specs::LockRequests::mode_of))]
+pub fn mode_of(party: Party) -> Mode
+    ensures { result ≡ LockRequests.mode_of party }
 {
-    if party[OPERATION] == FIND {
+    if party.operation == FIND {
         Mode::Read
     } else {
         Mode::Selective
     }
 }
 
-// A request on one lock word. Granted, the party is at step k; else it "answers waiting (no word changes)".
+// A lock is requested. Granted, the party's record becomes `granted`; else it "answers waiting (no word changes)".
 #[tactic(auto, unfolding(model::specs::LockRequests::request, model::specs::LockRequests::is_granted, model::specs::LockRequests::with_hold))]
-pub fn request_step(
-    party: &mut [u32],
-    q: u32,
-    locks: &mut [u32],
-    word: u32,
-    mode: Mode,
-    k: u32,
-) -> StepAnswer
-    requires { (length party.old ≡ party_words) × (word < length locks.old) × (q < 16) }
-    ensures { (r : Root) (ps : List ℕ) → left result r party.new q locks.new ps ≡ LockRequests.request (seen r party.old q locks.old ps) (claim word mode) (at_step k (party_in party.old)) }
+pub fn request_for(work: &mut Working, locks: &mut [u32], lock: Lock, granted: Party) -> StepAnswer
+    requires { (lock.word < length locks.old) × (work.old.number < 16) }
+    ensures { (ps : List ℕ) → left (Ok result) work.new locks.new ps ≡ LockRequests.request (seen work.old locks.old ps) (claim_of lock) granted }
 {
-    if lock_words::request(locks, word as usize, q, mode) {
-        records::at_step(party, k);
+    if lock_words::request(locks, lock.word as usize, work.number, lock.mode) {
+        work.party = granted;
         StepAnswer::Moved
     } else {
         StepAnswer::Waiting
     }
 }
 
+// A lock is requested, and the grant leads to step k.
+pub fn request(work: &mut Working, locks: &mut [u32], lock: Lock, k: u32) -> StepAnswer
+    requires { (lock.word < length locks.old) × (work.old.number < 16) }
+    ensures { (ps : List ℕ) → left (Ok result) work.new locks.new ps ≡ LockRequests.request (seen work.old locks.old ps) (claim_of lock) (at_step k work.old.party) }
+{
+    let granted = Party {
+        step: k,
+        ..work.party
+    };
+    request_for(work, locks, lock, granted)
+}
+
 // The party's chain is requested, "read for find, selective otherwise", and the grant leads to step k.
-pub fn request_chain(party: &mut [u32], q: u32, locks: &mut [u32], k: u32) -> StepAnswer
-    requires { CanLock party.old q locks.old }
-    ensures { (r : Root) (ps : List ℕ) → left result r party.new q locks.new ps ≡ LockRequests.request (seen r party.old q locks.old ps) (LockRequests.chain_lock (party_in party.old)) (at_step k (party_in party.old)) }
+pub fn request_chain(work: &mut Working, locks: &mut [u32], k: u32) -> StepAnswer
+    requires { CanLock work.old locks.old }
+    ensures { (ps : List ℕ) → left (Ok result) work.new locks.new ps ≡ LockRequests.request (seen work.old locks.old ps) (LockRequests.chain_lock work.old.party) (at_step k work.old.party) }
 {
-    let word = chain_word(ChainAddress(party[CHAIN]));
-    let mode = mode_of(&party[..]);
-    request_step(party, q, locks, word, mode, k)
+    let mode = mode_of(work.party);
+    let lock = Lock::chain(ChainAddress(work.party.chain), mode);
+    request(work, locks, lock, k)
 }
 
-// Whether the party holds the lock of a word; a held one is given up.
-pub fn give_up(locks: &mut [u32], word: u32, q: u32, mode: Mode) -> bool
-    requires { (word < length locks.old) × (q < 16) }
-    ensures { (result ≡ LockWords.holds (get_or locks.old word 0) q mode) × (locks.new ≡ left_after locks.old word q mode) }
+// Whether the party holds all of these locks.
+fn all_held(work: &Working, locks: &[u32], claimed: &[Lock]) -> bool
+    requires { AllThere claimed.now (length locks.now) × (work.now.number < 16) }
+    ensures { (ps : List ℕ) → result ≡ LockRequests.held_all (seen work.now locks.now ps) (claims_of claimed.now) }
 {
-    let i = word as usize;
-    if lock_words::holds(locks[i], q, mode) {
-        lock_words::release(locks, i, q, mode);
-        true
-    } else {
-        false
+    for lock in claimed {
+        if !lock_words::holds(locks[lock.word as usize], work.number, lock.mode) {
+            return false;
+        }
     }
+    true
 }
 
-// One lock is given up, and the party is at step k. "a lock given up ... that is not held" is damage.
-pub fn release_step(
-    party: &mut [u32],
-    q: u32,
+// The party gives up all of these locks: "a lock given up ... that is not held" is damage, and then none is.
+pub fn give_up(work: &Working, locks: &mut [u32], claimed: &[Lock]) -> Result<(), Damaged>
+    requires { AllThere claimed.now (length locks.old) × (work.now.number < 16) }
+    ensures held { (ps : List ℕ) → result ≡ held_or_damaged (LockRequests.held_all (seen work.now locks.old ps) (claims_of claimed.now)) }
+    ensures words { (ps : List ℕ) → seen work.now locks.new ps ≡ after_giving_up (claims_of claimed.now) (seen work.now locks.old ps) }
+{
+    if !all_held(work, &locks[..], claimed) {
+        return Err(Damaged);
+    }
+    for lock in claimed {
+        lock_words::release(locks, lock.word as usize, work.number, lock.mode);
+    }
+    Ok(())
+}
+
+// One lock is given up, and the party is at step k.
+pub fn release(
+    work: &mut Working,
     locks: &mut [u32],
-    word: u32,
-    mode: Mode,
+    lock: Lock,
     k: u32,
-) -> StepAnswer
-    requires { (length party.old ≡ party_words) × (word < length locks.old) × (q < 16) }
-    ensures { (r : Root) (ps : List ℕ) → left result r party.new q locks.new ps ≡ LockRequests.release (seen r party.old q locks.old ps) (claim word mode ∷ []) (at_step k (party_in party.old)) }
+) -> Result<StepAnswer, Refusal>
+    requires { (lock.word < length locks.old) × (work.old.number < 16) }
+    ensures { (ps : List ℕ) → left result work.new locks.new ps ≡ LockRequests.release (seen work.old locks.old ps) (claim_of lock ∷ []) (at_step k work.old.party) }
 {
-    if give_up(locks, word, q, mode) {
-        records::at_step(party, k);
-        StepAnswer::Moved
-    } else {
-        StepAnswer::Refused(DAMAGE)
-    }
+    give_up(&*work, locks, &[lock])?;
+    work.party.step = k;
+    Ok(StepAnswer::Moved)
 }

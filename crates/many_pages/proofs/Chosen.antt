@@ -1,6 +1,7 @@
 -- The records chosen of a chain that was looked through whole.
--- Main statements: chosen-few (how many records there are at most), chain-level, can-start and records-chosen (the records can be read
--- from the primary page on); one_fewer (how many records there are without one); made-with, made-without (they are what the operation makes of the chain).
+-- Main statements: chosen_few (how many records there are at most), chain_level, can_start and records_chosen (the
+-- records can be read from the primary page on); one_fewer (how many records there are without one); made_with,
+-- made_without (they are what the operation makes of the chain).
 use mathlib.Core.Path.{◌≡◌, refl, ap, ◌∙◌}
 use mathlib.Core.Bool.{true, false}
 use mathlib.Core.List.{List, ◌++◌}
@@ -16,6 +17,7 @@ use Rattle.model.specs.Entries.{entry_of, has_key}
 use Rattle.model.specs.Pages.{page_of, level_of, link_of, entries_of}
 use Rattle.model.specs.Chains.{sound, Chain, read_chain, chain_of}
 use Rattle.model.specs.Steps.Rebuild.{changed, change_of}
+use Rattle.records.specs.declared.Working.{Working}
 use Rattle.entries.specs.Places.{place_of}
 use Rattle.entries.proofs.Places.{place_inside, removed_at}
 use Rattle.chain_keys.specs.Gathering.{entries_from}
@@ -33,7 +35,13 @@ use Rattle.chain_change.proofs.ReadChains.{chain_bounded}
 
 -- ---- A chain that was looked through whole
 
-module _ (r : Root) (q c : ℕ) (ps : List ℕ) (can : CanChange r q c ps) (d : Chain) (found : chain_of r ps c ≡ sound d) where
+module _ (w : Working) (ps : List ℕ) (can : CanChange w ps) (d : Chain) (found : chain_of w.root ps w.party.chain ≡ sound d) where
+  abbrev r : Root
+  r = w.root
+
+  abbrev c : ℕ
+  c = w.party.chain
+
   starts : CanStart ps c (length d.pages)
   starts = chain_starts r ps c can.keys_fit can.overflow_fits record { chain_fits = can.chain_fits; pages_fit = can.pages_fit } d found
 

@@ -7,6 +7,8 @@ use Prim.Native.Nat.{ℕ}
 use Rattle.model.specs.declared.Root.{Root}
 use Rattle.model.specs.declared.Party.{Party}
 use Rattle.model.specs.declared.StepAnswer.{StepAnswer}
+use Rattle.model.specs.Answers.{StepReply}
+use Rattle.std.specs.Prelude.{Ok}
 use Rattle.model.specs.Outcome.{View, Outcome, moved}
 use Rattle.model.specs.Steps.Table.{answer_word, lev_word, chains_word, old_word, owed_word, level_word, next_word, free_word}
 use Rattle.model.specs.Steps.Dispatch.{step_of, writes_table, writes}
@@ -19,7 +21,7 @@ use Rattle.marks.specs.Marks.{locates, advances, mark_of, advanced_in, located_i
 -- ---- What a step leaves
 
 -- Step k met the root r and the record p, and answered a: what it left of them differs in the marked words only.
-pub record Leaves (r : Root) (p : Party) (k : ℕ) (a : StepAnswer) (r' : Root) (p' : Party) : Type 0 where
+pub record Leaves (r : Root) (p : Party) (k : ℕ) (a : StepReply) (r' : Root) (p' : Party) : Type 0 where
   pub root= : root_by (mark_of k a) r r' ≡ r'
   pub party= : party_by (mark_of k a) p p' ≡ p'
 
@@ -97,7 +99,7 @@ module _ (v u : View) (k : ℕ) (kept : kept_by k u ≡ kept_by k v) where
   unfolding writes_table is_among
   moved_marked = record { number= = ap (λ (x : Kept). x.number) kept; leaves = go (advances k) refl (locates k) refl }
     where
-      go : (b : Bool) → advances k ≡ b → (c : Bool) → locates k ≡ c → Leaves v.root v.party k StepAnswer.Moved u.root u.party
+      go : (b : Bool) → advances k ≡ b → (c : Bool) → locates k ≡ c → Leaves v.root v.party k (Ok StepAnswer.Moved) u.root u.party
       go true e c f =
           let root = same_root (λ j. not (advances j)) (ap not e) refl refl refl in
           let located = located_party (λ j. not (advances j)) (ap not e) refl refl refl in

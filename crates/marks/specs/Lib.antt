@@ -1,3 +1,2 @@
 -- What the functions of this crate and of those above it are stated with.
-pub mod Answered
 pub mod Marks

@@ -3,10 +3,11 @@
 -- Main definitions: locates, advances, mark_of; advanced_in, located_in, changed_in, moved_in (a record with the words that
 -- such a step changes); root_by, party_by (what is stored by a mark). That a step changes no other word:
 -- proofs/Marks.antt.
-use Rattle.std.specs.Prelude.{Bool, cond, ◌||◌, ℕ, ltb, eqb}
+use Rattle.std.specs.Prelude.{Bool, cond, ◌||◌, ℕ, ltb, eqb, Ok, Err}
 use Rattle.model.specs.declared.Root.{Root}
 use Rattle.model.specs.declared.Party.{Party}
 use Rattle.model.specs.declared.StepAnswer.{StepAnswer}
+use Rattle.model.specs.Answers.{StepReply}
 use Rattle.model.specs.Records.{idle}
 use Rattle.marks.specs.declared.Mark.{Mark}
 
@@ -24,11 +25,11 @@ advances k =
     ((locate || change) || split) || merge
 
 -- The mark of step k that answered so.
-abbrev pub mark_of : ℕ → StepAnswer → Mark
-mark_of k StepAnswer.Waiting = Mark.Advanced
-mark_of k StepAnswer.Moved = cond (advances k) Mark.Advanced (cond (locates k) Mark.Located Mark.Changed)
-mark_of k (StepAnswer.Done a s) = Mark.Ended
-mark_of k (StepAnswer.Refused n) = Mark.Advanced
+abbrev pub mark_of : ℕ → StepReply → Mark
+mark_of k (Ok StepAnswer.Waiting) = Mark.Advanced
+mark_of k (Ok StepAnswer.Moved) = cond (advances k) Mark.Advanced (cond (locates k) Mark.Located Mark.Changed)
+mark_of k (Ok (StepAnswer.Done a s)) = Mark.Ended
+mark_of k (Err c) = Mark.Advanced
 
 -- The record p with the step of x.
 abbrev pub advanced_in : Party → Party → Party

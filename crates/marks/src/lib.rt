@@ -1,38 +1,16 @@
-// What a call can have changed of the root and of its party's record, by its answer: of a step by its number too, a
-// mark; of a format and a begin all that they are for, or nothing.
-// Main statements: marked is the definition mark_of, is_formatted and is_begun are is_formatted and is_begun; that a
-// step changes no word that its mark does not name is proofs/Marks.antt.
+// What a step can have changed of the root and of its party's record, by its number and its answer: a mark.
+// Main statement: marked is the definition mark_of; that a step changes no word that its mark does not name is
+// proofs/Marks.antt.
 
 #![tactic(auto)]
 
 ghost use Rattle.std.specs.Prelude.{◌≡◌};
-ghost use Rattle.marks.specs.Answered.{is_formatted, is_begun};
 ghost use Rattle.marks.specs.Marks.{advances, mark_of};
 
-use model::{BeginAnswer, FormatAnswer, StepAnswer};
-
-// Whether format did its work.
-pub fn is_formatted(answer: FormatAnswer) -> bool
-    ensures { result ≡ is_formatted answer }
-{
-    match answer {
-        FormatAnswer::Formatted => true,
-        FormatAnswer::Refused(_) => false,
-    }
-}
-
-// Whether begin did its work.
-pub fn is_begun(answer: BeginAnswer) -> bool
-    ensures { result ≡ is_begun answer }
-{
-    match answer {
-        BeginAnswer::Begun => true,
-        BeginAnswer::Refused(_) => false,
-    }
-}
+use model::{Refusal, StepAnswer};
 
 // What a step can have changed of the root and of its party's record.
-#[derive(Clone, Copy)]
+#[derive(Clone, Copy, PartialEq, Eq)]
 pub enum Mark {
     // The step number, or nothing.
     Advanced,
@@ -48,20 +26,18 @@ pub enum Mark {
 fn advances(k: u32) -> bool
     ensures { result ≡ advances k }
 {
-    let locate = (k == 1) | (k == 4) | (k == 5) | (k == 7) | (k == 8);
-    let change = (k == 11) | (k == 12) | (k == 13);
-    let split = (k == 15) | (k == 18) | (k == 19);
-    let merge = (k == 23) | (k == 25) | (k == 28);
-    locate | change | split | merge
+    matches!(
+        k,
+        1 | 4 | 5 | 7 | 8 | 11 | 12 | 13 | 15 | 18 | 19 | 23 | 25 | 28
+    )
 }
 
 // The mark of a step with this number that answered so. The others of 1 to 9 locate.
-pub fn marked(k: u32, answer: StepAnswer) -> Mark
+pub fn marked(k: u32, answer: Result<StepAnswer, Refusal>) -> Mark
     ensures { result ≡ mark_of k answer }
 {
     match answer {
-        StepAnswer::Waiting => Mark::Advanced,
-        StepAnswer::Moved => {
+        Ok(StepAnswer::Moved) => {
             if advances(k) {
                 Mark::Advanced
             } else if k < 10 {
@@ -70,7 +46,7 @@ pub fn marked(k: u32, answer: StepAnswer) -> Mark
                 Mark::Changed
             }
         }
-        StepAnswer::Done(_, _) => Mark::Ended,
-        StepAnswer::Refused(_) => Mark::Advanced,
+        Ok(StepAnswer::Done(_, _)) => Mark::Ended,
+        Ok(StepAnswer::Waiting) | Err(_) => Mark::Advanced,
     }
 }

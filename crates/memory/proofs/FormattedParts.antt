@@ -1,5 +1,5 @@
 -- The parts of the model's formatted memory, from what each function of this crate leaves.
--- Main statements: can-list (zeroed page words are ready for the free list); root-formatted, locks_formatted, pages-formatted;
+-- Main statements: can_list (zeroed page words are ready for the free list); root_formatted, locks_formatted, pages_formatted;
 -- memory_formatted (these and a row of idle parties are the whole).
 use mathlib.Core.Path.{◌≡◌, ap, ◌∙◌}
 use mathlib.Core.List.{List}

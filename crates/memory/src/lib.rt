@@ -1,5 +1,7 @@
-// What format makes of the lent words (document 01: "Format makes N empty chains of level 0, lists overflow pages ascending and zeroes the rest").
-// Main statement: format_words leaves the root record, the lock words and the page words of the model's formatted memory, whatever stood there.
+// What format makes of the lent words (document 01: "Format makes N empty chains of level 0, lists overflow pages
+// ascending and zeroes the rest").
+// Main statement: format_words leaves the root record, the lock words and the page words of the model's formatted
+// memory, whatever stood there.
 
 #![tactic(auto)]
 
@@ -11,16 +13,14 @@ ghost use Rattle.memory.specs.Lent.{CanFormat, SizesFit};
 
 use model::{FileSizes, PageAddress, Root};
 
-// The overflow pages of zeroed page words become the free list, from the last page to the first: each is linked to the page above it, the last to none.
-// The link word to the first is the head, 0 where there is no overflow page.
+// The overflow pages of zeroed page words become the free list, from the last page to the first: each is linked to the
+// page above it, the last to none. The link word to the first is the head, 0 where there is no overflow page.
 fn list_overflow(root: Root, pages: &mut [u32]) -> u32
     requires { SizesFit root × (pages.old ≡ replicate (all_page_words root) 0) }
     ensures { (result ≡ (formatted_root root).head) × (pages.new ≡ formatted_pages root) }
 {
     let mut link = 0;
-    let mut x = root.primaries + root.overflow;
-    while root.primaries < x {
-        x -= 1;
+    for x in (root.primaries..root.primaries + root.overflow).rev() {
         pages::store(pages, PageAddress(x), free_list::free_page(link));
         link = x + 1;
     }
@@ -32,11 +32,9 @@ pub fn format_words(sizes: FileSizes, locks: &mut [u32], pages: &mut [u32]) -> R
     requires { CanFormat (root_sized sizes) (length locks.old) (length pages.old) }
     ensures { (result ≡ (formatted (root_sized sizes)).root) × (locks.new ≡ (formatted (root_sized sizes)).locks) × (pages.new ≡ (formatted (root_sized sizes)).pages) }
 {
-    pages::zero(locks);
-    pages::zero(pages);
-    let mut root = records::root_of_sizes(sizes);
+    locks.fill(0);
+    pages.fill(0);
+    let root = records::root_of_sizes(sizes);
     let head = list_overflow(root, pages);
-    root.head = head;
-    root.free = sizes.overflow;
-    root
+    free_list::with_free_list(root, head, sizes.overflow)
 }

@@ -1,5 +1,6 @@
 -- Both chains of a merge, read again where they stand.
--- Main statements: target-looks, partner-looks (what was read of them); can-join (they can be joined), shared_told, records-few, many-joined, page-filled (what that answers).
+-- Main statements: target_looks, partner_looks (what was read of them); can_join (they can be joined), shared_told,
+-- records_few, many_joined, page_filled_ok (what that answers).
 use mathlib.Core.Path.{◌≡◌, refl, sym, ap, ap₂, ◌∙◌}
 use mathlib.Core.Bool.{Bool}
 use mathlib.Core.List.{List, [], ◌++◌}
@@ -7,14 +8,13 @@ use Prim.Native.Nat.{ℕ, ◌+◌, ◌*◌, ◌≤◌}
 use native.Mathlib.Omega.{arith}
 use lib.ListN.{length}
 use lib.Seq.{take_all}
-use Rattle.model.specs.declared.Root.{Root}
 use Rattle.model.specs.declared.Entry.{Entry}
 use Rattle.model.specs.Entries.{ascending, joined, shares_key}
 use Rattle.model.specs.Sizes.{most_records}
 use Rattle.model.specs.Pages.{page_of, link_of, entries_of, filled_page, link_to_first}
 use Rattle.model.specs.Filling.{primary_of}
 use Rattle.model.proofs.Laws.Joins.{length-joined}
-use Rattle.records.specs.Words.{party_in}
+use Rattle.records.specs.declared.Working.{Working}
 use Rattle.chain_keys.specs.Gathering.{CanWalk, entries_from}
 use Rattle.chain_keys.proofs.WholeChain.{sound_ascends}
 use Rattle.chain_scan.specs.declared.Looked.{Looked}
@@ -25,24 +25,24 @@ use Rattle.key_source.proofs.Looking.{Looks, chain_looked}
 use Rattle.merge_join.specs.Joining.{CanJoin}
 use Rattle.merge_build.specs.Combining.{CanCombine}
 
-module _ (r : Root) (p : List ℕ) (q : ℕ) (t u : Looked) (ls ps : List ℕ) (can : CanCombine r p q t u ls ps) where
-  walks_target : CanWalk r ps (party_in p).chain
-  walks_target = let ready = can.at_hand.ready in record { chain_fits = ready.chain_fits; pages_fit = omega (arith, ready.pages_fit) }
+module _ (w : Working) (t u : Looked) (ls ps : List ℕ) (can : CanCombine w t u ls ps) where
+  walks_target : CanWalk w.root ps w.party.chain
+  walks_target = let ready = can.at_hand in record { chain_fits = ready.chain_fits; pages_fit = omega (arith, ready.pages_fit) }
 
-  walks_partner : CanWalk r ps (party_in p).other
-  walks_partner = let ready = can.at_hand.ready in record { chain_fits = ready.other_fits; pages_fit = omega (arith, ready.pages_fit) }
+  walks_partner : CanWalk w.root ps w.party.other
+  walks_partner = let ready = can.at_hand in record { chain_fits = ready.other_fits; pages_fit = omega (arith, ready.pages_fit) }
 
-  pub target_looks : Looks r ps (party_in p).chain t
-  target_looks = let ready = can.at_hand.ready in chain_looked r ps (party_in p).chain t ready.keys_fit ready.overflow_fits walks_target can.target
+  pub target_looks : Looks w.root ps w.party.chain t
+  target_looks = let ready = can.at_hand in chain_looked w.root ps w.party.chain t ready.keys_fit ready.overflow_fits walks_target can.target
 
-  pub partner_looks : Looks r ps (party_in p).other u
-  partner_looks = let ready = can.at_hand.ready in chain_looked r ps (party_in p).other u ready.keys_fit ready.overflow_fits walks_partner can.partner
+  pub partner_looks : Looks w.root ps w.party.other u
+  partner_looks = let ready = can.at_hand in chain_looked w.root ps w.party.other u ready.keys_fit ready.overflow_fits walks_partner can.partner
 
   -- The places of their first records.
   module _ (first second : Place) (first_sits : Sits ps first)
-      (first-is : records_at ps first ≡ entries_of (page_of ps (party_in p).chain) ++ entries_from ps t.pages (link_of (page_of ps (party_in p).chain)))
+      (first-is : records_at ps first ≡ entries_of (page_of ps w.party.chain) ++ entries_from ps t.pages (link_of (page_of ps w.party.chain)))
       (second_sits : Sits ps second)
-      (second_is : records_at ps second ≡ entries_of (page_of ps (party_in p).other) ++ entries_from ps u.pages (link_of (page_of ps (party_in p).other))) where
+      (second_is : records_at ps second ≡ entries_of (page_of ps w.party.other) ++ entries_from ps u.pages (link_of (page_of ps w.party.other))) where
     abbrev xs : List Entry
     xs = target_looks.chain.entries
 
@@ -59,8 +59,8 @@ module _ (r : Root) (p : List ℕ) (q : ℕ) (t u : Looked) (ls ps : List ℕ) (
     can_join = record {
       first_sits = first_sits;
       second_sits = second_sits;
-      first_ascends = ap ascending firsts ∙ sound_ascends r ps (party_in p).chain target_looks.chain target_looks.is_sound_ok;
-      second_ascends = ap ascending seconds ∙ sound_ascends r ps (party_in p).other partner_looks.chain partner_looks.is_sound_ok;
+      first_ascends = ap ascending firsts ∙ sound_ascends w.root ps w.party.chain target_looks.chain target_looks.is_sound_ok;
+      second_ascends = ap ascending seconds ∙ sound_ascends w.root ps w.party.other partner_looks.chain partner_looks.is_sound_ok;
     }
 
     pub shared_told : {b : Bool} → b ≡ shares_key (records_at ps first) (records_at ps second) → b ≡ shares_key target_looks.chain.entries partner_looks.chain.entries
@@ -88,8 +88,8 @@ module _ (r : Root) (p : List ℕ) (q : ℕ) (t u : Looked) (ls ps : List ℕ) (
     pub many_records : t.count + u.count ≡ length (joined (records_at ps first) (records_at ps second))
     many_records = many_joined ∙ ap length (sym same_joined)
 
-    pub page_filled_ok : {level : ℕ} {w : List ℕ} → level ≡ target_looks.chain.level → t.count + u.count ≤ r.capacity
-        → w ≡ filled_page level (joined (records_at ps first) (records_at ps second)) 0
-        → w ≡ primary_of r.capacity target_looks.chain.level (joined target_looks.chain.entries partner_looks.chain.entries) []
+    pub page_filled_ok : {level : ℕ} {page : List ℕ} → level ≡ target_looks.chain.level → t.count + u.count ≤ w.root.capacity
+        → page ≡ filled_page level (joined (records_at ps first) (records_at ps second)) 0
+        → page ≡ primary_of w.root.capacity target_looks.chain.level (joined target_looks.chain.entries partner_looks.chain.entries) []
     unfolding primary_of link_to_first
-    page_filled_ok el fits e = e ∙ rw (el, same_joined, take_all r.capacity (joined xs ys) (omega (arith, many_joined))) refl
+    page_filled_ok el fits e = e ∙ rw (el, same_joined, take_all w.root.capacity (joined xs ys) (omega (arith, many_joined))) refl

@@ -1,5 +1,5 @@
 -- A key sought that two chains share: the smaller of their next keys is passed each time. xs and ys are the records of both.
--- Main statements: Seeking (what a turn keeps), seeking_starts; none-in-second, equal-keys, none-in-first (the ends); first-passed, second-passed (a turn).
+-- Main statements: Seeking (what a turn keeps), seeking_starts; none_in_second, equal_keys, none_in_first (the ends); first_passed, second_passed (a turn).
 use mathlib.Core.Path.{◌≡◌, refl, sym, ap, ◌∙◌}
 use mathlib.Core.Bool.{true, false}
 use mathlib.Core.List.{List, [], ◌∷◌}
@@ -12,7 +12,8 @@ use Rattle.model.proofs.Laws.Lists.{lt-ltb}
 use Rattle.model.proofs.Laws.Joins.{ascending_rest, first_unshared, second_unshared, both_shared, none_shared}
 use Rattle.key_source.specs.declared.Place.{Place}
 use Rattle.key_source.specs.Sources.{records_at, Sits, onward}
-use Rattle.key_source.proofs.Places.{entry_at, first_entry}
+use Rattle.key_source.specs.Sources.{entry_at}
+use Rattle.key_source.proofs.Places.{first_entry}
 use Rattle.merge_join.specs.Joining.{CanJoin}
 
 -- p and q are past all pages without a record left, and a key is in both chains exactly where it is in both of the rest.

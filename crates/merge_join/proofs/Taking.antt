@@ -1,5 +1,5 @@
 -- The next record of two chains joined. p and q are the two places past all pages without a record left.
--- Main statements: first_some, second-some (whose record is next has one); takes_first, takes-second.
+-- Main statements: first_some, second_some (whose record is next has one); takes_first, takes_second.
 use mathlib.Core.Path.{◌≡◌, refl, sym, ap, ap₂, ◌∙◌}
 use mathlib.Core.Bool.{true, false, false≢true, true≢false}
 use mathlib.Core.List.{List, [], ◌∷◌}
@@ -13,7 +13,8 @@ use Rattle.model.proofs.Laws.Lists.{eqb_same, eqb-diff, ltb-false}
 use Rattle.model.proofs.Laws.Joins.{ascending_rest, NotAbove, first-joined, second_joined}
 use Rattle.key_source.specs.declared.Place.{Place}
 use Rattle.key_source.specs.Sources.{records_at, Sits, onward}
-use Rattle.key_source.proofs.Places.{entry_at, first_entry, onward_sits}
+use Rattle.key_source.specs.Sources.{entry_at}
+use Rattle.key_source.proofs.Places.{first_entry, onward_sits}
 use Rattle.merge_join.specs.Joining.{CanJoin, goes_first, Takes}
 
 -- A place that is past all pages without a record left.

@@ -1,12 +1,13 @@
 -- What a list of pages that was walked is.
 -- Main definitions: Walk (a link leads to n pages that were walked), NextPage (its first page, and the list after it).
--- Main statements: next-page, no-page, all-overflow (its pages are overflow pages).
+-- Main statements: next_page, no-page, all_overflow (its pages are overflow pages).
 use mathlib.Core.Path.{◌≡◌, refl, sym, ap, ◌∙◌}
 use mathlib.Core.Bool.{true}
 use mathlib.Core.List.{List, [], ◌∷◌}
 use Prim.Native.Nat.{ℕ, ◌+◌, ◌-◌, ◌≤◌, ◌<◌}
 use native.Mathlib.Omega.{arith}
 use lib.ListN.{length}
+use Rattle.std.specs.Prelude.{Ok}
 use Rattle.model.specs.declared.Root.{Root}
 use Rattle.model.specs.Pages.{page_of, link_of, link_sound, link_to_first}
 use Rattle.model.specs.Chains.{Checked, damaged, sound, list_from}
@@ -16,7 +17,6 @@ use Rattle.model.proofs.Laws.Filling.{Chained, IsOverflow}
 use Rattle.model.proofs.Laws.Walks.{walked_chained, linked_overflow, linked_distinct}
 use Rattle.model.proofs.Laws.Reading.{linked_list}
 use Rattle.chains.specs.Walks.{counted}
-use Rattle.chains.specs.declared.Walked.TheVariants as Walked
 use Rattle.model.proofs.Laws.Tests.{sound_page_links}
 use Rattle.free_list.specs.Giving.{listed}
 use Rattle.free_list.proofs.Giving.{listed-length}
@@ -24,7 +24,7 @@ use Rattle.free_list.proofs.Giving.{listed-length}
 -- Link l leads to n pages, and they were walked without damage.
 pub record Walk (r : Root) (ps : List ℕ) (l n : ℕ) : Type 0 where
   pub links : link_sound r l ≡ true
-  pub walked : counted (list_from r ps l) ≡ Walked.Pages n
+  pub walked : counted (list_from r ps l) ≡ Ok n
 
 -- The first page of such a list is an overflow page, and the others are a list from its link on, which does not have it.
 pub record NextPage (r : Root) (ps : List ℕ) (l n : ℕ) : Type 0 where
@@ -54,12 +54,12 @@ module _ (r : Root) (ps : List ℕ) where
           record {
             above = omega (arith, f.0.first, over.0.above);
             below = omega (arith, f.0.first, over.0.below);
-            rest = rw here record { links = sound_page_links r (page_of ps x) linked.0; walked = ap counted rest ∙ ap Walked.Pages (omega arith) };
+            rest = rw here record { links = sound_page_links r (page_of ps x) linked.0; walked = ap counted rest ∙ ap Ok (omega arith) };
             pages = rw (here, rest, ← ex) refl;
             apart = rw (here, rest) (linked_distinct r ps (x ∷ xs) linked).0;
           }
 
-      go : (x : Checked (List ℕ)) → x ≡ list_from r ps l → counted x ≡ Walked.Pages n → NextPage r ps l n
+      go : (x : Checked (List ℕ)) → x ≡ list_from r ps l → counted x ≡ Ok n → NextPage r ps l n
       go damaged ex e = absurd (let z : ◌≡◌ {A = ℕ} 0 1 = cc in omega arith)
       go (sound []) ex e = absurd (let z : 0 ≡ n = cc in omega arith)
       go (sound (x ∷ xs)) ex e = first x xs ex (cc)

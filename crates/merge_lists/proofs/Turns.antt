@@ -1,5 +1,5 @@
 -- One turn of the loop that finds the last link of a list, and of the recursion that gives back one list after the other.
--- Main statements: all-ahead, one-passed, none_ahead (the loop); no-more-given (the recursion's bottom), second-next, rest-can-be-given, one-more-given (a turn of it);
+-- Main statements: all_ahead, one_passed, none_ahead (the loop); no_more_given (the recursion's bottom), second_next, rest_can_be_given, one_more_given (a turn of it);
 -- both-given (both lists are given back).
 use mathlib.Core.Path.{◌≡◌, refl, sym, ap, ap₂, ◌∙◌}
 use mathlib.Core.List.{List, ◌++◌}

@@ -1,8 +1,10 @@
-// Two lists of overflow pages given back one after the other (document 01, step 29: "the target's old pages, then the partner's").
-// On damaged memory a page may be on both lists, and giving back the first list writes over its link. So the second list is followed to its end before a word is written:
-// its links are read on the way down a recursion, the first list is given back at the bottom, and the second list's pages are written on the way up.
-// The stack grows with the second list.
-// Main statements: last_link is the head that given_back leaves of one list, give_after and give_back_both are given_back of both lists as they were found.
+// Two lists of overflow pages given back one after the other (document 01, step 29: "the target's old pages, then the
+// partner's"). On damaged memory a page may be on both lists, and giving back the first list writes over its link. So
+// the second list is followed to its end before a word is written: its links are read on the way down a recursion,
+// the first list is given back at the bottom, and the second list's pages are written on the way up. The stack grows
+// with the second list.
+// Main statements: last_link is the head that given_back leaves of one list, give_after and give_back_both are
+// given_back of both lists as they were found.
 
 #![tactic(auto)]
 
@@ -14,33 +16,25 @@ ghost use Rattle.model.specs.FreeList.{given_back};
 ghost use Rattle.free_list.specs.Giving.{CanGive, listed, returned, after_giving};
 ghost use Rattle.merge_lists.specs.TwoLists.{CanGiveBoth, leaving};
 
-use model::{LINK_WORD, PAGE_WORDS, PageAddress, Root};
+use model::{LINK_WORD, PageAddress, Root};
 
-// The link of the page that link word `l` names.
-fn link_after(l: u32, pages: &[u32]) -> u32
-    requires { (1 ≤ l) × ((l - 1) * page_words + page_words ≤ length pages.now) }
-    ensures { result ≡ link_of (page_of pages.now (l - 1)) }
-{
-    pages[(l - 1) as usize * PAGE_WORDS + LINK_WORD]
-}
-
-// The link word to the last of the n pages that link `first` leads to, the head where there is none: the head once they are given back.
+// The link word to the last of the n pages that link `first` leads to, the head where there is none: the head once
+// they are given back.
 fn last_link(root: Root, first: u32, n: u32, pages: &[u32]) -> u32
     requires { CanGive root pages.now first n }
     ensures { result ≡ (given_back pages.now root.head (listed (list_from root pages.now first))).head }
 {
     let mut last = root.head;
     let mut l = first;
-    let mut left = n;
-    while 0 < left {
+    for _ in 0..n {
         last = l;
-        l = link_after(l, pages);
-        left -= 1;
+        l = pages::word(pages, PageAddress(l - 1), LINK_WORD);
     }
     last
 }
 
-// The n pages that link `first` leads to are given back, then the m pages that link `l` led to; `prev` is the head before these. The head then.
+// The n pages that link `first` leads to are given back, then the m pages that link `l` led to; `prev` is the head
+// before these. The head then.
 fn give_after(root: Root, first: u32, n: u32, prev: u32, l: u32, m: u32, pages: &mut [u32]) -> u32
     requires { CanGiveBoth root pages.old first n l m }
     ensures { leaving pages.new result ≡ given_back (given_back pages.old root.head (listed (list_from root pages.old first))).pages prev (listed (list_from root pages.old l)) }
@@ -49,7 +43,7 @@ fn give_after(root: Root, first: u32, n: u32, prev: u32, l: u32, m: u32, pages: 
         free_list::give_back(root, first, n, pages);
         return prev;
     }
-    let next = link_after(l, &pages[..]);
+    let next = pages::word(&pages[..], PageAddress(l - 1), LINK_WORD);
     let last = give_after(root, first, n, l, next, m - 1, pages);
     pages::store(pages, PageAddress(l - 1), free_list::free_page(prev));
     last

@@ -4,71 +4,68 @@
 #![tactic(auto)]
 
 ghost use Rattle.std.specs.Prelude.{◌≡◌, List, ℕ};
-ghost use Rattle.model.specs.declared.Root.{Root};
 ghost use Rattle.model.specs.Steps.MergeLocks as MergeLocks;
-ghost use Rattle.records.specs.Words.{seen, left, AtHand};
-ghost use Rattle.lock_requests.specs.Words.{CanLock};
+ghost use Rattle.records.specs.Work.{seen, left, AtHand};
+ghost use Rattle.lock_requests.specs.Locks.{CanLock};
 
-use lock_requests::ROOT_WORD;
-use model::{ChainAddress, Mode, Restructuring, Root, StepAnswer};
-use records::{CHAIN, OTHER};
+use lock_requests::Lock;
+use model::{ChainAddress, Mode, Party, Refusal, Restructuring, StepAnswer};
+use records::Working;
 
 // "23 request exclusive on root."
-pub fn step_23(party: &mut [u32], q: u32, locks: &mut [u32]) -> StepAnswer
-    requires { CanLock party.old q locks.old }
-    ensures { (r : Root) (ps : List ℕ) → left result r party.new q locks.new ps ≡ MergeLocks.step23 (seen r party.old q locks.old ps) }
+#[tactic(auto, unfolding(model::specs::Steps::MergeLocks::step23))]
+pub fn step_23(work: &mut Working, locks: &mut [u32]) -> Result<StepAnswer, Refusal>
+    requires { CanLock work.old locks.old }
+    ensures { (ps : List ℕ) → left result work.new locks.new ps ≡ MergeLocks.step23 (seen work.old locks.old ps) }
 {
-    let mode = Mode::Exclusive;
-    lock_requests::request_step(party, q, locks, ROOT_WORD, mode, 24)
+    Ok(lock_requests::request(work, locks, Lock::root(Mode::Exclusive), 24))
 }
 
 // "24 if n = N give up root, done, merge skipped. ... Request exclusive on the target." "Grants at 16 and 24 set chain and other chain".
+#[tactic(auto, unfolding(model::specs::Steps::MergeLocks::step24, model::specs::Steps::MergeLocks::merging))]
 pub fn step_24(
-    root: Root,
-    party: &mut [u32],
-    q: u32,
+    work: &mut Working,
     locks: &mut [u32],
     pages: &mut [u32],
-) -> StepAnswer
-    requires { AtHand root party.old q locks.old pages.old }
-    ensures { left result root party.new q locks.new pages.new ≡ MergeLocks.step24 (seen root party.old q locks.old pages.old) }
+) -> Result<StepAnswer, Refusal>
+    requires { AtHand work.old locks.old pages.old }
+    ensures { left result work.new locks.new pages.new ≡ MergeLocks.step24 (seen work.old locks.old pages.old) }
 {
-    if addresses::merge_barred(root) {
+    if addresses::merge_barred(work.root) {
         let made = Restructuring::MergeSkipped;
-        return last_locks::ended_with_root(root, party, q, locks, pages, Mode::Exclusive, made);
+        return last_locks::ended_with(work, locks, pages, &[Lock::root(Mode::Exclusive)], made);
     }
-    let target = addresses::merge_target(root);
-    let partner = addresses::merge_partner(root);
-    let word = lock_requests::chain_word(target) as usize;
-    if !lock_words::request(locks, word, q, Mode::Exclusive) {
-        return StepAnswer::Waiting;
-    }
-    party[CHAIN] = target.0;
-    party[OTHER] = partner.0;
-    records::at_step(party, 25);
-    StepAnswer::Moved
+    let target = addresses::merge_target(work.root);
+    let granted = Party {
+        step: 25,
+        chain: target.0,
+        other: addresses::merge_partner(work.root).0,
+        ..work.party
+    };
+    let lock = Lock::chain(target, Mode::Exclusive);
+    Ok(lock_requests::request_for(work, locks, lock, granted))
 }
 
 // "25 on the partner."
-pub fn step_25(party: &mut [u32], q: u32, locks: &mut [u32]) -> StepAnswer
-    requires { CanLock party.old q locks.old }
-    ensures { (r : Root) (ps : List ℕ) → left result r party.new q locks.new ps ≡ MergeLocks.step25 (seen r party.old q locks.old ps) }
+#[tactic(auto, unfolding(model::specs::Steps::MergeLocks::step25))]
+pub fn step_25(work: &mut Working, locks: &mut [u32]) -> Result<StepAnswer, Refusal>
+    requires { CanLock work.old locks.old }
+    ensures { (ps : List ℕ) → left result work.new locks.new ps ≡ MergeLocks.step25 (seen work.old locks.old ps) }
 {
-    let word = lock_requests::chain_word(ChainAddress(party[OTHER]));
-    lock_requests::request_step(party, q, locks, word, Mode::Exclusive, 26)
+    let lock = Lock::chain(ChainAddress(work.party.other), Mode::Exclusive);
+    Ok(lock_requests::request(work, locks, lock, 26))
 }
 
 // "30 give up all, done."
+#[tactic(auto, unfolding(model::specs::Steps::MergeLocks::step30))]
 pub fn step_30(
-    root: Root,
-    party: &mut [u32],
-    q: u32,
+    work: &mut Working,
     locks: &mut [u32],
     pages: &mut [u32],
-) -> StepAnswer
-    requires { AtHand root party.old q locks.old pages.old }
-    ensures { left result root party.new q locks.new pages.new ≡ MergeLocks.step30 (seen root party.old q locks.old pages.old) }
+) -> Result<StepAnswer, Refusal>
+    requires { AtHand work.old locks.old pages.old }
+    ensures { left result work.new locks.new pages.new ≡ MergeLocks.step30 (seen work.old locks.old pages.old) }
 {
-    let made = Restructuring::Merged;
-    last_locks::ended_with_merge(root, party, q, locks, pages, Mode::Selective, made)
+    let claimed = last_locks::merge_locks(work.party, Mode::Selective);
+    last_locks::ended_with(work, locks, pages, &claimed, Restructuring::Merged)
 }

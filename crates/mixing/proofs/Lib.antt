@@ -1,4 +1,2 @@
 -- Proofs of mixed keys.
-pub mod Arms
-pub mod Joined
 pub mod Made

@@ -1,3 +1,2 @@
--- The constant table and its places.
-pub mod Places
+-- The constant table.
 pub mod Constant

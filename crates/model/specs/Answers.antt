@@ -1,15 +1,13 @@
 -- Document 01's numbers and words for the cases of the answer enums, of operations and of restructurings; what an answer to a step says.
--- Main definitions: operation_number and setting_given; answer_number and answer_of (a party's answer so far), found_or_absent, setting_found, same_answer; refusal_number, restructuring_of (from what is
--- owed); is_moved, performs.
-use Rattle.std.specs.Prelude.{Bool, true, false, cond, ◌&&◌, ℕ, eqb}
+-- Main definitions: operation_number and setting_given; answer_number and answer_of (a party's answer so far), found_or_absent, setting_found, same_answer; restructuring_of (from what is owed);
+-- cause_number and refusal_number; StepReply and CallReply (what calls answer); is_moved, performs.
+use Rattle.std.specs.Prelude.{Bool, true, false, cond, ◌&&◌, ℕ, eqb, Ok, Err, Result, ⊤}
 use Rattle.std.proofs.Math.Option.{Option, none, some}
-use Rattle.model.specs.declared.BeginAnswer.{BeginAnswer}
-use Rattle.model.specs.declared.FormatAnswer.{FormatAnswer}
 use Rattle.model.specs.declared.Operation.{Operation}
 use Rattle.model.specs.declared.OperationAnswer.{OperationAnswer}
+use Rattle.model.specs.declared.Refusal.{Refusal}
 use Rattle.model.specs.declared.Restructuring.{Restructuring}
 use Rattle.model.specs.declared.StepAnswer.{StepAnswer}
-use Rattle.model.specs.declared.WithdrawAnswer.{WithdrawAnswer}
 use Rattle.model.specs.Records.{find_operation, insert_operation, delete_operation, split_made}
 
 -- "operation (0 idle, 1 find, 2 insert, 3 delete)".
@@ -71,37 +69,46 @@ restructuring_number Restructuring.MergeSkipped = 4
 unfoldable pub restructuring_of : ℕ → Restructuring
 restructuring_of owed = cond (eqb owed split_made) Restructuring.Split Restructuring.None
 
--- The number that a refused call returns; 0 where the call was not refused.
-unfoldable pub refusal_number : StepAnswer → ℕ
-refusal_number StepAnswer.Waiting = 0
-refusal_number StepAnswer.Moved = 0
-refusal_number (StepAnswer.Done a r) = 0
-refusal_number (StepAnswer.Refused n) = n
+-- "Refused calls": the number of each cause.
+unfoldable pub cause_number : Refusal → ℕ
+cause_number Refusal.Size = 2
+cause_number Refusal.Length = 1
+cause_number Refusal.Unsaved = 8
+cause_number Refusal.Party = 3
+cause_number Refusal.Busy = 4
+cause_number Refusal.Idle = 5
+cause_number Refusal.Decided = 7
+cause_number Refusal.Damage = 6
 
-unfoldable pub begin_refusal : BeginAnswer → ℕ
-begin_refusal BeginAnswer.Begun = 0
-begin_refusal (BeginAnswer.Refused n) = n
+-- Whether a cause is a damaged number.
+unfoldable pub is_damage : Refusal → Bool
+is_damage Refusal.Damage = true
+is_damage c = false
 
-unfoldable pub withdraw_refusal : WithdrawAnswer → ℕ
-withdraw_refusal WithdrawAnswer.Withdrawn = 0
-withdraw_refusal (WithdrawAnswer.Refused n) = n
+-- What a call of step answers, and a call of format, begin, withdraw or take-up: its refusal where it is refused.
+abbrev pub StepReply : Type 0
+StepReply = Result StepAnswer Refusal
 
-unfoldable pub format_refusal : FormatAnswer → ℕ
-format_refusal FormatAnswer.Formatted = 0
-format_refusal (FormatAnswer.Refused n) = n
+abbrev pub CallReply : Type 0
+CallReply = Result ⊤ Refusal
+
+-- The number that a call returns: its refusal's, and 0 where it is not refused.
+unfoldable pub refusal_number : {A : Type 0} → Result A Refusal → ℕ
+refusal_number (Ok a) = 0
+refusal_number (Err c) = cause_number c
 
 -- ---- What an answer to a step says
 
 -- Whether an answer is moved.
-unfoldable pub is_moved : StepAnswer → Bool
-is_moved StepAnswer.Waiting = false
-is_moved StepAnswer.Moved = true
-is_moved (StepAnswer.Done a s) = false
-is_moved (StepAnswer.Refused n) = false
+unfoldable pub is_moved : StepReply → Bool
+is_moved (Ok StepAnswer.Waiting) = false
+is_moved (Ok StepAnswer.Moved) = true
+is_moved (Ok (StepAnswer.Done a s)) = false
+is_moved (Err c) = false
 
 -- Whether a call performed a step: it moved or was done.
-unfoldable pub performs : StepAnswer → Bool
-performs StepAnswer.Waiting = false
-performs StepAnswer.Moved = true
-performs (StepAnswer.Done a s) = true
-performs (StepAnswer.Refused n) = false
+unfoldable pub performs : StepReply → Bool
+performs (Ok StepAnswer.Waiting) = false
+performs (Ok StepAnswer.Moved) = true
+performs (Ok (StepAnswer.Done a s)) = true
+performs (Err c) = false

@@ -2,15 +2,13 @@
 -- It is fed the events of a run, and compares each answer with its note.
 -- Main definitions: Book, empty_book; enter; note_at_six, note_at_ten and note_at_eleven; contents_at_eleven; book_after, agrees
 -- (one event); book_agrees, book_at_end (over a whole list).
-use Rattle.std.specs.Prelude.{Bool, true, false, cond, ◌&&◌, List, [], ◌∷◌, ℕ, eqb}
+use Rattle.std.specs.Prelude.{Bool, true, false, cond, ◌&&◌, List, [], ◌∷◌, ℕ, eqb, Ok, Err}
 use Rattle.std.proofs.Math.Option.{Option, none, some}
 use Rattle.model.specs.declared.Operation.{Operation}
 use Rattle.model.specs.declared.OperationAnswer.{OperationAnswer}
 use Rattle.model.specs.declared.StepAnswer.{StepAnswer}
-use Rattle.model.specs.declared.BeginAnswer.{BeginAnswer}
-use Rattle.model.specs.declared.WithdrawAnswer.{WithdrawAnswer}
 use Rattle.model.specs.declared.Entry.{Entry}
-use Rattle.model.specs.Answers.{found_or_absent, same_answer}
+use Rattle.model.specs.Answers.{found_or_absent, same_answer, StepReply, CallReply}
 use Rattle.model.specs.Entries.{entry_of, has_key, setting_in, inserted_into, removed_from}
 use Rattle.model.specs.Runs.{Call, begin_for, step_for, withdraw_for, Reply, to_begin, to_step, to_withdraw, Event}
 
@@ -93,20 +91,20 @@ note_for b q none number = b
 note_for b q (some e) number = note_step b q e number
 
 -- "Else, or refused, or waiting: no change." "Done: ... the entry goes."
-unfoldable pub after_reply : Book → ℕ → ℕ → StepAnswer → Book
-after_reply b q number StepAnswer.Waiting = b
-after_reply b q number (StepAnswer.Refused n) = b
-after_reply b q number StepAnswer.Moved = note_for b q (b.entries q) number
-after_reply b q number (StepAnswer.Done a s) = with_entry (note_for b q (b.entries q) number) q none
+unfoldable pub after_reply : Book → ℕ → ℕ → StepReply → Book
+after_reply b q number (Ok StepAnswer.Waiting) = b
+after_reply b q number (Err c) = b
+after_reply b q number (Ok StepAnswer.Moved) = note_for b q (b.entries q) number
+after_reply b q number (Ok (StepAnswer.Done a s)) = with_entry (note_for b q (b.entries q) number) q none
 
-unfoldable pub after_begin : Book → ℕ → Operation → ℕ → BeginAnswer → Book
-after_begin b q o k BeginAnswer.Begun = enter b q o k
-after_begin b q o k (BeginAnswer.Refused n) = b
+unfoldable pub after_begin : Book → ℕ → Operation → ℕ → CallReply → Book
+after_begin b q o k (Ok _) = enter b q o k
+after_begin b q o k (Err c) = b
 
 -- "its entry goes from the book with the withdraw" (document 02, change 2); the map stays.
-unfoldable pub after_withdraw : Book → ℕ → WithdrawAnswer → Book
-after_withdraw b q WithdrawAnswer.Withdrawn = with_entry b q none
-after_withdraw b q (WithdrawAnswer.Refused n) = b
+unfoldable pub after_withdraw : Book → ℕ → CallReply → Book
+after_withdraw b q (Ok _) = with_entry b q none
+after_withdraw b q (Err c) = b
 
 -- The book after an event.
 unfoldable pub book_after : Book → Call → ℕ → Reply → Book
@@ -130,11 +128,11 @@ is_note_of a none = false
 is_note_of a (some e) = is_note a e.note
 
 -- "Done: the answer must be the note": the note after the step's own number was entered.
-unfoldable pub agrees_with : Book → ℕ → ℕ → StepAnswer → Bool
-agrees_with b q number StepAnswer.Waiting = true
-agrees_with b q number (StepAnswer.Refused n) = true
-agrees_with b q number StepAnswer.Moved = true
-agrees_with b q number (StepAnswer.Done a s) = is_note_of a ((note_for b q (b.entries q) number).entries q)
+unfoldable pub agrees_with : Book → ℕ → ℕ → StepReply → Bool
+agrees_with b q number (Ok StepAnswer.Waiting) = true
+agrees_with b q number (Err c) = true
+agrees_with b q number (Ok StepAnswer.Moved) = true
+agrees_with b q number (Ok (StepAnswer.Done a s)) = is_note_of a ((note_for b q (b.entries q) number).entries q)
 
 unfoldable pub agrees : Book → Call → ℕ → Reply → Bool
 agrees b (begin_for q o k) number x = true

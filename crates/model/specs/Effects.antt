@@ -1,15 +1,14 @@
 -- What each call alters, by its answer (document 01, "Agreement": "a step that alters nothing and says moved" does not meet demand 1), and what the book is fed of it.
 -- Main definitions: AltersOwn, StepAlters (a step that moved or is done alters the party's own words, any other call of step alters nothing); WaitsForLock; Begins, BeginAlters;
 -- Withdraws, WithdrawAlters; BookFed, BookCompares, BookEnters, BookLeaves. The theorems that they hold are in proofs/.
-use Rattle.std.specs.Prelude.{◌≡◌, ◌≢◌, ◌⊎◌, Bool, true, false, List, ◌∷◌, ℕ, ◌+◌, length, get_or}
+use Rattle.std.specs.Prelude.{◌≡◌, ◌≢◌, ◌⊎◌, Bool, true, false, List, ◌∷◌, ℕ, ◌+◌, length, get_or, Ok, Err}
 use Rattle.std.proofs.Math.Option.{none, some}
+use Rattle.model.specs.declared.Refusal.{Refusal}
 use Rattle.model.specs.declared.Party.{Party}
 use Rattle.model.specs.declared.Operation.{Operation}
 use Rattle.model.specs.declared.OperationAnswer.{OperationAnswer}
 use Rattle.model.specs.declared.Restructuring.{Restructuring}
 use Rattle.model.specs.declared.StepAnswer.TheVariants as StepAnswer
-use Rattle.model.specs.declared.BeginAnswer.TheVariants as BeginAnswer
-use Rattle.model.specs.declared.WithdrawAnswer.TheVariants as WithdrawAnswer
 use Rattle.model.specs.Records.{begun, idle, with_free_list}
 use Rattle.model.specs.Answers.{operation_number, setting_given, performs}
 use Rattle.model.specs.LockWords.{Claim, permits}
@@ -49,7 +48,7 @@ pub record AltersRecord (m : Memory) (q : ℕ) : Type 0 where
 -- A 9 that stays at 9 leaves the record, and alters the party's scratch page: its link is another.
 pub record AltersScratch (m : Memory) (q : ℕ) : Type 0 where
   pub at_nine : (record_before m q).step ≡ 9
-  pub moves : (step_call m q).answer ≡ StepAnswer.Moved
+  pub moves : (step_call m q).answer ≡ Ok StepAnswer.Moved
   pub same_record : record_after m q ≡ record_before m q
   pub another_link : scratch_link_after m q ≢ scratch_link m q
 
@@ -60,9 +59,9 @@ pub data AltersOwn (m : Memory) (q : ℕ) : Type 0 where
 
 -- "Only the first waiting call alters memory, and only the row": on all memory. A refused call alters nothing.
 pub record QuietAlters (m : Memory) (q : ℕ) : Type 0 where
-  pub waits : (step_call m q).answer ≡ StepAnswer.Waiting → (step_call m q).memory ≡ with_waiting (row_with q m.waiting) m
-  pub waits-again : (step_call m q).answer ≡ StepAnswer.Waiting → is_among (q + 1) m.waiting ≡ true → (step_call m q).memory ≡ m
-  pub refused : (n : ℕ) → (step_call m q).answer ≡ StepAnswer.Refused n → (step_call m q).memory ≡ m
+  pub waits : (step_call m q).answer ≡ Ok StepAnswer.Waiting → (step_call m q).memory ≡ with_waiting (row_with q m.waiting) m
+  pub waits-again : (step_call m q).answer ≡ Ok StepAnswer.Waiting → is_among (q + 1) m.waiting ≡ true → (step_call m q).memory ≡ m
+  pub refused : (c : Refusal) → (step_call m q).answer ≡ Err c → (step_call m q).memory ≡ m
 
 -- A call that answers moved or done alters the party's own words; any other call of step the waiting row at most.
 pub record StepAlters (m : Memory) (q : ℕ) : Type 0 where
@@ -91,8 +90,8 @@ pub record Begins (m : Memory) (q : ℕ) (o : Operation) (k : ℕ) : Type 0 wher
 
 -- A begin accepted leaves what Begins says; one refused leaves all memory.
 pub record BeginAlters (m : Memory) (q : ℕ) (o : Operation) (k : ℕ) : Type 0 where
-  pub accepted : (begin_call m q o k).answer ≡ BeginAnswer.Begun → Begins m q o k
-  pub refused : (n : ℕ) → (begin_call m q o k).answer ≡ BeginAnswer.Refused n → (begin_call m q o k).memory ≡ m
+  pub accepted : (begin_call m q o k).answer ≡ Ok tt → Begins m q o k
+  pub refused : (c : Refusal) → (begin_call m q o k).answer ≡ Err c → (begin_call m q o k).memory ≡ m
 
 -- ---- A call of withdraw
 
@@ -113,8 +112,8 @@ pub record Withdraws (m : Memory) (q : ℕ) : Type 0 where
 
 -- A withdraw accepted leaves what Withdraws says; one refused leaves all memory.
 pub record WithdrawAlters (m : Memory) (q : ℕ) : Type 0 where
-  pub accepted : (withdraw_call m q).answer ≡ WithdrawAnswer.Withdrawn → Withdraws m q
-  pub refused : (n : ℕ) → (withdraw_call m q).answer ≡ WithdrawAnswer.Refused n → withdraw_after m q ≡ m
+  pub accepted : (withdraw_call m q).answer ≡ Ok tt → Withdraws m q
+  pub refused : (c : Refusal) → (withdraw_call m q).answer ≡ Err c → withdraw_after m q ≡ m
 
 -- ---- What the book is fed
 
@@ -138,7 +137,7 @@ book_then b e = book_after b e.call e.number e.reply
 
 -- The answer that is compared with party q's note is the one that its call returned.
 pub record BookCompares (m : Memory) (b : Book) (q : ℕ) : Type 0 where
-  pub compares : (a : OperationAnswer) (s : Restructuring) → (step_call m q).answer ≡ StepAnswer.Done a s
+  pub compares : (a : OperationAnswer) (s : Restructuring) → (step_call m q).answer ≡ Ok (StepAnswer.Done a s)
       → agrees_to b (event_of m (step_for q)) ≡ is_note_of a ((note_for b q (b.entries q) (party_at m.parties q).step).entries q)
 
 -- A begin enters its own operation and key for its party, with a blank note; every other entry and the map stay.
@@ -149,7 +148,7 @@ pub record BookEnters (m : Memory) (b : Book) (q : ℕ) (o : Operation) (k : ℕ
 
 -- A withdraw accepted takes its party's entry out; every other entry and the map stay. One refused leaves the book.
 pub record BookLeaves (m : Memory) (b : Book) (q : ℕ) : Type 0 where
-  pub own : (withdraw_call m q).answer ≡ WithdrawAnswer.Withdrawn → (book_then b (event_of m (withdraw_for q))).entries q ≡ none
+  pub own : (withdraw_call m q).answer ≡ Ok tt → (book_then b (event_of m (withdraw_for q))).entries q ≡ none
   pub others : (j : ℕ) → j ≢ q → (book_then b (event_of m (withdraw_for q))).entries j ≡ b.entries j
   pub contents : (book_then b (event_of m (withdraw_for q))).contents ≡ b.contents
-  pub refused : (n : ℕ) → (withdraw_call m q).answer ≡ WithdrawAnswer.Refused n → book_then b (event_of m (withdraw_for q)) ≡ b
+  pub refused : (c : Refusal) → (withdraw_call m q).answer ≡ Err c → book_then b (event_of m (withdraw_for q)) ≡ b

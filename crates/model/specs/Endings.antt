@@ -1,6 +1,6 @@
 -- How an operation ends, and how it goes on where it does not (document 01, "The thirty steps": "done", and the steps that lead there).
 -- Main definitions: done, finished (at 12, 14 and 22), ended_with (locks given up at an end); onward and old_pages_first (where 12, 14 and 22 lead).
-use Rattle.std.specs.Prelude.{cond, List, eqb}
+use Rattle.std.specs.Prelude.{cond, List, eqb, Ok}
 use Rattle.model.specs.declared.OperationAnswer.{OperationAnswer}
 use Rattle.model.specs.declared.Restructuring.{Restructuring}
 use Rattle.model.specs.declared.StepAnswer.{StepAnswer}
@@ -14,7 +14,7 @@ use Rattle.model.specs.ScratchPages.{with_scratch}
 
 -- "'Done' carries the answer ... and the restructuring ..., and zeroes the party's record and scratch page."
 abbrev pub done : OperationAnswer → Restructuring → View → Outcome
-done a s v = outcome (StepAnswer.Done a s) (with_party idle (with_scratch zero_page v))
+done a s v = outcome (Ok (StepAnswer.Done a s)) (with_party idle (with_scratch zero_page v))
 
 -- Done at 12, 14 or 22, with the answer of the record.
 unfoldable pub finished : View → Outcome

@@ -3,22 +3,21 @@
 -- Beside them the ledger of who waits, likewise by the calls and their answers alone.
 -- Main definitions: Hold, permitted; gives_up (what each step gives up), holds_after; waits_after (who waits, first come
 -- first), waits_before; grant_right, step_right, begin_right, withdraw_right (one answer); grants_right (over a whole list).
-use Rattle.std.specs.Prelude.{Bool, true, false, cond, not, ◌&&◌, ◌||◌, List, [], ◌∷◌, ◌++◌, ℕ, get_or, eqb, leb}
+use Rattle.std.specs.Prelude.{Bool, true, false, cond, not, ◌&&◌, ◌||◌, List, [], ◌∷◌, ◌++◌, ℕ, get_or, eqb, leb, Ok, Err, Result, is_ok}
 use Rattle.std.proofs.Math.Option.{Option, none, some}
+use Rattle.model.specs.declared.Refusal.{Refusal}
 use Rattle.model.specs.declared.Root.{Root}
 use Rattle.model.specs.declared.Party.{Party}
 use Rattle.model.specs.declared.Mode.{Mode}
 use Rattle.model.specs.declared.Mode.TheVariants.{Read, Selective, Exclusive}
 use Rattle.model.specs.declared.StepAnswer.{StepAnswer}
-use Rattle.model.specs.declared.BeginAnswer.{BeginAnswer}
-use Rattle.model.specs.declared.WithdrawAnswer.{WithdrawAnswer}
 use Rattle.model.specs.LockWords.{Claim, table_one}
 use Rattle.model.specs.Memory.{Memory, party_at}
 use Rattle.model.specs.GivenSizes.{sized_root}
 use Rattle.model.specs.Calls.{begin_call, step_call, withdraw_call}
 use Rattle.model.specs.Runs.{Call, begin_for, step_for, withdraw_for, after_call}
 use Rattle.model.specs.Book.{Book}
-use Rattle.model.specs.Answers.{is_moved}
+use Rattle.model.specs.Answers.{is_moved, StepReply, CallReply, cause_number}
 use Rattle.model.specs.Progress.{under_way, book_after_call}
 use Rattle.model.specs.Steps.Table.{row_at}
 use Rattle.model.specs.Steps.Dispatch.{wants}
@@ -67,11 +66,11 @@ without_all hs q (c ∷ cs) = without_all (without_one hs q c) q cs
 unfoldable pub gives_up_moving : ℕ → Party → List Claim
 gives_up_moving k p = (row_at k).gives p
 
-unfoldable pub gives_up : ℕ → Party → StepAnswer → List Claim
-gives_up k p StepAnswer.Waiting = []
-gives_up k p StepAnswer.Moved = gives_up_moving k p
-gives_up k p (StepAnswer.Done a s) = get_or claim_table k no_lock p
-gives_up k p (StepAnswer.Refused n) = []
+unfoldable pub gives_up : ℕ → Party → StepReply → List Claim
+gives_up k p (Ok StepAnswer.Waiting) = []
+gives_up k p (Ok StepAnswer.Moved) = gives_up_moving k p
+gives_up k p (Ok (StepAnswer.Done a s)) = get_or claim_table k no_lock p
+gives_up k p (Err c) = []
 
 -- The lock that a step is granted: what it requested, where it moves; and at 27 root selectively, turned from exclusive.
 unfoldable pub requested : ℕ → Option Claim → Option Claim
@@ -95,9 +94,9 @@ holds_after_step z hs m q =
     cond (is_moved a) (with_held left q (requested p.step (wanted_by z m q))) left
 
 -- The locks that a withdraw of a party with record p gives up: those that its step number claims.
-unfoldable pub gives_up_withdrawn : Root → Party → WithdrawAnswer → List Claim
-gives_up_withdrawn z p WithdrawAnswer.Withdrawn = claims z p
-gives_up_withdrawn z p (WithdrawAnswer.Refused n) = []
+unfoldable pub gives_up_withdrawn : Root → Party → CallReply → List Claim
+gives_up_withdrawn z p (Ok _) = claims z p
+gives_up_withdrawn z p (Err c) = []
 
 -- The holds after a withdraw of party q.
 unfoldable pub holds_after_withdraw : Root → List Hold → Memory → ℕ → List Hold
@@ -126,16 +125,16 @@ leaves [] q = []
 leaves (w ∷ ws) q = let rest = leaves ws q in cond (eqb w.party q) ws (w ∷ rest)
 
 -- After a step of party q that wants o, by its answer: who is moved or done waits no longer.
-unfoldable pub waits_after_step : List Hold → ℕ → Option Claim → StepAnswer → List Hold
-waits_after_step ws q o StepAnswer.Waiting = joins ws q o
-waits_after_step ws q o StepAnswer.Moved = leaves ws q
-waits_after_step ws q o (StepAnswer.Done a s) = leaves ws q
-waits_after_step ws q o (StepAnswer.Refused n) = ws
+unfoldable pub waits_after_step : List Hold → ℕ → Option Claim → StepReply → List Hold
+waits_after_step ws q o (Ok StepAnswer.Waiting) = joins ws q o
+waits_after_step ws q o (Ok StepAnswer.Moved) = leaves ws q
+waits_after_step ws q o (Ok (StepAnswer.Done a s)) = leaves ws q
+waits_after_step ws q o (Err c) = ws
 
 -- After a withdraw, by its answer.
-unfoldable pub waits_after_withdraw : List Hold → ℕ → WithdrawAnswer → List Hold
-waits_after_withdraw ws q WithdrawAnswer.Withdrawn = leaves ws q
-waits_after_withdraw ws q (WithdrawAnswer.Refused n) = ws
+unfoldable pub waits_after_withdraw : List Hold → ℕ → CallReply → List Hold
+waits_after_withdraw ws q (Ok _) = leaves ws q
+waits_after_withdraw ws q (Err c) = ws
 
 -- After a call.
 unfoldable pub waits_after : Root → List Hold → Memory → Call → List Hold
@@ -153,64 +152,46 @@ waits_before (w ∷ ws) q c =
 -- ---- Grants
 
 -- Whether an answer to a request is right: moved where the lock is permitted, waiting where it is not, and never a refusal.
-unfoldable pub grant_right : Bool → StepAnswer → Bool
-grant_right may StepAnswer.Waiting = not may
-grant_right may StepAnswer.Moved = may
-grant_right may (StepAnswer.Done a s) = false
-grant_right may (StepAnswer.Refused n) = false
+unfoldable pub grant_right : Bool → StepReply → Bool
+grant_right may (Ok StepAnswer.Waiting) = not may
+grant_right may (Ok StepAnswer.Moved) = may
+grant_right may (Ok (StepAnswer.Done a s)) = false
+grant_right may (Err c) = false
 
 -- A step that requests nothing never waits, and is not refused.
-unfoldable pub never_waits : StepAnswer → Bool
-never_waits StepAnswer.Waiting = false
-never_waits StepAnswer.Moved = true
-never_waits (StepAnswer.Done a s) = true
-never_waits (StepAnswer.Refused n) = false
+unfoldable pub never_waits : StepReply → Bool
+never_waits (Ok StepAnswer.Waiting) = false
+never_waits (Ok StepAnswer.Moved) = true
+never_waits (Ok (StepAnswer.Done a s)) = true
+never_waits (Err c) = false
 
 -- Whether an answer is right for an operation under way.
-unfoldable pub answer_right : List Hold → List Hold → ℕ → Option Claim → StepAnswer → Bool
+unfoldable pub answer_right : List Hold → List Hold → ℕ → Option Claim → StepReply → Bool
 answer_right hs ws q none a = never_waits a
 answer_right hs ws q (some c) a = grant_right (permitted hs c && not (waits_before ws q c)) a
 
 -- ---- Refusals
 
--- Whether a step, or a begin, is refused with this number.
-unfoldable pub refused_with : ℕ → StepAnswer → Bool
-refused_with k StepAnswer.Waiting = false
-refused_with k StepAnswer.Moved = false
-refused_with k (StepAnswer.Done a s) = false
-refused_with k (StepAnswer.Refused n) = eqb n k
-
-unfoldable pub begin_refused_with : ℕ → BeginAnswer → Bool
-begin_refused_with k BeginAnswer.Begun = false
-begin_refused_with k (BeginAnswer.Refused n) = eqb n k
-
-unfoldable pub is_begun : BeginAnswer → Bool
-is_begun BeginAnswer.Begun = true
-is_begun (BeginAnswer.Refused n) = false
+-- Whether a call is refused with this number.
+unfoldable pub refused_with : {A : Type 0} → ℕ → Result A Refusal → Bool
+refused_with k (Ok a) = false
+refused_with k (Err c) = eqb (cause_number c) k
 
 -- A step of a party that has nothing under way is refused: 3 where there is no such party, else 5.
-unfoldable pub idle_right : ℕ → ℕ → StepAnswer → Bool
+unfoldable pub idle_right : ℕ → ℕ → StepReply → Bool
 idle_right parties q a = refused_with (cond (leb parties q) 3 5) a
 
 -- A begin is refused 3 where there is no such party, 4 where it has an operation under way, and is else accepted.
-unfoldable pub begin_right : ℕ → ℕ → Bool → BeginAnswer → Bool
+unfoldable pub begin_right : ℕ → ℕ → Bool → CallReply → Bool
 begin_right parties q busy a =
-    let there = cond busy (begin_refused_with 4 a) (is_begun a) in
-    cond (leb parties q) (begin_refused_with 3 a) there
+    let there = cond busy (refused_with 4 a) (is_ok a) in
+    cond (leb parties q) (refused_with 3 a) there
 
 -- A withdraw is refused 3 where there is no such party, 5 where it has nothing under way, 7 where the decisive step is taken, and is else accepted: it never waits.
-unfoldable pub withdraw_refused_with : ℕ → WithdrawAnswer → Bool
-withdraw_refused_with k WithdrawAnswer.Withdrawn = false
-withdraw_refused_with k (WithdrawAnswer.Refused n) = eqb n k
-
-unfoldable pub is_withdrawn : WithdrawAnswer → Bool
-is_withdrawn WithdrawAnswer.Withdrawn = true
-is_withdrawn (WithdrawAnswer.Refused n) = false
-
-unfoldable pub withdraw_right : ℕ → ℕ → Bool → Bool → WithdrawAnswer → Bool
+unfoldable pub withdraw_right : ℕ → ℕ → Bool → Bool → CallReply → Bool
 withdraw_right parties q busy decided a =
-    let there = cond busy (cond decided (withdraw_refused_with 7 a) (is_withdrawn a)) (withdraw_refused_with 5 a) in
-    cond (leb parties q) (withdraw_refused_with 3 a) there
+    let there = cond busy (cond decided (refused_with 7 a) (is_ok a)) (refused_with 5 a) in
+    cond (leb parties q) (refused_with 3 a) there
 
 -- ---- Over a list of calls
 

@@ -1,6 +1,8 @@
 -- What a step sees and what it leaves (document 01, "The thirty steps").
 -- Main definitions: View (the memory as one party's step is lent it), Outcome; refuse, waits, moved; guarded and checked (tests before an outcome).
-use Rattle.std.specs.Prelude.{Bool, true, false, List, ℕ}
+use Rattle.std.specs.Prelude.{Bool, true, false, List, ℕ, Ok, Err}
+use Rattle.model.specs.declared.Refusal.{Refusal}
+use Rattle.model.specs.Answers.{StepReply}
 use Rattle.model.specs.declared.Party.{Party}
 use Rattle.model.specs.declared.Root.{Root}
 use Rattle.model.specs.declared.StepAnswer.{StepAnswer}
@@ -30,32 +32,28 @@ with_pages ps v = record { root = v.root; party = v.party; number = v.number; lo
 
 -- The answer, and what the memory then is.
 pub record Outcome : Type 0 where
-  pub answer : StepAnswer
+  pub answer : StepReply
   pub after : View
 
-abbrev pub outcome : StepAnswer → View → Outcome
+abbrev pub outcome : StepReply → View → Outcome
 outcome a v = record { answer = a; after = v }
 
 -- A refused call leaves all lent memory.
-abbrev pub refuse : ℕ → View → Outcome
-refuse n v = outcome (StepAnswer.Refused n) v
-
--- The refusal of a damaged number.
-abbrev pub damage : ℕ
-damage = 6
+abbrev pub refuse : Refusal → View → Outcome
+refuse c v = outcome (Err c) v
 
 -- "waiting (no word changes)".
 abbrev pub waits : View → Outcome
-waits v = outcome StepAnswer.Waiting v
+waits v = outcome (Ok StepAnswer.Waiting) v
 
 abbrev pub moved : View → Outcome
-moved v = outcome StepAnswer.Moved v
+moved v = outcome (Ok StepAnswer.Moved) v
 
 -- The outcome where the tests hold; else the call is refused and leaves the view as it was found.
 abbrev pub guarded : View → Bool → Outcome → Outcome
 guarded v true o = o
-guarded v false o = refuse damage v
+guarded v false o = refuse Refusal.Damage v
 
 abbrev pub checked : {A : Type 0} → View → Checked A → (A → Outcome) → Outcome
-checked v damaged f = refuse damage v
+checked v damaged f = refuse Refusal.Damage v
 checked v (sound a) f = f a

@@ -1,75 +1,57 @@
 -- The refusal table and the damage tests that every step makes (document 01, "Refused calls").
 -- Main definitions: Row, first_cause (tests run in the table's order); lengths_fit; record_sound (the tests of damage on root and record); the rows of each call.
-use Rattle.std.specs.Prelude.{Bool, cond, not, ◌&&◌, ◌||◌, List, [], ◌∷◌, ℕ, length, ltb, leb, eqb}
+use Rattle.std.specs.Prelude.{Bool, cond, not, ◌&&◌, ◌||◌, List, [], ◌∷◌, ℕ, length, ltb, leb, eqb, Ok, Err}
+use Rattle.model.specs.declared.Refusal.{Refusal}
 use Rattle.model.specs.declared.Root.{Root}
 use Rattle.model.specs.declared.Party.{Party}
+use Rattle.model.specs.Answers.{CallReply}
 use Rattle.model.specs.Records.{idle_operation, delete_operation, split_made}
 use Rattle.model.specs.Sizes.{within_limits, lock_words, all_page_words}
 use Rattle.model.specs.Addresses.{span, chain_count}
-use Rattle.model.specs.Outcome.{damage}
 use Rattle.model.specs.Memory.{Memory, party_at}
 use Rattle.model.specs.Steps.Dispatch.{has_step}
 use Rattle.model.specs.Withdraw.{is_decided}
 use Rattle.model.specs.WaitingRow.{row_sound}
 
--- One row of the table: whether its cause is met, and the number returned.
+-- One row of the table: whether its cause is met, and the cause.
 pub record Row : Type 0 where
   pub met : Bool
-  pub number : ℕ
+  pub cause : Refusal
 
-abbrev pub row : Bool → ℕ → Row
-row b n = record { met = b; number = n }
+abbrev pub row : Bool → Refusal → Row
+row b c = record { met = b; cause = c }
 
--- "Tests run in the table's order": the number of the first cause met, 0 for none.
-unfoldable pub first_cause : List Row → ℕ
-first_cause [] = 0
-first_cause (x ∷ xs) = cond x.met x.number (first_cause xs)
+-- "Tests run in the table's order": the refusal of the first cause met, if there is one.
+unfoldable pub first_cause : List Row → CallReply
+first_cause [] = Ok tt
+first_cause (x ∷ xs) = cond x.met (Err x.cause) (first_cause xs)
 
 -- "a lent length other than Q records, P+1 lock words or 16 × (P+V+Q) page words".
 unfoldable pub lengths_fit : Root → Memory → Bool
 lengths_fit r m = eqb (length m.parties) r.parties && eqb (length m.locks) (lock_words r) && eqb (length m.pages) (all_page_words r) && eqb (length m.waiting) r.parties
 
--- The table's numbers; that of a damaged number is `damage`.
-abbrev pub size_refusal : ℕ
-size_refusal = 2
-
-abbrev pub length_refusal : ℕ
-length_refusal = 1
-
-abbrev pub party_refusal : ℕ
-party_refusal = 3
-
-abbrev pub busy_refusal : ℕ
-busy_refusal = 4
-
-abbrev pub idle_refusal : ℕ
-idle_refusal = 5
-
-abbrev pub decided_refusal : ℕ
-decided_refusal = 7
-
 -- The rows, each with the causes in document 01's words.
 abbrev pub size_row : Root → Row
-size_row r = row (not (within_limits r)) size_refusal
+size_row r = row (not (within_limits r)) Refusal.Size
 
 abbrev pub length_row : Root → Memory → Row
-length_row r m = row (not (lengths_fit r m)) length_refusal
+length_row r m = row (not (lengths_fit r m)) Refusal.Length
 
 abbrev pub party_row : Root → ℕ → Row
-party_row r q = row (leb r.parties q) party_refusal
+party_row r q = row (leb r.parties q) Refusal.Party
 
 abbrev pub is_idle : Party → Bool
 is_idle p = eqb p.operation idle_operation
 
 abbrev pub busy_row : Party → Row
-busy_row p = row (not (is_idle p)) busy_refusal
+busy_row p = row (not (is_idle p)) Refusal.Busy
 
 abbrev pub idle_row : Party → Row
-idle_row p = row (is_idle p) idle_refusal
+idle_row p = row (is_idle p) Refusal.Idle
 
 -- "7 when the decisive step has been taken" (document 02, change 2).
 abbrev pub decided_row : Party → Row
-decided_row p = row (is_decided p) decided_refusal
+decided_row p = row (is_decided p) Refusal.Decided
 
 -- ---- Damage, on the root and the party's record
 
@@ -89,11 +71,11 @@ unfoldable pub record_sound : Root → Party → Bool
 record_sound r p = root_sound r && party_sound r p
 
 abbrev pub damage_row : Root → Party → Row
-damage_row r p = row (not (record_sound r p)) damage
+damage_row r p = row (not (record_sound r p)) Refusal.Damage
 
 -- The waiting row is damaged (document 02, change 7).
 abbrev pub waiting_row : Memory → Row
-waiting_row m = row (not (row_sound m.root m.parties m.waiting)) damage
+waiting_row m = row (not (row_sound m.root m.parties m.waiting)) Refusal.Damage
 
 -- ---- The rows of each call
 

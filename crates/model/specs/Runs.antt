@@ -1,10 +1,8 @@
 -- Lists of begins, steps and withdraws, run from any memory, and the events that such a run makes (document 01, "The set book").
 -- Main definitions: Call, Reply, Event (a call, the number of the step it performed, its reply); event_of, after_call; events and final_memory of a list.
 use Rattle.std.specs.Prelude.{List, [], ◌∷◌, ℕ}
+use Rattle.model.specs.Answers.{StepReply, CallReply}
 use Rattle.model.specs.declared.Operation.{Operation}
-use Rattle.model.specs.declared.StepAnswer.{StepAnswer}
-use Rattle.model.specs.declared.BeginAnswer.{BeginAnswer}
-use Rattle.model.specs.declared.WithdrawAnswer.{WithdrawAnswer}
 use Rattle.model.specs.Memory.{Memory, party_at}
 use Rattle.model.specs.Calls.{begin_call, step_call, withdraw_call}
 
@@ -16,9 +14,9 @@ pub data Call : Type 0 where
 
 -- What a call returned.
 pub data Reply : Type 0 where
-  to_begin : BeginAnswer → Reply
-  to_step : StepAnswer → Reply
-  to_withdraw : WithdrawAnswer → Reply
+  to_begin : CallReply → Reply
+  to_step : StepReply → Reply
+  to_withdraw : CallReply → Reply
 
 -- The party that a call is for.
 abbrev pub caller_of : Call → ℕ

@@ -1,5 +1,5 @@
 -- The thirty steps (document 01, "The thirty steps"), in the groups that proofs/Steps and the step crates have too, and the step that a number names.
--- Dispatch has has_step (which operation has which steps), stepOf, and wants (the lock that a party's next step requests).
+-- Dispatch has has_step (which operation has which steps), step_of, and wants (the lock that a party's next step requests).
 pub mod Locate
 pub mod Chase
 pub mod Find

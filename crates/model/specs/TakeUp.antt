@@ -4,10 +4,11 @@
 -- take_up_call; records_saved (the records of a file, keys ascending) and saved_book (the book at the start).
 use Rattle.std.specs.Prelude.{Bool, true, false, cond, not, ◌&&◌, ◌||◌, List, [], ◌∷◌, ◌++◌, ℕ, zero, suc, ◌+◌, ◌-◌, length, take, drop, eqb, ltb, leb}
 use Rattle.std.proofs.Math.Option.{none}
+use Rattle.model.specs.declared.Refusal.{Refusal}
+use Rattle.model.specs.Answers.{CallReply}
 use Rattle.model.specs.declared.Root.{Root}
 use Rattle.model.specs.declared.Party.{Party}
 use Rattle.model.specs.declared.Entry.{Entry}
-use Rattle.model.specs.declared.TakeUpAnswer.{TakeUpAnswer}
 use Rattle.model.specs.Addresses.{span, hash, count_of_chains}
 use Rattle.model.specs.Entries.{key_of, joined_all, is_empty}
 use Rattle.model.specs.Pages.{page_of, link_of, filled_page, free_page, zero_page, link_to_first, primary_page, scratch_page}
@@ -139,25 +140,17 @@ is_saved m =
 
 -- ---- The call
 
--- "8 when a condition fails, tested after 2 and 1, nothing altered."
-abbrev pub unsaved_refusal : ℕ
-unsaved_refusal = 8
-
--- The row of a file that is saved or not.
+-- "8 when a condition fails, tested after 2 and 1, nothing altered": the row of a file that is saved or not.
 abbrev pub unsaved_row : Bool → Row
-unsaved_row saved = row (not saved) unsaved_refusal
+unsaved_row saved = row (not saved) Refusal.Unsaved
 
 -- Sizes, lengths, then the conditions.
 unfoldable pub take_up_rows : Memory → List Row
 take_up_rows m = size_row m.root ∷ (length_row m.root m ∷ (unsaved_row (is_saved m) ∷ []))
 
--- The answer, by the first cause met; 0 is none.
-unfoldable pub take_up_answer : ℕ → TakeUpAnswer
-take_up_answer c = cond (eqb c 0) TakeUpAnswer.TakenUp (TakeUpAnswer.Refused c)
-
 -- Taken up or refused, it leaves all lent memory.
-unfoldable pub take_up_call : Memory → Called TakeUpAnswer
-take_up_call m = called (take_up_answer (first_cause (take_up_rows m))) m
+unfoldable pub take_up_call : Memory → Called CallReply
+take_up_call m = called (first_cause (take_up_rows m)) m
 
 -- ---- The records
 

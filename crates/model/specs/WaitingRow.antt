@@ -2,12 +2,12 @@
 -- Main definitions: requests (the lock that a party's next step requests); waiters_in (the parties of a row, first come
 -- first); row_sound (the tests of damage); stands_behind (an earlier waiting request for the same lock conflicts);
 -- row_with, row_without, row_after and row_left (the row after a call).
-use Rattle.std.specs.Prelude.{Bool, true, false, cond, not, ◌&&◌, ◌||◌, List, [], ◌∷◌, ◌++◌, ℕ, ◌+◌, ◌-◌, length, drop, get_or, eqb, ltb}
+use Rattle.std.specs.Prelude.{Bool, true, false, cond, not, ◌&&◌, ◌||◌, List, [], ◌∷◌, ◌++◌, ℕ, ◌+◌, ◌-◌, length, drop, get_or, eqb, ltb, Ok, Err}
 use Rattle.std.proofs.Math.Option.{Option, none, some}
+use Rattle.model.specs.Answers.{StepReply, CallReply}
 use Rattle.model.specs.declared.Root.{Root}
 use Rattle.model.specs.declared.Party.{Party}
 use Rattle.model.specs.declared.StepAnswer.{StepAnswer}
-use Rattle.model.specs.declared.WithdrawAnswer.{WithdrawAnswer}
 use Rattle.model.specs.Records.{idle}
 use Rattle.model.specs.LockWords.{Claim, table_one}
 use Rattle.model.specs.FreeList.{is_among}
@@ -92,13 +92,13 @@ row_without q [] = []
 row_without q (x ∷ xs) = let on = row_without q xs in cond (eqb x (q + 1)) (xs ++ (0 ∷ [])) (x ∷ on)
 
 -- The row after a step: who waits joins, who moves leaves. Who is done was not in a sound row.
-unfoldable pub row_after : ℕ → List ℕ → StepAnswer → List ℕ
-row_after q row StepAnswer.Waiting = row_with q row
-row_after q row StepAnswer.Moved = row_without q row
-row_after q row (StepAnswer.Done a s) = row
-row_after q row (StepAnswer.Refused n) = row
+unfoldable pub row_after : ℕ → List ℕ → StepReply → List ℕ
+row_after q row (Ok StepAnswer.Waiting) = row_with q row
+row_after q row (Ok StepAnswer.Moved) = row_without q row
+row_after q row (Ok (StepAnswer.Done a s)) = row
+row_after q row (Err c) = row
 
 -- The row after a withdraw: where it is accepted, the party leaves.
-unfoldable pub row_left : ℕ → List ℕ → WithdrawAnswer → List ℕ
-row_left q row WithdrawAnswer.Withdrawn = row_without q row
-row_left q row (WithdrawAnswer.Refused n) = row
+unfoldable pub row_left : ℕ → List ℕ → CallReply → List ℕ
+row_left q row (Ok _) = row_without q row
+row_left q row (Err c) = row

@@ -2,13 +2,14 @@
 -- built, while the decisive step is not yet taken.
 -- Main definitions: is_decided (whether it is taken); built_pages (the pages built and not yet in the file), taken_back
 -- (the memory then); Withdrawal and withdrawn (with the tests of damage).
-use Rattle.std.specs.Prelude.{Bool, cond, ◌&&◌, ◌||◌, List, [], reverse, ℕ, length, eqb, leb}
+use Rattle.std.specs.Prelude.{Bool, cond, ◌&&◌, ◌||◌, List, [], reverse, ℕ, length, eqb, leb, Ok, Err}
+use Rattle.model.specs.declared.Refusal.{Refusal}
+use Rattle.model.specs.Answers.{CallReply}
 use Rattle.model.specs.declared.Party.{Party}
-use Rattle.model.specs.declared.WithdrawAnswer.{WithdrawAnswer}
 use Rattle.model.specs.Records.{find_operation, insert_operation, delete_operation, idle}
 use Rattle.model.specs.Pages.{link_of, page_sound, zero_page}
 use Rattle.model.specs.Chains.{Checked, damaged, sound, and_then, sound_if, list_from}
-use Rattle.model.specs.Outcome.{View, with_party, damage}
+use Rattle.model.specs.Outcome.{View, with_party}
 use Rattle.model.specs.FreeList.{room_to_give_back, pages_given_back}
 use Rattle.model.specs.LockRequests.{held_all, given_up}
 use Rattle.model.specs.ScratchPages.{scratch_of, with_scratch}
@@ -42,16 +43,16 @@ taken_back_soundly v =
 
 -- The answer, and what the memory then is.
 pub record Withdrawal : Type 0 where
-  pub answer : WithdrawAnswer
+  pub answer : CallReply
   pub after : View
 
-abbrev pub withdrawal : WithdrawAnswer → View → Withdrawal
+abbrev pub withdrawal : CallReply → View → Withdrawal
 withdrawal a v = record { answer = a; after = v }
 
 -- A refused withdraw leaves all lent memory.
 abbrev pub withdrawn_to : View → Checked View → Withdrawal
-withdrawn_to v damaged = withdrawal (WithdrawAnswer.Refused damage) v
-withdrawn_to v (sound w) = withdrawal WithdrawAnswer.Withdrawn w
+withdrawn_to v damaged = withdrawal (Err Refusal.Damage) v
+withdrawn_to v (sound w) = withdrawal (Ok tt) w
 
 -- What a withdraw does once no row of the refusal table is met.
 unfoldable pub withdrawn : View → Withdrawal

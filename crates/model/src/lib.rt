@@ -1,8 +1,12 @@
 // The types and the numbers of the bead index: what the definitions in specs/ speak of and the code works on.
-// There is no code here. Limits, the layout of a page, the numbers that records hold and calls return; the root
-// record, a party's record, lock modes, answers, and the two kinds of address.
+// Limits, the layout of a page, the numbers that records hold; why a call is refused; the root record, a party's
+// record, lock modes, answers, and the two kinds of address. The code here turns damage into a refusal, and a refusal
+// into the table's number.
 
 #![tactic(auto)]
+
+ghost use Rattle.std.specs.Prelude.{◌≡◌};
+ghost use Rattle.model.specs.Answers.{cause_number};
 
 // ---- Limits (document 01, "What it covers")
 
@@ -72,32 +76,67 @@ pub const ABSENT: u32 = 4;
 
 pub const NO_PAGE: u32 = 5;
 
-// ---- Refusals (document 01, "Refused calls"), in the table's order; 0 is no cause.
+// ---- Refusals (document 01, "Refused calls"; document 02, changes 2 and 6)
 
-pub const NO_CAUSE: u32 = 0;
+// Why a call is refused, in the order in which the tests run; `cause_number` (specs/Answers.antt) has the table's
+// number of each.
+#[derive(Clone, Copy, PartialEq, Eq)]
+pub enum Refusal {
+    // "a size outside its limits".
+    Size,
+    // "a lent length other than" what the sizes ask for.
+    Length,
+    // "8 when a condition fails, tested after 2 and 1": take-up alone meets it.
+    Unsaved,
+    // "party number Q or above".
+    Party,
+    // "begin for a party not idle".
+    Busy,
+    // "step for an idle party".
+    Idle,
+    // "7 when the decisive step has been taken": withdraw alone meets it.
+    Decided,
+    // "a damaged number".
+    Damage,
+}
 
-pub const SIZE_REFUSED: u32 = 2;
+// A damaged number was met where a chain or the free list is walked.
+#[derive(Clone, Copy, PartialEq, Eq)]
+pub struct Damaged;
 
-pub const LENGTH_REFUSED: u32 = 1;
+impl From<Damaged> for Refusal {
+    ghost use Rattle.model.specs.declared.Refusal.{Refusal};
 
-pub const PARTY_REFUSED: u32 = 3;
+    ghost from_gives = { λ _ r. r ≡ Refusal.Damage };
 
-pub const BUSY_REFUSED: u32 = 4;
+    fn from(_damaged: Damaged) -> Refusal {
+        Refusal::Damage
+    }
+}
 
-pub const IDLE_REFUSED: u32 = 5;
+impl From<Refusal> for u32 {
+    ghost from_gives = { λ c n. n ≡ cause_number c };
 
-pub const DECIDED_REFUSED: u32 = 7;
-
-pub const DAMAGE: u32 = 6;
-
-// "8 when a condition fails, tested after 2 and 1": take-up alone meets it (document 02, change 6).
-pub const UNSAVED_REFUSED: u32 = 8;
+    #[tactic(auto, unfolding(crate::specs::Answers::cause_number))]
+    fn from(refusal: Refusal) -> u32 {
+        match refusal {
+            Refusal::Length => 1,
+            Refusal::Size => 2,
+            Refusal::Party => 3,
+            Refusal::Busy => 4,
+            Refusal::Idle => 5,
+            Refusal::Damage => 6,
+            Refusal::Decided => 7,
+            Refusal::Unsaved => 8,
+        }
+    }
+}
 
 // ---- Records
 
 // The root record (document 01, "The lent memory"). Document 01 calls the first five N, b, P, V and Q.
 #[repr(C)]
-#[derive(Clone, Copy)]
+#[derive(Clone, Copy, PartialEq, Eq, Default)]
 pub struct Root {
     pub originals: u32,
     // The most records that a page holds.
@@ -115,7 +154,7 @@ pub struct Root {
 }
 
 // The sizes that a file is formatted with, as in the root record: N, b, P, V and Q.
-#[derive(Clone, Copy)]
+#[derive(Clone, Copy, PartialEq, Eq)]
 pub struct FileSizes {
     pub originals: u32,
     pub capacity: u32,
@@ -126,7 +165,7 @@ pub struct FileSizes {
 
 // A party's record (document 01, "The lent memory"). `old` is the old overflow link, a link word.
 #[repr(C)]
-#[derive(Clone, Copy)]
+#[derive(Clone, Copy, PartialEq, Eq, Default)]
 pub struct Party {
     pub operation: u32,
     pub key: u32,
@@ -142,22 +181,22 @@ pub struct Party {
 }
 
 // A record of the file: "a key and a 32-bit setting".
-#[derive(Clone, Copy)]
+#[derive(Clone, Copy, PartialEq, Eq)]
 pub struct Entry {
     pub key: u32,
     pub setting: u32,
 }
 
 // A bucket chain's number: that of its primary page and, plus one, of its lock word.
-#[derive(Clone, Copy)]
+#[derive(Clone, Copy, PartialEq, Eq)]
 pub struct ChainAddress(pub u32);
 
 // A page's number, counted over primary, overflow and scratch pages.
-#[derive(Clone, Copy)]
+#[derive(Clone, Copy, PartialEq, Eq)]
 pub struct PageAddress(pub u32);
 
 // The three kinds of lock, weakest first.
-#[derive(Clone, Copy)]
+#[derive(Clone, Copy, PartialEq, Eq)]
 pub enum Mode {
     Read,
     Selective,
@@ -165,7 +204,7 @@ pub enum Mode {
 }
 
 // What a party can begin, beside its key. An insert has the setting that goes into the file with the key.
-#[derive(Clone, Copy)]
+#[derive(Clone, Copy, PartialEq, Eq)]
 pub enum Operation {
     Find,
     Insert(u32),
@@ -173,7 +212,7 @@ pub enum Operation {
 }
 
 // What an operation answers. Found has the setting of the key.
-#[derive(Clone, Copy)]
+#[derive(Clone, Copy, PartialEq, Eq)]
 pub enum OperationAnswer {
     Found(u32),
     Absent,
@@ -184,7 +223,7 @@ pub enum OperationAnswer {
 }
 
 // The restructuring that an operation made or skipped.
-#[derive(Clone, Copy)]
+#[derive(Clone, Copy, PartialEq, Eq)]
 pub enum Restructuring {
     None,
     Split,
@@ -193,47 +232,18 @@ pub enum Restructuring {
     MergeSkipped,
 }
 
-// What a call of step answers.
-#[derive(Clone, Copy)]
+// What a call of step answers that is not refused.
+#[derive(Clone, Copy, PartialEq, Eq)]
 pub enum StepAnswer {
     Waiting,
     Moved,
     Done(OperationAnswer, Restructuring),
-    Refused(u32),
-}
-
-// What a call of begin answers.
-#[derive(Clone, Copy)]
-pub enum BeginAnswer {
-    Begun,
-    Refused(u32),
-}
-
-// What a call of withdraw answers.
-#[derive(Clone, Copy)]
-pub enum WithdrawAnswer {
-    Withdrawn,
-    Refused(u32),
-}
-
-// What a call of take-up answers.
-#[derive(Clone, Copy)]
-pub enum TakeUpAnswer {
-    TakenUp,
-    Refused(u32),
-}
-
-// What a call of format answers.
-#[derive(Clone, Copy)]
-pub enum FormatAnswer {
-    Formatted,
-    Refused(u32),
 }
 
 // What one step leaves beside the lent words.
-#[derive(Clone, Copy)]
+#[derive(Clone, Copy, PartialEq, Eq)]
 pub struct Stepped {
     pub root: Root,
     pub party: Party,
-    pub answer: StepAnswer,
+    pub answer: Result<StepAnswer, Refusal>,
 }

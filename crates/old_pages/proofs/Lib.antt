@@ -1,3 +1,2 @@
 -- Laws that the proofs of this crate share.
-pub mod OldLock
-pub mod OldPages
+pub mod GivenBack

@@ -3,82 +3,71 @@
 
 #![tactic(auto)]
 
-ghost use Rattle.std.specs.Prelude.{◌≡◌, true, length};
+ghost use Rattle.std.specs.Prelude.{◌≡◌, true};
 ghost use Rattle.model.specs.Pages.{names_overflow};
 ghost use Rattle.model.specs.Chains.{list_from};
 ghost use Rattle.model.specs.Steps.OldPages as OldPages;
-ghost use Rattle.records.specs.Words.{root_words, root_in, party_in, seen, left, AtHand};
+ghost use Rattle.records.specs.Work.{seen, left, AtHand};
 ghost use Rattle.chains.specs.Walks.{counted};
-ghost use Rattle.chains.specs.declared.Walked.TheVariants as Walked;
 ghost use Rattle.free_list.specs.Giving.{listed};
 
-use chains::Walked;
-use model::{ChainAddress, DAMAGE, Mode, Root, StepAnswer};
-use records::{CHAIN, FREE, HEAD, OLD};
+use lock_requests::Lock;
+use model::{ChainAddress, Mode, Refusal, StepAnswer};
+use records::Working;
 
 // "13, if there are old overflow pages, request exclusive on the chain."
+#[tactic(auto, unfolding(model::specs::Steps::OldPages::step13))]
 pub fn step_13(
-    root: Root,
-    party: &mut [u32],
-    q: u32,
+    work: &mut Working,
     locks: &mut [u32],
     pages: &mut [u32],
-) -> StepAnswer
-    requires { AtHand root party.old q locks.old pages.old }
-    ensures { left result root party.new q locks.new pages.new ≡ OldPages.step13 (seen root party.old q locks.old pages.old) }
+) -> Result<StepAnswer, Refusal>
+    requires { AtHand work.old locks.old pages.old }
+    ensures { left result work.new locks.new pages.new ≡ OldPages.step13 (seen work.old locks.old pages.old) }
 {
-    if !chains::names_overflow(root, party[OLD]) {
-        return StepAnswer::Refused(DAMAGE);
+    if !chains::names_overflow(work.root, work.party.old) {
+        return Err(Refusal::Damage);
     }
-    let word = lock_requests::chain_word(ChainAddress(party[CHAIN]));
-    lock_requests::request_step(party, q, locks, word, Mode::Exclusive, 14)
+    let lock = Lock::chain(ChainAddress(work.party.chain), Mode::Exclusive);
+    Ok(lock_requests::request(work, locks, lock, 14))
 }
 
 // The n old pages are given back, the old link zeroed, the chain given up. "a free count that giving back would take above V" is damage, and so is
 // "a lock given up ... that is not held".
+#[tactic(auto, unfolding(model::specs::Steps::OldPages::old_given_back))]
 fn old_given_back(
-    root: &mut [u32],
-    party: &mut [u32],
-    q: u32,
+    work: &mut Working,
     n: u32,
     locks: &mut [u32],
     pages: &mut [u32],
-) -> StepAnswer
-    requires { (length root.old ≡ root_words) × (AtHand (root_in root.old) party.old q locks.old pages.old) × (names_overflow (root_in root.old) (party_in party.old).old ≡ true) × (counted (list_from (root_in root.old) pages.old (party_in party.old).old) ≡ Walked.Pages n) }
-    ensures { left result (root_in root.new) party.new q locks.new pages.new ≡ OldPages.old_given_back (seen (root_in root.old) party.old q locks.old pages.old) (listed (list_from (root_in root.old) pages.old (party_in party.old).old)) }
+) -> Result<StepAnswer, Refusal>
+    requires { (AtHand work.old locks.old pages.old) × (names_overflow work.old.root work.old.party.old ≡ true) × (counted (list_from work.old.root pages.old work.old.party.old) ≡ Ok n) }
+    ensures { left result work.new locks.new pages.new ≡ OldPages.old_given_back (seen work.old locks.old pages.old) (listed (list_from work.old.root pages.old work.old.party.old)) }
 {
-    let r = records::root_of(&root[..]);
-    if r.overflow < r.free + n {
-        return StepAnswer::Refused(DAMAGE);
+    if work.root.overflow < work.root.free + n {
+        return Err(Refusal::Damage);
     }
-    let word = lock_requests::chain_word(ChainAddress(party[CHAIN]));
-    if !lock_requests::give_up(locks, word, q, Mode::Exclusive) {
-        return StepAnswer::Refused(DAMAGE);
-    }
-    let after = free_list::give_back(r, party[OLD], n, pages);
-    root[HEAD] = after.head;
-    root[FREE] = after.free;
-    party[OLD] = 0;
-    write::onward(after, party, q, pages)
+    let held = Lock::chain(ChainAddress(work.party.chain), Mode::Exclusive);
+    lock_requests::give_up(&*work, locks, &[held])?;
+    work.root = free_list::give_back(work.root, work.party.old, n, pages);
+    work.party.old = 0;
+    Ok(write::onward(work, pages))
 }
 
 // "14 give them back in chain order, zero the old link and give up the lock." The list is walked to its end before a word is written.
+#[tactic(auto, unfolding(model::specs::Steps::OldPages::step14))]
 pub fn step_14(
-    root: &mut [u32],
-    party: &mut [u32],
-    q: u32,
+    work: &mut Working,
     locks: &mut [u32],
     pages: &mut [u32],
-) -> StepAnswer
-    requires { (length root.old ≡ root_words) × AtHand (root_in root.old) party.old q locks.old pages.old }
-    ensures { left result (root_in root.new) party.new q locks.new pages.new ≡ OldPages.step14 (seen (root_in root.old) party.old q locks.old pages.old) }
+) -> Result<StepAnswer, Refusal>
+    requires { AtHand work.old locks.old pages.old }
+    ensures { left result work.new locks.new pages.new ≡ OldPages.step14 (seen work.old locks.old pages.old) }
 {
-    let r = records::root_of(&root[..]);
-    if !chains::names_overflow(r, party[OLD]) {
-        return StepAnswer::Refused(DAMAGE);
+    let first = work.party.old;
+    if !chains::names_overflow(work.root, first) {
+        return Err(Refusal::Damage);
     }
-    let Walked::Pages(n) = chains::count_pages(r, &pages[..], party[OLD]) else {
-        return StepAnswer::Refused(DAMAGE);
-    };
-    old_given_back(root, party, q, n, locks, pages)
+    let n = chains::count_pages(work.root, &pages[..], first)?;
+    old_given_back(work, n, locks, pages)
 }

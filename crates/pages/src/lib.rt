@@ -1,9 +1,10 @@
 // Pages read from and written to the page memory, sixteen words each (document 01, "The lent memory").
-// Main statements: load is page_of, store is with_page, for every memory that has the page; zero is a list of zeros.
+// Main statements: load is page_of and word is one word of it, store is with_page, for every memory that has the page;
+// zero is a list of zeros.
 
 #![tactic(auto)]
 
-ghost use Rattle.std.specs.Prelude.{◌≡◌, ◌+◌, ◌*◌, ◌≤◌, length, replicate};
+ghost use Rattle.std.specs.Prelude.{◌≡◌, ◌+◌, ◌*◌, ◌≤◌, ◌<◌, length, get_or, replicate};
 ghost use Rattle.model.specs.Sizes.{page_words};
 ghost use Rattle.model.specs.Pages.{page_of, with_page};
 
@@ -21,14 +22,17 @@ pub fn load(pages: &[u32], p: PageAddress) -> Page
     requires { p.0 * page_words + page_words ≤ length pages.now }
     ensures { result ≡ page_of pages.now p.0 }
 {
-    let at = first_word(p);
-    let mut w = [0u32; PAGE_WORDS];
-    let mut i = 0;
-    while i < PAGE_WORDS {
-        w[i] = pages[at + i];
-        i += 1;
-    }
-    w
+    let start = first_word(p);
+    let end = start + PAGE_WORDS;
+    pages[start..end].try_into().unwrap()
+}
+
+// The word at `place` of page `p`: the page's other words are not read.
+pub fn word(pages: &[u32], p: PageAddress, place: usize) -> u32
+    requires { (p.0 * page_words + page_words ≤ length pages.now) × (place < page_words) }
+    ensures { result ≡ get_or (page_of pages.now p.0) place 0 }
+{
+    pages[first_word(p) + place]
 }
 
 // "A step that writes a page is handed only that page's words": `page` is those, and they become `w`.
@@ -36,11 +40,7 @@ fn fill(page: &mut [u32], w: Page)
     requires { length page.old ≡ page_words }
     ensures { page.new ≡ w }
 {
-    let mut i = 0;
-    while i < PAGE_WORDS {
-        page[i] = w[i];
-        i += 1;
-    }
+    page.copy_from_slice(&w);
 }
 
 // Page `p` becomes `w`.
@@ -57,9 +57,5 @@ pub fn store(pages: &mut [u32], p: PageAddress, w: Page)
 pub fn zero(words: &mut [u32])
     ensures { words.new ≡ replicate (length words.old) 0 }
 {
-    let mut i = 0;
-    while i < words.len() {
-        words[i] = 0;
-        i += 1;
-    }
+    words.fill(0);
 }

@@ -1,8 +1,10 @@
 -- A pattern matched with a line byte by byte.
--- Main statements: for the pattern at i and the line at j, hole-full, hole-unread, hole-read, byte-end, byte-other, byte-same, pattern-end; read_told (a number
--- read is the number at that place); Run (a match under way), hole-run, byte-run; matched_at; match_rest_lem (what a match leaves is the end of the line); matched-to_end, unmatched_to_end.
+-- Main statements: for the pattern at i and the line at j, hole_full, hole_unread, hole_read, byte_other, byte_same, pattern_end; read_told (a number
+-- read is the number at that place); Run (a match under way), hole_run, byte_run, no_match, all_matched; match_rest_lem (what a match leaves is the end of the line);
+-- rest_matched, rest_other (a match up to the end).
 use mathlib.Core.Path.{◌≡◌, refl, sym, ap, ◌∙◌}
 use mathlib.Core.Bool.{Bool, true, false, cond, ◌&&◌}
+use mathlib.Core.Logic.{◌⊎◌, inl, inr}
 use mathlib.Core.List.{List, [], ◌∷◌, ◌++◌}
 use Prim.Native.Nat.{ℕ, suc, ◌+◌, ◌-◌, ◌*◌, ◌≤◌, ◌<◌}
 use native.Mathlib.Omega.{arith}
@@ -11,7 +13,10 @@ use lib.Seq.{drop-drop, set-append_seam, append_snoc, take-suc-set, length-take-
 use lib.Dec.{eqb, leb, ltb}
 use native.Mathlib.Numerals.{add-one}
 use borrow.Author.Tests.{lt-ltb, le-ltb, eq-eqb, ne_eqb}
+use Rattle.std.specs.Prelude.{None, Some}
+use Rattle.std.specs.Bool.{then_some}
 use Rattle.patterns.specs.declared.Number.{Number}
+use Rattle.patterns.specs.declared.Match.{Match}
 use Rattle.patterns.specs.Numbers.{is_digit, largest, most_digits, Scan, unread, read, ended, scan, scanned}
 use Rattle.patterns.specs.Patterns.{hole, Matching, no, yes, and_then, after_number, number_in, byte_in, symbol_in, match_from, to_end, padded, matched}
 use Rattle.patterns.proofs.Tests.{next_of, left-from}
@@ -32,13 +37,10 @@ module _ (p l ns : List ℕ) (i j : ℕ) where
   unfolding match_from symbol_in number_in and_then after_number
   hole_read v rest h e room s = ap (λ (q : List ℕ). match_from q ns (drop j l)) (next_of p i h) ∙ rw (eq-eqb (get_or p i 0) hole e, lt-ltb (length ns) 5 room, s)
 
-  pub byte_end : i < length p → (get_or p i 0 ≡ hole → ⊥) → length l ≤ j → match_from (drop i p) ns (drop j l) ≡ no
+  pub byte_other : i < length p → (get_or p i 0 ≡ hole → ⊥) → (length l ≤ j) ⊎ ((j < length l) × (get_or l j 0 ≡ get_or p i 0 → ⊥)) → match_from (drop i p) ns (drop j l) ≡ no
   unfolding match_from symbol_in byte_in and_then
-  byte_end h e short = ap (λ (q : List ℕ). match_from q ns (drop j l)) (next_of p i h) ∙ rw (ne_eqb (get_or p i 0) hole e, drop_of_length-le l short)
-
-  pub byte_other : i < length p → (get_or p i 0 ≡ hole → ⊥) → j < length l → (get_or l j 0 ≡ get_or p i 0 → ⊥) → match_from (drop i p) ns (drop j l) ≡ no
-  unfolding match_from symbol_in byte_in and_then
-  byte_other h e k other = ap (λ (q : List ℕ). match_from q ns (drop j l)) (next_of p i h) ∙ rw (ne_eqb (get_or p i 0) hole e, next_of l j k, ne_eqb (get_or l j 0) (get_or p i 0) other)
+  byte_other h e (inl short) = ap (λ (q : List ℕ). match_from q ns (drop j l)) (next_of p i h) ∙ rw (ne_eqb (get_or p i 0) hole e, drop_of_length-le l short)
+  byte_other h e (inr other) = ap (λ (q : List ℕ). match_from q ns (drop j l)) (next_of p i h) ∙ rw (ne_eqb (get_or p i 0) hole e, next_of l j other.0, ne_eqb (get_or l j 0) (get_or p i 0) other.1)
 
   pub byte_same : i < length p → (get_or p i 0 ≡ hole → ⊥) → j < length l → get_or l j 0 ≡ get_or p i 0
       → match_from (drop i p) ns (drop j l) ≡ match_from (drop (i + 1) p) ns (drop (j + 1) l)
@@ -89,21 +91,21 @@ end_later l rest j h e =
     let short : e.from ≤ length l - j = rw length-drop at e.within in
     record { from = j + e.from; within = omega arith; same = e.same ∙ drop-drop e.from j l }
 
-told_read : (n : ℕ) (s : Scan) (v next : ℕ) → scanned n s ≡ Number.Read v next → (rest : List ℕ) × (s ≡ read v rest) × (next ≡ n - length rest)
+told_read : (n : ℕ) (s : Scan) (number : Number) → scanned n s ≡ Some number → (rest : List ℕ) × (s ≡ read number.value rest) × (number.next ≡ n - length rest)
 unfolding scanned
-told_read n unread v next e = absurd (let z : ◌≡◌ {A = ℕ} 0 1 = cc in omega arith)
-told_read n (read w rest) v next e = (rest, cc, cc)
+told_read n unread number e = cc
+told_read n (read w rest) number e = (rest, cc, cc)
 
 -- The code's answer tells the number at place j and the place behind it.
-pub read_told : (l : List ℕ) (j v next : ℕ) → j ≤ length l → scanned (length l) (scan 0 0 (drop j l)) ≡ Number.Read v next
-    → (scan 0 0 (drop j l) ≡ read v (drop next l)) × (next ≤ length l)
-read_told l j v next h e =
-    let told = told_read (length l) (scan 0 0 (drop j l)) v next e in
-    let left = end_from l told.0 (end_later l told.0 j h (scan_rest 0 0 (drop j l) v told.0 told.1)) in
-    let same : drop next l ≡ told.0 = ap (λ (m : ℕ). drop m l) told.2 ∙ left.0 in
+pub read_told : (l : List ℕ) (j : ℕ) (number : Number) → j ≤ length l → scanned (length l) (scan 0 0 (drop j l)) ≡ Some number
+    → (scan 0 0 (drop j l) ≡ read number.value (drop number.next l)) × (number.next ≤ length l)
+read_told l j number h e =
+    let told = told_read (length l) (scan 0 0 (drop j l)) number e in
+    let left = end_from l told.0 (end_later l told.0 j h (scan_rest 0 0 (drop j l) number.value told.0 told.1)) in
+    let same : drop number.next l ≡ told.0 = ap (λ (m : ℕ). drop m l) told.2 ∙ left.0 in
     (rw same told.1, omega (arith, told.2))
 
-pub unread_told : (n : ℕ) (s : Scan) → scanned n s ≡ Number.Unread → s ≡ unread
+pub unread_told : (n : ℕ) (s : Scan) → scanned n s ≡ None → s ≡ unread
 unfolding scanned
 unread_told n unread e = refl
 unread_told n (read w rest) e = cc
@@ -125,11 +127,6 @@ padded_more numbers k v h five e =
     let front : take (k + 1) (set numbers k v) ≡ take k numbers ++ (v ∷ []) = rw add-one (take-suc-set numbers k v (omega arith)) in
     ap padded front ∙ sym stored ∙ ap (λ (m : List ℕ). set m k v) e
 
-pub matched_at : (l numbers : List ℕ) (j k : ℕ) → j ≤ length l → padded (take k numbers) ≡ numbers
-    → matched (length l) (yes (take k numbers) (drop j l)) ≡ record { matched = true; next = j; numbers = numbers }
-unfolding matched
-matched_at l numbers j k h e = rw (left-from l j h, e)
-
 -- ---- A match under way
 
 -- Of pattern p and line l from place `at` on: i bytes of the pattern and the line up to j are passed, and the first k of numbers were found.
@@ -149,19 +146,21 @@ module _ {p l : List ℕ} {at : ℕ} {numbers : List ℕ} {k j i : ℕ} (run : R
   pub found : length (take k numbers) ≡ k
   found = length-take-le k numbers (omega (arith, run.few, run.five))
 
-  pub hole_run : i < length p → get_or p i 0 ≡ hole → k < 5 → {v next : ℕ} → scanned (length l) (scan 0 0 (drop j l)) ≡ Number.Read v next
-      → Run p l at (set numbers k v) (k + 1) next (i + 1)
-  hole_run more e room {v} {next} told =
-      let number = read_told l j v next run.reach told in
+  pub hole_run : i < length p → get_or p i 0 ≡ hole → k < 5 → {number : Number} → scanned (length l) (scan 0 0 (drop j l)) ≡ Some number
+      → Run p l at (set numbers k number.value) (k + 1) number.next (i + 1)
+  hole_run more e room {number} told =
+      let v = number.value in
+      let next = number.next in
+      let there = read_told l j number run.reach told in
       let ns = take k numbers in
       let front : take (k + 1) (set numbers k v) ≡ ns ++ (v ∷ []) = rw add-one (take-suc-set numbers k v (omega (arith, run.five))) in
       record {
         within = omega arith;
         few = omega arith;
-        reach = number.1;
+        reach = there.1;
         five = length-set numbers k v ∙ run.five;
         held = padded_more numbers k v room run.five run.held;
-        same = run.same ∙ hole_read p l ns i j v (drop next l) more e (omega (arith, found)) number.0 ∙ ap (λ (ms : List ℕ). match_from (drop (i + 1) p) ms (drop next l)) (sym front);
+        same = run.same ∙ hole_read p l ns i j v (drop next l) more e (omega (arith, found)) there.0 ∙ ap (λ (ms : List ℕ). match_from (drop (i + 1) p) ms (drop next l)) (sym front);
       }
 
   pub byte_run : i < length p → (get_or p i 0 ≡ hole → ⊥) → j < length l → get_or l j 0 ≡ get_or p i 0 → Run p l at numbers k (j + 1) (i + 1)
@@ -173,6 +172,15 @@ module _ {p l : List ℕ} {at : ℕ} {numbers : List ℕ} {k j i : ℕ} (run : R
     held = run.held;
     same = run.same ∙ byte_same p l (take k numbers) i j more e there same;
   }
+
+  -- Where the rest of the pattern does not match the rest of the line, there is no match.
+  pub no_match : match_from (drop i p) (take k numbers) (drop j l) ≡ no → None ≡ matched (length l) (match_from p [] (drop at l))
+  unfolding matched
+  no_match none = sym (ap (matched (length l)) (run.same ∙ none))
+
+  pub all_matched : length p ≤ i → Some (record { next = j; numbers = numbers }) ≡ matched (length l) (match_from p [] (drop at l))
+  unfolding matched
+  all_matched done = rw (run.same, pattern_end p l (take k numbers) i j done, left-from l j run.reach, run.held) refl
 
 -- ---- What a match leaves is the end of the line
 
@@ -221,22 +229,34 @@ match_rest_lem (b ∷ p) ns l ms rest e = go (symbol_in b ns l) refl (λ xs m. m
     go no q ih f = absurd (let z : ◌≡◌ {A = ℕ} 0 1 = cc in omega arith)
     go (yes xs m) q ih f = end_of_end l m rest (symbol_rest b ns l xs m q) (ih xs m f)
 
--- The place that the code answers is in the line.
-pub next_within : (n : ℕ) (m : Matching) → (matched n m).next ≤ n
-unfolding matched
-next_within n no = omega arith
-next_within n (yes ns rest) = omega arith
-
 -- ---- A match up to the end of the line
 
-pub matched-to_end : (n : ℕ) (m : Matching) → ((ns rest : List ℕ) → m ≡ yes ns rest → length rest ≤ n) → (matched n m).next ≡ n → matched n m ≡ matched n (to_end m)
-unfolding matched to_end
-matched-to_end n no h e = refl
-matched-to_end n (yes ns []) h e = refl
-matched-to_end n (yes ns (c ∷ rest)) h e = absurd (let short = h ns (c ∷ rest) refl in omega arith)
+shorter : (p l : List ℕ) (at : ℕ) (ns rest : List ℕ) → match_from p [] (drop at l) ≡ yes ns rest → length rest ≤ length l
+shorter p l at ns rest e = omega (arith, (end_from (drop at l) rest (match_rest_lem p [] (drop at l) ns rest e)).1, length-drop at l)
 
-pub unmatched_to_end : (n : ℕ) (m : Matching) → ((matched n m).next ≡ n → ⊥) → matched 0 no ≡ matched n (to_end m)
+-- A match is kept where the place behind it is the end.
+kept : (n : ℕ) (m : Matching) → ((ns rest : List ℕ) → m ≡ yes ns rest → length rest ≤ n) → (f : Match)
+    → Some f ≡ matched n m → then_some (eqb f.next n) f ≡ matched n (to_end m)
 unfolding matched to_end
-unmatched_to_end n no h = refl
-unmatched_to_end n (yes ns []) h = absurd (h (omega arith))
-unmatched_to_end n (yes ns (c ∷ rest)) h = refl
+kept n no short f e = cc
+kept n (yes ns []) short f e =
+    let place : f.next ≡ n - 0 = cc in
+    rw (eq-eqb f.next n (omega arith)) e
+kept n (yes ns (c ∷ rest)) short f e =
+    let some : suc (length rest) ≤ n = short ns (c ∷ rest) refl in
+    let place : f.next ≡ n - suc (length rest) = cc in
+    let before : f.next ≡ n → ⊥ = λ q. omega arith in
+    rw (ne_eqb f.next n before)
+
+none_kept : (n : ℕ) (m : Matching) → None ≡ matched n m → None ≡ matched n (to_end m)
+unfolding matched to_end
+none_kept n no e = refl
+none_kept n (yes ns rest) e = cc
+
+module _ (p l : List ℕ) (at : ℕ) where
+  pub rest_matched : {f : Match} → Some f ≡ matched (length l) (match_from p [] (drop at l))
+      → then_some (eqb f.next (length l)) f ≡ matched (length l) (to_end (match_from p [] (drop at l)))
+  rest_matched {f} e = kept (length l) (match_from p [] (drop at l)) (shorter p l at) f e
+
+  pub rest_other : None ≡ matched (length l) (match_from p [] (drop at l)) → None ≡ matched (length l) (to_end (match_from p [] (drop at l)))
+  rest_other e = none_kept (length l) (match_from p [] (drop at l)) e

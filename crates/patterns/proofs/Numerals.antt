@@ -12,7 +12,6 @@ use borrow.Author.Tests.{lt-ltb, le-leb, ne_eqb, ltb-true, leb-true, eqb-false, 
 use Rattle.patterns.specs.Numbers.{is_digit, all_digits, value_from, value_of, most_digits, largest, unread, read, ended, scan, digits, width, width_of, decimal}
 use Rattle.patterns.specs.Grammar.{Numeral}
 use Rattle.patterns.proofs.Tests.{Told, holds, fails, tell, both_true}
-use Rattle.patterns.proofs.Scanning.{a_digit}
 use Rattle.patterns.proofs.Spelling.{width_more, width-done, length_digits, length-decimal}
 
 -- No digit stands at the head of a line.
@@ -143,6 +142,10 @@ all_append [] c h d = rw d refl
 all_append (b ∷ ds) c h d =
     let all = both_true (is_digit b) (all_digits ds) h in
     rw all.0 (all_append ds c all.1 d)
+
+a_digit : (c : ℕ) → 48 ≤ c → c ≤ 57 → is_digit c ≡ true
+unfolding is_digit
+a_digit c h k = rw (le-leb 48 c h, le-leb c 57 k)
 
 all_digits_lem : (k n : ℕ) → all_digits (digits k n) ≡ true
 unfolding digits all_digits

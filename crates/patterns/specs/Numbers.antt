@@ -1,6 +1,6 @@
 -- Numbers in a line: one to ten decimal digits, leading zeros allowed, of a value that fits 32 bits; and a number in decimal without leading zeros.
 -- Main definitions: is_digit, all_digits, value_of; scan (the number at the head of a line, read as far as there are digits); decimal.
-use Rattle.std.specs.Prelude.{Bool, true, cond, ◌&&◌, List, [], ◌∷◌, ◌++◌, ℕ, zero, suc, ◌+◌, ◌-◌, ◌*◌, ◌/◌, ◌%◌, length, eqb, leb, ltb}
+use Rattle.std.specs.Prelude.{Bool, true, cond, ◌&&◌, Option, None, Some, List, [], ◌∷◌, ◌++◌, ℕ, zero, suc, ◌+◌, ◌-◌, ◌*◌, ◌/◌, ◌%◌, length, eqb, leb, ltb}
 use Rattle.patterns.specs.declared.Number.{Number}
 
 -- "0" and "9".
@@ -42,12 +42,9 @@ scan k v [] = ended k v []
 scan k v (c ∷ l) = cond (is_digit c) (cond (eqb k most_digits) unread (scan (suc k) (v * 10 + (c - 48)) l)) (ended k v (c ∷ l))
 
 -- As the code answers, in a line of n bytes: the rest is the place where it begins.
-unfoldable pub scanned : ℕ → Scan → Number
-scanned n unread = Number.Unread
-scanned n (read v rest) = Number.Read v (n - length rest)
-
-unfoldable pub number_of : ℕ → ℕ → ℕ → Number
-number_of v k next = cond (ltb 0 k && leb v largest) (Number.Read v next) Number.Unread
+unfoldable pub scanned : ℕ → Scan → Option Number
+scanned n unread = None
+scanned n (read v rest) = Some (record { value = v; next = n - length rest })
 
 -- ---- Printing
 

@@ -1,6 +1,6 @@
 -- Patterns: lists of bytes in which `#` stands for a number and every other byte for itself.
 -- Main definitions: match_from (a pattern at the head of a line), to_end, filled (the text of a pattern with numbers in its holes).
-use Rattle.std.specs.Prelude.{Bool, true, false, cond, ◌&&◌, List, [], ◌∷◌, ◌++◌, ℕ, ◌-◌, length, get_or, drop, replicate, eqb, ltb}
+use Rattle.std.specs.Prelude.{cond, Option, None, Some, List, [], ◌∷◌, ◌++◌, ℕ, ◌-◌, length, get_or, drop, replicate, eqb, ltb}
 use Rattle.patterns.specs.declared.Match.{Match}
 use Rattle.patterns.specs.Numbers.{Scan, unread, read, scan, decimal}
 
@@ -53,15 +53,9 @@ unfoldable pub padded : List ℕ → List ℕ
 padded ns = ns ++ replicate (most_numbers - length ns) 0
 
 -- As the code answers, in a line of n bytes: the rest is the place where it begins.
-unfoldable pub matched : ℕ → Matching → Match
-matched n no = record { matched = false; next = 0; numbers = replicate most_numbers 0 }
-matched n (yes ns rest) = record { matched = true; next = n - length rest; numbers = padded ns }
-
--- Whether a text stands at the head of a line.
-unfoldable pub starts_with : List ℕ → List ℕ → Bool
-starts_with [] l = true
-starts_with (b ∷ p) [] = false
-starts_with (b ∷ p) (c ∷ l) = eqb c b && starts_with p l
+unfoldable pub matched : ℕ → Matching → Option Match
+matched n no = None
+matched n (yes ns rest) = Some (record { next = n - length rest; numbers = padded ns })
 
 -- ---- Printing
 

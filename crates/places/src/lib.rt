@@ -11,7 +11,7 @@ ghost use Rattle.std.specs.Prelude.{◌≡◌, ◌<◌, ◌≤◌, length};
 ghost use Rattle.waiting_row.specs.Entry.{place_of, stands_of};
 
 use model::{Party, Root};
-use waiting_row::Place;
+use waiting_row::{Looking, Place};
 
 // The words before the first 0 are looked at, one after the other.
 fn looked_through(root: &Root, parties: &[Party], row: &[u32], q: u32) -> Place
@@ -20,27 +20,25 @@ fn looked_through(root: &Root, parties: &[Party], row: &[u32], q: u32) -> Place
 {
     let former = *root;
     let n = waiting_row::waiters(row);
-    let mine = parties[q as usize];
-    let mut seen = waiting_row::started(former, mine, waiting_row::gapless(row, n));
-    let mut i: usize = 0;
-    while i < n {
-        let word = row[i];
-        let at = waiting_row::record_of(word, parties.len(), q);
-        seen = waiting_row::looked(seen, former, q, word, parties.len(), parties[at]);
-        i += 1;
+    let gapless = waiting_row::gapless(row, n);
+    let mut seen = Looking::started(former, parties[q as usize], gapless);
+    for word in &row[..n] {
+        seen = match waiting_row::named_by(*word, parties.len()) {
+            Some(j) => seen.meets(former, q, j, parties[j as usize]),
+            None => seen.damaged(q, *word),
+        };
     }
-    waiting_row::placed(seen)
+    seen.placed()
 }
 
 // Where party q stands.
 pub fn standing(root: &Root, parties: &[Party], row: &[u32], q: u32) -> Place
     ensures { q < length parties.now → root.now.parties ≤ 16 → length parties.now ≡ root.now.parties → root.now.level ≤ 8 → result ≡ place_of root.now parties.now row.now q }
 {
-    let at = q as usize;
-    if at < parties.len() {
-        return looked_through(root, parties, row, q);
+    if (q as usize) < parties.len() {
+        looked_through(root, parties, row, q)
     } else {
-        return waiting_row::nobody();
+        Place::ALONE
     }
 }
 
@@ -49,8 +47,8 @@ pub fn placing(root: &Root, parties: &[Party], row: &[u32], q: u32) -> Place
     ensures { q < length parties.now → root.now.parties ≤ 16 → length parties.now ≡ root.now.parties → root.now.level ≤ 8 → result ≡ place_of root.now parties.now row.now q }
 {
     if waiting_row::somebody(row) {
-        return standing(root, &parties[..], &row[..], q);
+        standing(root, &parties[..], &row[..], q)
     } else {
-        return waiting_row::nobody();
+        Place::ALONE
     }
 }

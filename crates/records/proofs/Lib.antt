@@ -1,2 +1,2 @@
--- Laws that the proofs of this crate and of those above it share.
-pub mod Words
+-- Laws that the proofs above this crate share.
+pub mod Told

@@ -1,2 +1,2 @@
--- What the functions of this crate and of those above it are stated with.
-pub mod Words
+-- What the functions of the crates above are stated with.
+pub mod Work

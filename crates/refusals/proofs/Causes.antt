@@ -1,210 +1,138 @@
 -- The first cause, row by row: an earlier cause stands whatever rows follow, and where there is none the rows that
 -- follow decide.
--- Main statements: earlier_stands, none_earlier, later_decides (of any rows); size-refused, length-refused,
--- file-passed; file-stands, party-refused, place-passed; place-stands-at-begin, busy-refused, begin-passed;
--- place-stands-at-step, idle-refused, damage-refused, step-passed, row_last, row_refused (the waiting row's test comes
--- last); place-stands-at-withdraw, nothing-to-withdraw, decided-refused, damage-refused-at-withdraw,
--- row-refused-at-withdraw, withdraw-passed; file-stands-at-take-up, unsaved-refused, take-up-passed, early-stands (a
--- cause found before the words are looked at).
+-- Main statements: first_past, earlier_stands, none_earlier (of any rows); place_is, begin_is, step_is,
+-- withdraw_is, take_up_is (each cause by the cause before it and its own rows); place_stands_at_step,
+-- place_stands_at_withdraw; row_last, row_refused (the waiting row's test comes last); unsaved_refused, take_up_passed,
+-- early_stands (a cause found before the words are looked at).
 use mathlib.Core.Path.{◌≡◌, refl, sym, ◌∙◌}
 use mathlib.Core.Logic.{◌≢◌}
 use mathlib.Core.Bool.{Bool, true, false}
 use mathlib.Core.List.{List, [], ◌∷◌, ◌++◌}
-use Prim.Native.Nat.{ℕ, ◌≤◌, ◌<◌}
-use native.Mathlib.Omega.{arith}
-use borrow.Author.Tests.{le-leb, lt-leb, eq-eqb, ne_eqb}
+use Prim.Native.Nat.{ℕ}
+use Rattle.std.specs.Prelude.{Ok, Err}
+use Rattle.model.specs.declared.Refusal.{Refusal}
 use Rattle.model.specs.declared.Root.{Root}
 use Rattle.model.specs.declared.Party.{Party}
-use Rattle.model.specs.Sizes.{within_limits}
-use Rattle.model.specs.Refusals.{Row, first_cause, record_sound, party_row, busy_row, idle_row, decided_row, damage_row}
-use Rattle.model.specs.Withdraw.{is_decided}
+use Rattle.model.specs.Answers.{CallReply}
+use Rattle.model.specs.Refusals.{Row, first_cause, party_row, busy_row, idle_row, decided_row, damage_row}
 use Rattle.model.specs.TakeUp.{unsaved_row}
-use Rattle.model.proofs.Laws.Lists.{All, Cmp, cmp, same, diff}
-use Rattle.model.proofs.Theorems.Gate.{none_met}
-use Rattle.refusals.specs.Causes.{lengths_are, file_rows, place_rows, sound_row, format_cause, place_cause, begin_cause, step_cause, withdraw_cause, take_up_cause}
+use Rattle.refusals.specs.declared.Lengths.{Lengths}
+use Rattle.refusals.specs.Causes.{file_rows, place_rows, sound_row, format_cause, place_cause, begin_cause, step_cause, withdraw_cause, take_up_cause}
 
 -- ---- Any rows
 
--- A cause that is met stands, whatever rows follow.
-pub earlier_stands : (xs ys : List Row) → first_cause xs ≢ 0 → first_cause xs ≡ first_cause (xs ++ ys)
+-- A refusal, or else what the tests that follow say.
+abbrev pub past : CallReply → CallReply → CallReply
+past (Ok _) next = next
+past (Err e) next = Err e
+
+pub first_past : (xs ys : List Row) → first_cause (xs ++ ys) ≡ past (first_cause xs) (first_cause ys)
 unfolding first_cause
-earlier_stands [] ys h = absurd (h refl)
-earlier_stands (x ∷ xs) ys h = go x.met refl (λ k. earlier_stands xs ys k)
+first_past [] ys = refl
+first_past (x ∷ xs) ys = go x.met refl (first_past xs ys)
   where
-    go : (t : Bool) → x.met ≡ t → (first_cause xs ≢ 0 → first_cause xs ≡ first_cause (xs ++ ys)) → first_cause (x ∷ xs) ≡ first_cause (x ∷ (xs ++ ys))
-    go true k ih = rw k
-    go false k ih = rw k (ih (rw k at h))
+    go : (t : Bool) → x.met ≡ t → first_cause (xs ++ ys) ≡ past (first_cause xs) (first_cause ys)
+        → first_cause (x ∷ (xs ++ ys)) ≡ past (first_cause (x ∷ xs)) (first_cause ys)
+    go true k ih = rw k refl
+    go false k ih = rw k ih
+
+-- A cause that is met stands, whatever rows follow.
+pub earlier_stands : (xs ys : List Row) → first_cause xs ≢ Ok tt → first_cause xs ≡ first_cause (xs ++ ys)
+earlier_stands xs ys h = go (first_cause xs) refl ∙ sym (first_past xs ys)
+  where
+    go : (c : CallReply) → first_cause xs ≡ c → first_cause xs ≡ past (first_cause xs) (first_cause ys)
+    go (Ok t) e = absurd (h e)
+    go (Err r) e = rw e refl
 
 -- Where there is none at all, there is none among the first rows.
-pub none_earlier : (xs ys : List Row) → first_cause (xs ++ ys) ≡ 0 → first_cause xs ≡ 0
-none_earlier xs ys none = go (cmp (first_cause xs) 0)
+pub none_earlier : (xs ys : List Row) → first_cause (xs ++ ys) ≡ Ok tt → first_cause xs ≡ Ok tt
+none_earlier xs ys none = go (first_cause xs) refl
   where
-    go : Cmp (first_cause xs) 0 → first_cause xs ≡ 0
-    go (same e) = e
-    go (diff n) = earlier_stands xs ys n ∙ none
+    go : (c : CallReply) → first_cause xs ≡ c → first_cause xs ≡ Ok tt
+    go (Ok t) e = e
+    go (Err r) e = absurd (let f : Err r ≡ Ok tt = rw e at (sym (first_past xs ys) ∙ none) in cc)
 
--- Where no row is met, the rows that follow decide.
-pub later_decides : (xs ys : List Row) → All (λ x. x.met ≡ false) xs → first_cause ys ≡ first_cause (xs ++ ys)
-unfolding first_cause
-later_decides [] ys a = refl
-later_decides (x ∷ xs) ys a = rw a.0 (later_decides xs ys a.1)
+-- ---- Each cause, by the cause before it
 
--- ---- The rows that every call has
+module _ (r : Root) (l : Lengths) (q : ℕ) where
+  pub place_is : place_cause r l q ≡ past (format_cause r l) (first_cause (party_row r q ∷ []))
+  unfolding place_cause format_cause
+  place_is = first_past (file_rows r l) (party_row r q ∷ [])
 
-module _ (r : Root) (parties locks pages waiting : ℕ) where
-  pub size_refused : within_limits r ≡ false → 2 ≡ format_cause r parties locks pages waiting
-  unfolding format_cause first_cause
-  size_refused s = rw s
+module _ (r : Root) (p : Party) (l : Lengths) (q : ℕ) where
+  pub begin_is : begin_cause r p l q ≡ past (place_cause r l q) (first_cause (busy_row p ∷ []))
+  unfolding begin_cause place_cause
+  begin_is = first_past (place_rows r l q) (busy_row p ∷ [])
 
-  pub length_refused : within_limits r ≡ true → lengths_are r parties locks pages waiting ≡ false → 1 ≡ format_cause r parties locks pages waiting
-  unfolding format_cause first_cause
-  length_refused s l = rw (s, l)
+  pub step_is : (sound : Bool) → step_cause r p l q sound ≡ past (place_cause r l q) (first_cause (idle_row p ∷ (damage_row r p ∷ (sound_row sound ∷ []))))
+  unfolding step_cause place_cause
+  step_is sound = first_past (place_rows r l q) (idle_row p ∷ (damage_row r p ∷ (sound_row sound ∷ [])))
 
-  pub file_passed : within_limits r ≡ true → lengths_are r parties locks pages waiting ≡ true → 0 ≡ format_cause r parties locks pages waiting
-  unfolding format_cause first_cause
-  file_passed s l = rw (s, l)
+  pub withdraw_is : (sound : Bool) → withdraw_cause r p l q sound ≡ past (place_cause r l q) (first_cause (idle_row p ∷ (decided_row p ∷ (damage_row r p ∷ (sound_row sound ∷ [])))))
+  unfolding withdraw_cause place_cause
+  withdraw_is sound = first_past (place_rows r l q) (idle_row p ∷ (decided_row p ∷ (damage_row r p ∷ (sound_row sound ∷ []))))
 
--- ---- The rows that begin, step and withdraw share
-
-module _ (r : Root) (parties locks pages waiting q : ℕ) where
-  pub file_stands : format_cause r parties locks pages waiting ≢ 0 → format_cause r parties locks pages waiting ≡ place_cause r parties locks pages waiting q
-  unfolding format_cause place_cause
-  file_stands h = earlier_stands (file_rows r parties locks pages waiting) (party_row r q ∷ []) h
-
-  module _ (passed : format_cause r parties locks pages waiting ≡ 0) where
-    past_file : first_cause (party_row r q ∷ []) ≡ place_cause r parties locks pages waiting q
-    unfolding format_cause place_cause
-    past_file = later_decides (file_rows r parties locks pages waiting) (party_row r q ∷ []) (none_met (file_rows r parties locks pages waiting) (omega arith) passed)
-
-    pub party_refused : r.parties ≤ q → 3 ≡ place_cause r parties locks pages waiting q
-    unfolding first_cause
-    party_refused h = rw (le-leb r.parties q h) at past_file
-
-    pub place_passed : q < r.parties → 0 ≡ place_cause r parties locks pages waiting q
-    unfolding first_cause
-    place_passed h = rw (lt-leb r.parties q h) at past_file
-
--- ---- Begin, step and withdraw, by the party's record
-
-module _ (r : Root) (p : Party) (parties locks pages waiting q : ℕ) where
-  pub place_stands_at_begin : place_cause r parties locks pages waiting q ≢ 0 → place_cause r parties locks pages waiting q ≡ begin_cause r p parties locks pages waiting q
-  unfolding place_cause begin_cause
-  place_stands_at_begin h = earlier_stands (place_rows r parties locks pages waiting q) (busy_row p ∷ []) h
-
-  pub place_stands_at_step : (sound : Bool) → place_cause r parties locks pages waiting q ≢ 0 → place_cause r parties locks pages waiting q ≡ step_cause r p parties locks pages waiting q sound
+  -- A cause that begin, step and withdraw share stands for step and withdraw.
+  pub place_stands_at_step : (sound : Bool) → place_cause r l q ≢ Ok tt → place_cause r l q ≡ step_cause r p l q sound
   unfolding place_cause step_cause
-  place_stands_at_step sound h = earlier_stands (place_rows r parties locks pages waiting q) (idle_row p ∷ (damage_row r p ∷ (sound_row sound ∷ []))) h
+  place_stands_at_step sound h = earlier_stands (place_rows r l q) (idle_row p ∷ (damage_row r p ∷ (sound_row sound ∷ []))) h
 
-  pub place_stands_at_withdraw : (sound : Bool) → place_cause r parties locks pages waiting q ≢ 0 → place_cause r parties locks pages waiting q ≡ withdraw_cause r p parties locks pages waiting q sound
+  pub place_stands_at_withdraw : (sound : Bool) → place_cause r l q ≢ Ok tt → place_cause r l q ≡ withdraw_cause r p l q sound
   unfolding place_cause withdraw_cause
-  place_stands_at_withdraw sound h = earlier_stands (place_rows r parties locks pages waiting q) (idle_row p ∷ (decided_row p ∷ (damage_row r p ∷ (sound_row sound ∷ [])))) h
+  place_stands_at_withdraw sound h = earlier_stands (place_rows r l q) (idle_row p ∷ (decided_row p ∷ (damage_row r p ∷ (sound_row sound ∷ [])))) h
 
   -- A step's rows before the waiting row's own.
   abbrev rows_before : List Row
-  rows_before = place_rows r parties locks pages waiting q ++ (idle_row p ∷ (damage_row r p ∷ []))
+  rows_before = place_rows r l q ++ (idle_row p ∷ (damage_row r p ∷ []))
+
+  step_last : (sound : Bool) → step_cause r p l q sound ≡ past (first_cause rows_before) (first_cause (sound_row sound ∷ []))
+  unfolding step_cause
+  step_last sound = first_past rows_before (sound_row sound ∷ [])
 
   -- They are met whatever the row is; where none is, it decides.
-  pub row_last : (sound : Bool) → step_cause r p parties locks pages waiting q true ≢ 0
-      → step_cause r p parties locks pages waiting q true ≡ step_cause r p parties locks pages waiting q sound
-  unfolding step_cause first_cause
-  row_last sound h = go (cmp (first_cause rows_before) 0)
+  pub row_last : (sound : Bool) → step_cause r p l q true ≢ Ok tt → step_cause r p l q true ≡ step_cause r p l q sound
+  unfolding first_cause
+  row_last sound h = step_last true ∙ go (first_cause rows_before) refl ∙ sym (step_last sound)
     where
-      go : Cmp (first_cause rows_before) 0 → first_cause (rows_before ++ (sound_row true ∷ [])) ≡ first_cause (rows_before ++ (sound_row sound ∷ []))
-      go (same none) = absurd (h (sym (later_decides rows_before (sound_row true ∷ []) (none_met rows_before (omega arith) none))))
-      go (diff n) = sym (earlier_stands rows_before (sound_row true ∷ []) n) ∙ earlier_stands rows_before (sound_row sound ∷ []) n
+      go : (c : CallReply) → first_cause rows_before ≡ c
+          → past (first_cause rows_before) (first_cause (sound_row true ∷ [])) ≡ past (first_cause rows_before) (first_cause (sound_row sound ∷ []))
+      go (Ok t) e = absurd (h (step_last true ∙ rw e refl))
+      go (Err c) e = rw e refl
 
-  pub row_refused : step_cause r p parties locks pages waiting q true ≡ 0 → 6 ≡ step_cause r p parties locks pages waiting q false
-  unfolding step_cause first_cause
-  row_refused passed =
-      later_decides rows_before (sound_row false ∷ []) (none_met rows_before (omega arith) (none_earlier rows_before (sound_row true ∷ []) passed))
-
-  module _ (passed : place_cause r parties locks pages waiting q ≡ 0) where
-    unmet : All (λ x. x.met ≡ false) (place_rows r parties locks pages waiting q)
-    unfolding place_cause
-    unmet = none_met (place_rows r parties locks pages waiting q) (omega arith) passed
-
-    past_place_at_begin : first_cause (busy_row p ∷ []) ≡ begin_cause r p parties locks pages waiting q
-    unfolding begin_cause
-    past_place_at_begin = later_decides (place_rows r parties locks pages waiting q) (busy_row p ∷ []) unmet
-
-    pub busy_refused : p.operation ≢ 0 → 4 ≡ begin_cause r p parties locks pages waiting q
-    unfolding first_cause
-    busy_refused h = rw (ne_eqb p.operation 0 h) at past_place_at_begin
-
-    pub begin_passed : p.operation ≡ 0 → 0 ≡ begin_cause r p parties locks pages waiting q
-    unfolding first_cause
-    begin_passed h = rw (eq-eqb p.operation 0 h) at past_place_at_begin
-
-    past_place_at_step : (sound : Bool) → first_cause (idle_row p ∷ (damage_row r p ∷ (sound_row sound ∷ []))) ≡ step_cause r p parties locks pages waiting q sound
-    unfolding step_cause
-    past_place_at_step sound = later_decides (place_rows r parties locks pages waiting q) (idle_row p ∷ (damage_row r p ∷ (sound_row sound ∷ []))) unmet
-
-    pub idle_refused : (sound : Bool) → p.operation ≡ 0 → 5 ≡ step_cause r p parties locks pages waiting q sound
-    unfolding first_cause
-    idle_refused sound h = rw (eq-eqb p.operation 0 h) at (past_place_at_step sound)
-
-    pub damage_refused : (sound : Bool) → p.operation ≢ 0 → record_sound r p ≡ false → 6 ≡ step_cause r p parties locks pages waiting q sound
-    unfolding first_cause
-    damage_refused sound h s = rw (ne_eqb p.operation 0 h, s) at (past_place_at_step sound)
-
-    pub step_passed : p.operation ≢ 0 → record_sound r p ≡ true → 0 ≡ step_cause r p parties locks pages waiting q true
-    unfolding first_cause
-    step_passed h s = rw (ne_eqb p.operation 0 h, s) at (past_place_at_step true)
-
-    past_place_at_withdraw : (sound : Bool) → first_cause (idle_row p ∷ (decided_row p ∷ (damage_row r p ∷ (sound_row sound ∷ [])))) ≡ withdraw_cause r p parties locks pages waiting q sound
-    unfolding withdraw_cause
-    past_place_at_withdraw sound = later_decides (place_rows r parties locks pages waiting q) (idle_row p ∷ (decided_row p ∷ (damage_row r p ∷ (sound_row sound ∷ [])))) unmet
-
-    pub nothing-to_withdraw : (sound : Bool) → p.operation ≡ 0 → 5 ≡ withdraw_cause r p parties locks pages waiting q sound
-    unfolding first_cause
-    nothing-to_withdraw sound h = rw (eq-eqb p.operation 0 h) at (past_place_at_withdraw sound)
-
-    pub decided_refused : (sound : Bool) → p.operation ≢ 0 → is_decided p ≡ true → 7 ≡ withdraw_cause r p parties locks pages waiting q sound
-    unfolding first_cause
-    decided_refused sound h d = rw (ne_eqb p.operation 0 h, d) at (past_place_at_withdraw sound)
-
-    pub damage_refused_at_withdraw : (sound : Bool) → p.operation ≢ 0 → is_decided p ≡ false → record_sound r p ≡ false → 6 ≡ withdraw_cause r p parties locks pages waiting q sound
-    unfolding first_cause
-    damage_refused_at_withdraw sound h d s = rw (ne_eqb p.operation 0 h, d, s) at (past_place_at_withdraw sound)
-
-    pub row_refused_at_withdraw : (sound : Bool) → p.operation ≢ 0 → is_decided p ≡ false → record_sound r p ≡ true → sound ≡ false
-        → 6 ≡ withdraw_cause r p parties locks pages waiting q sound
-    unfolding first_cause
-    row_refused_at_withdraw sound h d s e = rw e (rw (ne_eqb p.operation 0 h, d, s) at (past_place_at_withdraw false))
-
-    pub withdraw_passed : (sound : Bool) → p.operation ≢ 0 → is_decided p ≡ false → record_sound r p ≡ true → sound ≡ true → 0 ≡ withdraw_cause r p parties locks pages waiting q sound
-    unfolding first_cause
-    withdraw_passed sound h d s e = rw e (rw (ne_eqb p.operation 0 h, d, s) at (past_place_at_withdraw true))
+  pub row_refused : step_cause r p l q true ≡ Ok tt → Err Refusal.Damage ≡ step_cause r p l q false
+  unfolding first_cause
+  row_refused passed = go (first_cause rows_before) refl ∙ sym (step_last false)
+    where
+      go : (c : CallReply) → first_cause rows_before ≡ c → Err Refusal.Damage ≡ past (first_cause rows_before) (first_cause (sound_row false ∷ []))
+      go (Ok t) e = rw e refl
+      go (Err c) e = absurd (let f : Err c ≡ Ok tt = rw e at (sym (step_last true) ∙ passed) in cc)
 
 -- ---- Take-up, by whether the file is saved
 
-module _ (r : Root) (parties locks pages waiting : ℕ) where
-  pub file_stands_at_take_up : (saved : Bool) → format_cause r parties locks pages waiting ≢ 0 → format_cause r parties locks pages waiting ≡ take_up_cause r saved parties locks pages waiting
-  unfolding format_cause take_up_cause
-  file_stands_at_take_up saved h = earlier_stands (file_rows r parties locks pages waiting) (unsaved_row saved ∷ []) h
+module _ (r : Root) (l : Lengths) where
+  pub take_up_is : (saved : Bool) → take_up_cause r saved l ≡ past (format_cause r l) (first_cause (unsaved_row saved ∷ []))
+  unfolding take_up_cause format_cause
+  take_up_is saved = first_past (file_rows r l) (unsaved_row saved ∷ [])
 
-  module _ (passed : format_cause r parties locks pages waiting ≡ 0) where
-    past_file_at_take_up : (saved : Bool) → first_cause (unsaved_row saved ∷ []) ≡ take_up_cause r saved parties locks pages waiting
-    unfolding format_cause take_up_cause
-    past_file_at_take_up saved = later_decides (file_rows r parties locks pages waiting) (unsaved_row saved ∷ []) (none_met (file_rows r parties locks pages waiting) (omega arith) passed)
-
-    pub unsaved_refused : (saved : Bool) → saved ≡ false → 8 ≡ take_up_cause r saved parties locks pages waiting
+  module _ (passed : format_cause r l ≡ Ok tt) where
+    pub unsaved_refused : (saved : Bool) → saved ≡ false → Err Refusal.Unsaved ≡ take_up_cause r saved l
     unfolding first_cause
-    unsaved_refused saved e = rw e (past_file_at_take_up false)
+    unsaved_refused saved e = rw (take_up_is saved, passed, e) refl
 
-    pub take_up_passed : (saved : Bool) → saved ≡ true → 0 ≡ take_up_cause r saved parties locks pages waiting
+    pub take_up_passed : (saved : Bool) → saved ≡ true → Ok tt ≡ take_up_cause r saved l
     unfolding first_cause
-    take_up_passed saved e = rw e (past_file_at_take_up true)
+    take_up_passed saved e = rw (take_up_is saved, passed, e) refl
 
   -- A cause that is met where only the records were looked at stands for the whole file.
-  pub early_stands : (idle saved : Bool) → (idle ≡ false → saved ≡ false) → take_up_cause r idle parties locks pages waiting ≢ 0
-      → take_up_cause r idle parties locks pages waiting ≡ take_up_cause r saved parties locks pages waiting
-  early_stands idle saved busy h = go (cmp (format_cause r parties locks pages waiting) 0)
+  pub early_stands : (idle saved : Bool) → (idle ≡ false → saved ≡ false) → take_up_cause r idle l ≢ Ok tt
+      → take_up_cause r idle l ≡ take_up_cause r saved l
+  unfolding first_cause
+  early_stands idle saved busy h = go (format_cause r l) refl
     where
-      past : (t : Bool) → idle ≡ t → format_cause r parties locks pages waiting ≡ 0 → take_up_cause r idle parties locks pages waiting ≡ take_up_cause r saved parties locks pages waiting
-      past true e passed = absurd (h (sym (take_up_passed passed idle e)))
-      past false e passed = sym (unsaved_refused passed idle e) ∙ unsaved_refused passed saved (busy e)
+      past_file : (t : Bool) → idle ≡ t → format_cause r l ≡ Ok tt → take_up_cause r idle l ≡ take_up_cause r saved l
+      past_file true e passed = absurd (h (sym (take_up_passed passed idle e)))
+      past_file false e passed = sym (unsaved_refused passed idle e) ∙ unsaved_refused passed saved (busy e)
 
-      go : Cmp (format_cause r parties locks pages waiting) 0 → take_up_cause r idle parties locks pages waiting ≡ take_up_cause r saved parties locks pages waiting
-      go (same passed) = past idle refl passed
-      go (diff n) = sym (file_stands_at_take_up idle n) ∙ file_stands_at_take_up saved n
+      go : (c : CallReply) → format_cause r l ≡ c → take_up_cause r idle l ≡ take_up_cause r saved l
+      go (Ok t) e = past_file idle refl e
+      go (Err c) e = rw (take_up_is idle, take_up_is saved, e) refl

@@ -1,39 +1,21 @@
 -- Tests made one by one against the model's conjunctions: what a conjunction that holds says of each test, and when
 -- the last test decides.
--- Main statements: refuses (of any test); root_fits (of a sound root record); fields_fit (of a sound party's record),
--- step-decides (where the record's other words pass).
-use mathlib.Core.Path.{◌≡◌, refl, sym, ◌∙◌}
+-- Main statements: fields_fit (of a sound party's record); step_decides, decides_early, decides_answered (where the
+-- record's other words pass).
+use mathlib.Core.Path.{◌≡◌, sym, ◌∙◌}
 use mathlib.Core.Logic.{◌≢◌}
-use mathlib.Core.Bool.{Bool, true, false, not, ◌||◌, true≢false}
-use Prim.Native.Nat.{ℕ, ◌+◌, ◌≤◌, ◌<◌}
+use mathlib.Core.Bool.{true, not, ◌||◌, true≢false}
+use Prim.Native.Nat.{ℕ, ◌≤◌, ◌<◌}
 use lib.Dec.{ltb, eqb}
 use native.Mathlib.Omega.{arith}
 use borrow.Author.Tests.{leb-true, ltb-true, le-leb, lt-ltb, le-ltb, eq-eqb, ne_eqb}
 use Rattle.model.specs.declared.Root.{Root}
 use Rattle.model.specs.declared.Party.{Party}
-use Rattle.model.specs.Addresses.{span, chain_count}
-use Rattle.model.specs.Refusals.{root_sound, party_sound}
+use Rattle.model.specs.Refusals.{party_sound}
 use Rattle.model.specs.Steps.Dispatch.{has_step}
 use Rattle.model.proofs.Laws.Lists.{Ord, ord, lt, ge, not-both}
 use Rattle.model.proofs.Laws.Booleans.{and_left, and_right, eq_of_iff}
 use Rattle.refusals.proofs.StepRanges.{none_other}
-
--- ---- Any test
-
--- A test that cannot hold fails.
-pub refuses : {b : Bool} → (b ≡ true → ⊥) → false ≡ b
-refuses {b = true} h = absurd (h refl)
-refuses {b = false} h = refl
-
--- ---- The root record
-
--- What level and next of a sound root record have.
-pub root_fits : (r : Root) → root_sound r ≡ true → (r.next < span r.originals r.level) × (span r.originals r.level + r.next ≤ r.primaries)
-unfolding root_sound chain_count
-root_fits r e = (
-  ltb-true r.next (span r.originals r.level) (search (and_left, and_right)),
-  leb-true (span r.originals r.level + r.next) r.primaries (search (and_left, and_right)),
-)
 
 -- ---- A party's record
 

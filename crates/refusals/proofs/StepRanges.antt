@@ -1,5 +1,5 @@
 -- Which operation has which steps, by the ranges of step numbers in which the answer is the same.
--- Main statements: every-operation-locates, find-has-nine, insert-and-delete-change, insert-splits, delete-merges;
+-- Main statements: every_operation_locates, find_has_nine, insert_and_delete_change, insert_splits, delete_merges;
 -- none_below, none_above, none_other.
 use mathlib.Core.Path.{◌≡◌}
 use mathlib.Core.Bool.{Bool, true, false, ◌&&◌, ◌||◌, and-true, and-false, or-false}

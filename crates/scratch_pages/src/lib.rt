@@ -3,39 +3,39 @@
 
 #![tactic(auto)]
 
-ghost use Rattle.std.specs.Prelude.{◌≡◌, List, ℕ, ◌<◌, length};
+ghost use Rattle.std.specs.Prelude.{◌≡◌, List, ℕ, ◌<◌};
 ghost use Rattle.model.specs.Pages.{page_of, scratch_page};
 ghost use Rattle.model.specs.ScratchPages as ScratchPages;
-ghost use Rattle.records.specs.Words.{party_words, party_in, seen, left};
+ghost use Rattle.records.specs.Work.{seen, left};
 ghost use Rattle.endings.specs.Scratch.{HasScratch};
 
-use model::{DAMAGE, Page, PageAddress, Root, StepAnswer};
-use records::CHAIN;
+use model::{Page, PageAddress, Refusal, StepAnswer};
+use records::Working;
 
-// The sixteen words of party q's scratch page.
-pub fn scratch_of(root: Root, q: u32, pages: &[u32]) -> Page
-    requires { HasScratch root q pages.now }
-    ensures { result ≡ page_of pages.now (scratch_page root q) }
+// The sixteen words of the party's scratch page.
+pub fn scratch_of(work: &Working, pages: &[u32]) -> Page
+    requires { HasScratch work.now.root work.now.number pages.now }
+    ensures { result ≡ page_of pages.now (scratch_page work.now.root work.now.number) }
 {
-    pages::load(pages, endings::scratch_page(root, q))
+    pages::load(pages, endings::scratch_page(work.root, work.number))
 }
 
-// "11 write the primary page", "18 write the old chain's primary page": "The scratch page counts as followed where it is read". The party is then at step `next`.
+// "11 write the primary page", "18 write the old chain's primary page": "The scratch page counts as followed where it is
+// read". The party is then at step `next`.
+#[tactic(auto, unfolding(model::specs::ScratchPages::primary_written, model::specs::ScratchPages::scratch_of))]
 pub fn primary_written(
-    root: Root,
-    party: &mut [u32],
-    q: u32,
+    work: &mut Working,
     pages: &mut [u32],
     next: u32,
-) -> StepAnswer
-    requires { (length party.old ≡ party_words) × (HasScratch root q pages.old) × ((party_in party.old).chain < root.primaries) }
-    ensures { (ls : List ℕ) → left result root party.new q ls pages.new ≡ ScratchPages.primary_written (seen root party.old q ls pages.old) next }
+) -> Result<StepAnswer, Refusal>
+    requires { HasScratch work.old.root work.old.number pages.old × (work.old.party.chain < work.old.root.primaries) }
+    ensures { (ls : List ℕ) → left result work.new ls pages.new ≡ ScratchPages.primary_written (seen work.old ls pages.old) next }
 {
-    let w = scratch_of(root, q, &pages[..]);
-    if !chains::page_sound(root, w) {
-        return StepAnswer::Refused(DAMAGE);
+    let w = scratch_of(&*work, &pages[..]);
+    if !chains::page_sound(work.root, w) {
+        return Err(Refusal::Damage);
     }
-    pages::store(pages, PageAddress(party[CHAIN]), w);
-    records::at_step(party, next);
-    StepAnswer::Moved
+    pages::store(pages, PageAddress(work.party.chain), w);
+    work.party.step = next;
+    Ok(StepAnswer::Moved)
 }

@@ -1,10 +1,11 @@
 -- Both halves written: the pages are those at the head of the free list, the staying half's first.
--- Main statements: can-write-both, both-written.
+-- Main statements: can_write_both, both_written_ok.
 use mathlib.Core.Path.{◌≡◌, sym, ap, ap₂, ◌∙◌}
 use mathlib.Core.List.{List}
 use Prim.Native.Nat.{ℕ, ◌+◌}
 use lib.ListN.{take, drop}
 use lib.Seq.{take_at, drop_at}
+use Rattle.std.specs.Prelude.{Some}
 use Rattle.model.specs.declared.Root.{Root}
 use Rattle.model.specs.declared.PageAddress.{PageAddress}
 use Rattle.model.specs.Pages.{with_page}
@@ -13,7 +14,6 @@ use Rattle.chains.specs.Links.{linked_pages, link_after}
 use Rattle.chains.proofs.Links.{length-linked_pages, pages_append, leads_all, front_apart, back_apart, both_apart}
 use Rattle.key_source.specs.Sources.{chosen_of}
 use Rattle.chain_writer.specs.declared.Planned.{Planned}
-use Rattle.chain_writer.specs.declared.Rest.TheVariants.{Chain}
 use Rattle.chain_writer.specs.Writing.{rest_written, all_written, CanWrite}
 use Rattle.chain_writer.proofs.Chains.{two_written}
 use Rattle.split_few.specs.Splitting.{both, both_written}
@@ -38,7 +38,7 @@ module _ (r : Root) (ps : List ℕ) (d : Division) (scratch other : PageAddress)
   abbrev lasts : List ℕ
   lasts = linked_pages ps last_need (link_after ps (first_need r d) r.head)
 
-  pub can_write_both : (level : ℕ) → CanWrite r.capacity (stay_plan level) r.head (Chain (go_plan level)) ps
+  pub can_write_both : (level : ℕ) → CanWrite r.capacity (stay_plan level) r.head (Some (go_plan level)) ps
   can_write_both level = record {
     some_key = can.some_key;
     keys_fit = can.keys_fit;
@@ -69,7 +69,7 @@ module _ (r : Root) (ps : List ℕ) (d : Division) (scratch other : PageAddress)
       ∙ drop_at firsts lasts (first_need r d) (length-linked_pages ps (first_need r d) r.head)
 
   pub both_written_ok :
-      all_written r.capacity (stay_plan (r.level + 1)) r.head (Chain (go_plan (r.level + 1))) ps
+      all_written r.capacity (stay_plan (r.level + 1)) r.head (Some (go_plan (r.level + 1))) ps
       ≡ both_written r.capacity (r.level + 1) other.0 scratch.0 (both (chosen_of ps (staying_from d)) (chosen_of ps (going_from d))) (first_need r d) (linked_pages ps (both_need r d) r.head) ps
   unfolding both_written rest_written
   both_written_ok =

@@ -1,13 +1,14 @@
 -- The party's chain, looked through, and its division: what dividing it and writing its halves need.
--- Main statements: some_stay, division-divides (a division, by its parts); can-divide; both-few (pages needed are no more than records), first-is, all_are (the pages that the model counts), can-write-halves, halves_are.
+-- Main statements: some_stay, division_divides (a division, by its parts); can_divide; both_few (pages needed are no
+-- more than records), first-is, all_are (the pages that the model counts), can_write_halves, halves_are.
 use mathlib.Core.Path.{◌≡◌, sym, ap, ap₂, ◌∙◌}
 use mathlib.Core.List.{List}
 use Prim.Native.Nat.{ℕ, ◌+◌, ◌-◌, ◌*◌, ◌/◌, ◌≤◌, ◌<◌}
 use native.Mathlib.Nat.{div-lt_iff_lt-mul, mul-le-mul_right}
 use native.Mathlib.Omega.{arith}
 use lib.ListN.{length}
+use Rattle.std.specs.Prelude.{Ok}
 use Rattle.model.specs.declared.Root.{Root}
-use Rattle.model.specs.declared.Party.{Party}
 use Rattle.model.specs.declared.ChainAddress.{ChainAddress}
 use Rattle.model.specs.Pages.{scratch_page}
 use Rattle.model.specs.Chains.{sound, chain_of}
@@ -17,8 +18,8 @@ use Rattle.model.specs.Filling.{overflow_needed, pages_for}
 use Rattle.model.specs.FreeList.{Taken, pages_taken}
 use Rattle.model.specs.Steps.SplitBuild.{Halves, halves_need}
 use Rattle.model.proofs.Laws.Lists.{all_map}
+use Rattle.records.specs.declared.Working.{Working}
 use Rattle.chain_scan.specs.declared.Looked.{Looked}
-use Rattle.chain_scan.specs.declared.Scan.TheVariants as Scan
 use Rattle.chain_scan.specs.Scans.{scanned}
 use Rattle.key_source.specs.declared.Halving.{Halving}
 use Rattle.key_source.specs.declared.Place.{Place}
@@ -90,17 +91,17 @@ module _ (r : Root) (ps : List ℕ) (c : ChainAddress) (l : Looked) (can : CanDi
 
 -- ---- The party's chain
 
-module _ (r : Root) (p : Party) (q : ℕ) (ps : List ℕ) (can : CanSplit r p q ps) (l : Looked) where
+module _ (w : Working) (ps : List ℕ) (can : CanSplit w ps) (l : Looked) where
   abbrev here : ℕ
-  here = p.chain
+  here = w.party.chain
 
-  module _ (looked : Scan.Sound l ≡ scanned 0 (chain_of r ps here)) where
-    pub looks : Looks r ps here l
+  module _ (looked : Ok l ≡ scanned 0 (chain_of w.root ps here)) where
+    pub looks : Looks w.root ps here l
     looks =
         let fits = can.can_change in
-        chain_looked r ps here l fits.keys_fit fits.overflow_fits (record { chain_fits = fits.chain_fits; pages_fit = fits.pages_fit }) looked
+        chain_looked w.root ps here l fits.keys_fit fits.overflow_fits (record { chain_fits = fits.chain_fits; pages_fit = fits.pages_fit }) looked
 
-    pub can_divide : CanDivide r ps here l
+    pub can_divide : CanDivide w.root ps here l
     unfolding records_of
     can_divide = record {
       some_original = can.some_original;
@@ -112,12 +113,12 @@ module _ (r : Root) (p : Party) (q : ℕ) (ps : List ℕ) (can : CanSplit r p q 
 
     -- The model's halves.
     abbrev pub halves : Halves
-    halves = halved r here looks.chain.entries
+    halves = halved w.root here looks.chain.entries
 
-    module _ (d : Division) (divides : Divides ps (halved r here (records_of ps here l.pages)) d) where
-      same : halved r here (records_of ps here l.pages) ≡ halves
+    module _ (d : Division) (divides : Divides ps (halved w.root here (records_of ps here l.pages)) d) where
+      same : halved w.root here (records_of ps here l.pages) ≡ halves
       unfolding records_of
-      same = ap (halved r here) looks.records
+      same = ap (halved w.root here) looks.records
 
       stay_is : d.staying ≡ length halves.stay
       stay_is = divides.many_stay ∙ ap (λ (h : Halves). length h.stay) same
@@ -125,29 +126,29 @@ module _ (r : Root) (p : Party) (q : ℕ) (ps : List ℕ) (can : CanSplit r p q 
       go_is : d.going ≡ length halves.go
       go_is = divides.many_go ∙ ap (λ (h : Halves). length h.go) same
 
-      pub both_few : both_need r d ≤ l.count
+      pub both_few : both_need w.root d ≤ l.count
       both_few =
           let some = can.can_change.some_key in
-          let all = halved-length (halving_of r (record { 0 = here })) looks.chain.entries in
-          omega (arith, needed_at_most r.capacity d.staying some, needed_at_most r.capacity d.going some, stay_is, go_is, all, looks.count)
+          let all = halved-length (halving_of w.root (record { 0 = here })) looks.chain.entries in
+          omega (arith, needed_at_most w.root.capacity d.staying some, needed_at_most w.root.capacity d.going some, stay_is, go_is, all, looks.count)
 
-      pub first-is : first_need r d ≡ pages_for r.capacity halves.stay
+      pub first-is : first_need w.root d ≡ pages_for w.root.capacity halves.stay
       unfolding pages_for
-      first-is = ap (overflow_needed r.capacity) stay_is
+      first-is = ap (overflow_needed w.root.capacity) stay_is
 
-      pub all_are : both_need r d ≡ halves_need r.capacity halves
+      pub all_are : both_need w.root d ≡ halves_need w.root.capacity halves
       unfolding halves_need pages_for
-      all_are = ap₂ (λ (m n : ℕ). m + n) first-is (ap (overflow_needed r.capacity) go_is)
+      all_are = ap₂ (λ (m n : ℕ). m + n) first-is (ap (overflow_needed w.root.capacity) go_is)
 
       pub halves_are : both (chosen_of ps (staying_from d)) (chosen_of ps (going_from d)) ≡ halves
       halves_are = ap₂ both divides.stay divides.go ∙ same
 
-      pub can_write_halves : (t : Taken) → pages_taken r ps (both_need r d) ≡ sound t → CanWriteHalves r ps d (scratch_page r q) p.other
+      pub can_write_halves : (t : Taken) → pages_taken w.root ps (both_need w.root d) ≡ sound t → CanWriteHalves w.root ps d (scratch_page w.root w.number) w.party.other
       can_write_halves t taken =
           let fits = can.can_change in
-          let drawn = taken_drawn r ps (both_need r d) t taken in
-          let last = overflow_needed r.capacity d.going in
-          let front = leads_all ps (front_apart ps (first_need r d) last r.head drawn.can).leads in
+          let drawn = taken_drawn w.root ps (both_need w.root d) t taken in
+          let last = overflow_needed w.root.capacity d.going in
+          let front = leads_all ps (front_apart ps (first_need w.root d) last w.root.head drawn.can).leads in
           record {
             some_key = fits.some_key;
             keys_fit = fits.keys_fit;
@@ -158,6 +159,6 @@ module _ (r : Root) (p : Party) (q : ℕ) (ps : List ℕ) (can : CanSplit r p q 
             many_go = ap length divides.go ∙ sym divides.many_go;
             scratch_fits = fits.scratch.page_fits;
             other_fits = omega (arith, fits.pages_fit, can.other_fits);
-            can_fill = drawn_fills r ps (both_need r d) r.head fits.pages_fit drawn.can;
-            apart = all_map (linked_pages ps (first_need r d) r.head) (λ x o e. omega (arith, o.above, can.other_fits)) front;
+            can_fill = drawn_fills w.root ps (both_need w.root d) w.root.head fits.pages_fit drawn.can;
+            apart = all_map (linked_pages ps (first_need w.root d) w.root.head) (λ x o e. omega (arith, o.above, can.other_fits)) front;
           }

@@ -2,4 +2,3 @@
 pub mod Halving
 pub mod HalvesWritten
 pub mod Divided
-pub mod Outcomes

@@ -1,7 +1,7 @@
 -- The chain of step 17 divided where it stands: its records, its two halves, and what writing them needs of the
 -- memory.
--- Main definitions: records_of (a chain's records); staying_from, going_from, Divides (a division, as the code has it);
--- CanDivide, CanWriteHalves (what the functions need).
+-- Main definitions: records_of (a chain's records); staying_from, going_from, Divides (a division, as the code has
+-- it); CanDivide, CanWriteHalves (what the functions need).
 use Rattle.std.specs.Prelude.{◌≡◌, List, ◌++◌, ℕ, ◌+◌, ◌*◌, ◌≤◌, length}
 use Rattle.model.specs.declared.Root.{Root}
 use Rattle.model.specs.Sizes.{page_words, most_records}

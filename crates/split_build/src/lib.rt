@@ -5,23 +5,22 @@
 
 #![tactic(auto)]
 
-ghost use Rattle.std.specs.Prelude.{◌≡◌, List, ℕ, ◌+◌, length};
-ghost use Rattle.model.specs.Ready.{viewing};
+ghost use Rattle.std.specs.Prelude.{◌≡◌, List, ℕ, ◌+◌};
 ghost use Rattle.model.specs.Steps.SplitBuild as SplitBuild;
-ghost use Rattle.records.specs.Words.{root_words, root_in, seen, left, AtHand};
+ghost use Rattle.records.specs.Work.{seen, left, AtHand};
 ghost use Rattle.key_source.specs.Sources.{chosen_of};
 ghost use Rattle.chains.specs.Links.{linked_pages};
 ghost use Rattle.split_few.specs.Splitting.{both, halved, both_written, after_dividing, CanSplit};
 ghost use Rattle.split_build.specs.Dividing.{records_of, staying_from, going_from, Divides, CanDivide, first_need, both_need, CanWriteHalves};
 
-use chain_scan::{Looked, Scan};
-use chain_writer::{Planned, Rest};
-use chains::Walked;
-use free_list::Drawn;
+use chain_scan::Looked;
+use chain_writer::Planned;
 use key_source::{Choice, Halving, Place, Source};
-use model::{ChainAddress, DAMAGE, PageAddress, Party, Restructuring, Root, StepAnswer};
-use records::{FREE, HEAD, OLD};
-use split_few::{Divided, Halved};
+use model::{
+    ChainAddress, Damaged, LINK_WORD, PageAddress, Refusal, Restructuring, Root, StepAnswer,
+};
+use records::Working;
+use split_few::Halved;
 
 // A chain to be divided: how, from where, and how many of its records stay and go.
 #[derive(Clone, Copy)]
@@ -40,18 +39,18 @@ fn division_of(root: Root, chain: ChainAddress, l: Looked, pages: &[u32]) -> Div
     let halving = Halving {
         originals: root.originals,
         level: root.level + 1,
-        chain: chain,
+        chain,
     };
     let place = key_source::first_place(pages, PageAddress(chain.0), l.pages);
     let kept = Source {
         choice: Choice::Staying(halving),
-        place: place,
+        place,
     };
     let staying = key_source::count(pages, kept);
     Division {
-        halving: halving,
-        place: place,
-        staying: staying,
+        halving,
+        place,
+        staying,
         going: l.count - staying,
     }
 }
@@ -71,101 +70,82 @@ fn write_halves(
     let halving = d.halving;
     let place = d.place;
     let stay = Planned {
-        level: level,
+        level,
         left: d.staying,
         source: Source {
             choice: Choice::Staying(halving),
-            place: place,
+            place,
         },
         to: scratch,
     };
     let go = Planned {
-        level: level,
+        level,
         left: d.going,
         source: Source {
             choice: Choice::Going(halving),
-            place: place,
+            place,
         },
         to: other,
     };
-    chain_writer::write_chain(root.capacity, stay, root.head, Rest::Chain(go), pages);
+    chain_writer::write_chain(root.capacity, &stay, root.head, &Some(go), pages);
 }
 
-// The division of a chain of any length.
-fn divide_many(root: Root, party: Party, q: u32, pages: &mut [u32]) -> Divided
-    requires { CanSplit root party q pages.old }
-    ensures { (ls : List ℕ) → after_dividing (viewing root party q ls pages.old) pages.new result ≡ SplitBuild.step17 (viewing root party q ls pages.old) }
+// The division of a chain of any length: none where too few pages are free.
+fn divide_many(work: &Working, pages: &mut [u32]) -> Result<Option<Halved>, Damaged>
+    requires { CanSplit work.now pages.old }
+    ensures { (ls : List ℕ) → after_dividing (seen work.now ls pages.old) pages.new result ≡ SplitBuild.step17 (seen work.now ls pages.old) }
 {
-    let chain = ChainAddress(party.chain);
-    let Scan::Sound(l) = chain_scan::look_through(root, chain, 0, &pages[..]) else {
-        return Divided::Damaged;
-    };
+    let root = work.root;
+    let chain = ChainAddress(work.party.chain);
+    let l = chain_scan::look_through(root, chain, 0, &pages[..])?;
     let d = division_of(root, chain, l, &pages[..]);
     let first = filling::pages_for(root.capacity, d.staying as usize);
     let k = (first + filling::pages_for(root.capacity, d.going as usize)) as u32;
     if root.free < k {
-        return Divided::TooFew;
+        return Ok(None);
     }
-    match free_list::draw(root, k, &pages[..]) {
-        Drawn::Damaged => Divided::Damaged,
-        Drawn::Head(head) => {
-            let scratch = endings::scratch_page(root, q);
-            write_halves(root, d, scratch, PageAddress(party.other), pages);
-            Divided::Written(Halved {
-                head: head,
-                free: root.free - k,
-            })
-        }
-    }
+    let head = free_list::draw(root, k, &pages[..])?;
+    let scratch = endings::scratch_page(root, work.number);
+    write_halves(root, d, scratch, PageAddress(work.party.other), pages);
+    Ok(Some(Halved {
+        head,
+        free: root.free - k,
+    }))
 }
 
 // The party's chain divided, by one way or the other.
-fn divide(root: Root, party: Party, q: u32, pages: &mut [u32]) -> Divided
-    requires { CanSplit root party q pages.old }
-    ensures { (ls : List ℕ) → after_dividing (viewing root party q ls pages.old) pages.new result ≡ SplitBuild.step17 (viewing root party q ls pages.old) }
+fn divide(work: &Working, pages: &mut [u32]) -> Result<Option<Halved>, Damaged>
+    requires { CanSplit work.now pages.old }
+    ensures { (ls : List ℕ) → after_dividing (seen work.now ls pages.old) pages.new result ≡ SplitBuild.step17 (seen work.now ls pages.old) }
 {
-    match chain_keys::walk(root, ChainAddress(party.chain), &pages[..]) {
-        Walked::Damaged => Divided::Damaged,
-        Walked::Pages(n) => {
-            if n <= chain_keys::FEW {
-                return split_few::divide_few(root, party, q, n, pages);
-            }
-            divide_many(root, party, q, pages)
-        }
+    let n = chain_keys::walk(work.root, ChainAddress(work.party.chain), &pages[..])?;
+    if n <= chain_keys::FEW {
+        split_few::divide_few(work, n, pages)
+    } else {
+        divide_many(work, pages)
     }
 }
 
 // "17 divide the chain's keys: keys whose h_(level+1) is the chain stay, the rest go." "n = P at 17" is damage.
 pub fn step_17(
-    root: &mut [u32],
-    party: &mut [u32],
-    q: u32,
+    work: &mut Working,
     locks: &mut [u32],
     pages: &mut [u32],
-) -> StepAnswer
-    requires { (length root.old ≡ root_words) × AtHand (root_in root.old) party.old q locks.old pages.old }
-    ensures { left result (root_in root.new) party.new q locks.new pages.new ≡ SplitBuild.step17 (seen (root_in root.old) party.old q locks.old pages.old) }
+) -> Result<StepAnswer, Refusal>
+    requires { AtHand work.old locks.old pages.old }
+    ensures { left result work.new locks.new pages.new ≡ SplitBuild.step17 (seen work.old locks.old pages.old) }
 {
-    let r = records::root_of(&root[..]);
-    if addresses::split_barred(r) {
-        return StepAnswer::Refused(DAMAGE);
+    if addresses::split_barred(work.root) {
+        return Err(Refusal::Damage);
     }
-    let p = records::party_of(&party[..]);
-    let link = free_list::link_at(&pages[..], PageAddress(p.chain));
-    match divide(r, p, q, pages) {
-        Divided::Damaged => {
-            return StepAnswer::Refused(DAMAGE);
-        }
-        Divided::TooFew => {
-            let made = Restructuring::SplitSkipped;
-            return last_locks::ended_with_split(r, party, q, locks, pages, made);
-        }
-        Divided::Written(m) => {
-            root[HEAD] = m.head;
-            root[FREE] = m.free;
-            party[OLD] = link;
-            records::at_step(party, 18);
-            return StepAnswer::Moved;
-        }
-    }
+    let link = pages::word(&pages[..], PageAddress(work.party.chain), LINK_WORD);
+    let Some(m) = divide(&*work, pages)? else {
+        let claimed = last_locks::split_locks(work.party);
+        return last_locks::ended_with(work, locks, pages, &claimed, Restructuring::SplitSkipped);
+    };
+    work.root.head = m.head;
+    work.root.free = m.free;
+    work.party.old = link;
+    work.party.step = 18;
+    Ok(StepAnswer::Moved)
 }

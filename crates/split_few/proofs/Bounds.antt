@@ -6,33 +6,31 @@ use Prim.Native.Nat.{ℕ, ◌+◌, ◌*◌, ◌≤◌, ◌<◌}
 use native.Mathlib.Nat.{lt_of_mul-lt-mul_right}
 use native.Mathlib.Omega.{arith}
 use lib.ListN.{length}
-use Rattle.model.specs.declared.Root.{Root}
-use Rattle.model.specs.declared.Party.{Party}
 use Rattle.model.specs.Chains.{chain_of}
 use Rattle.model.specs.Filling.{overflow_needed}
 use Rattle.model.proofs.Laws.Filling.{needed_exact}
+use Rattle.records.specs.declared.Working.{Working}
 use Rattle.chain_keys.specs.declared.Front.{Front}
 use Rattle.chain_keys.specs.Gathering.{CanGather}
 use Rattle.chain_keys.proofs.WholeChain.{Whole}
 use Rattle.chain_change.proofs.ReadChains.{few_records}
 use Rattle.split_few.specs.Splitting.{CanDivideFew}
 
--- A buffer of 128 words has room for its records.
-pub can_gather : {r : Root} {p : Party} {q n room back : ℕ} {ps : List ℕ} → CanDivideFew r p q n ps × (128 ≤ room) × (128 ≤ back) → CanGather r ps p.chain n room
-can_gather pre =
-    let can = pre.0 in
+-- A buffer of 108 words has room for its records.
+pub can_gather : {w : Working} {n room : ℕ} {ps : List ℕ} → CanDivideFew w n ps → 108 ≤ room → CanGather w.root ps w.party.chain n room
+can_gather can long =
     let fits = can.can_split.can_change in
     record {
       can_walk = record { chain_fits = fits.chain_fits; pages_fit = fits.pages_fit };
       keys_fit = fits.keys_fit;
       walked = can.walked;
-      has_room = omega (arith, can.few, pre.1);
+      has_room = omega (arith, can.few, long);
     }
 
-pub front_few : {r : Root} {p : Party} {q n : ℕ} {ps words : List ℕ} {g : Front} → CanDivideFew r p q n ps → Whole (chain_of r ps p.chain) n g words → g.count ≤ 8 * r.capacity
-front_few {r} {p} {ps = ps} can whole =
+pub front_few : {w : Working} {n : ℕ} {ps words : List ℕ} {g : Front} → CanDivideFew w n ps → Whole (chain_of w.root ps w.party.chain) n g words → g.count ≤ 8 * w.root.capacity
+front_few {w} {ps = ps} can whole =
     let fewer : length whole.chain.pages ≤ 7 = omega (arith, can.few, whole.pages) in
-    omega (arith, few_records r ps p.chain whole.chain whole.is_sound_ok fewer, whole.count)
+    omega (arith, few_records w.root ps w.party.chain whole.chain whole.is_sound_ok fewer, whole.count)
 
 pub halves_few : (b m n : ℕ) → 1 ≤ b → m + n ≤ 8 * b → overflow_needed b m + overflow_needed b n ≤ 8
 halves_few b m n some few =

@@ -1,6 +1,6 @@
 -- Both halves of a chain, at the front of two buffers, written to pages taken from the free list, the staying half's
 -- first.
--- Main statements: few-taken (the pages that both need); stay-fillable, go-fillable (the pages of each can be filled);
+-- Main statements: few_taken (the pages that both need); stay_fillable, go_fillable (the pages of each can be filled);
 -- skips, refuses, moves (the three ends of a division).
 use mathlib.Core.Path.{◌≡◌, sym, ap, ap₂, ◌∙◌}
 use mathlib.Core.List.{List, ◌++◌}
@@ -8,8 +8,9 @@ use Prim.Native.Nat.{ℕ, ◌+◌, ◌-◌, ◌*◌, ◌≤◌, ◌<◌}
 use native.Mathlib.Omega.{arith}
 use lib.ListN.{length, take, drop, take-append-drop}
 use lib.Seq.{take-add, take-take, drop_at, length-take-le}
+use Rattle.std.specs.Prelude.{Result, Ok, IsErr, Option, Some, None}
+use Rattle.model.specs.declared.Damaged.{Damaged}
 use Rattle.model.specs.declared.Root.{Root}
-use Rattle.model.specs.declared.Party.{Party}
 use Rattle.model.specs.declared.Entry.{Entry}
 use Rattle.model.specs.Sizes.{page_words, most_records}
 use Rattle.model.specs.Pages.{with_page, scratch_page, records_in}
@@ -17,20 +18,21 @@ use Rattle.model.specs.Chains.{damaged, sound, Chain, chain_of}
 use Rattle.model.specs.Filling.{overflow_needed, pages_for, primary_of, overflow_written}
 use Rattle.model.specs.FreeList.{pages_taken}
 use Rattle.model.specs.Outcome.{View}
-use Rattle.model.specs.Ready.{viewing}
 use Rattle.model.specs.Steps.SplitBuild.{halves_need, step17}
-use Rattle.model.proofs.Laws.Lists.{All, all_map, all_left, all_right, front_part}
+use Rattle.model.proofs.Laws.Lists.{All, all_map, all_left, all_right}
 use Rattle.model.proofs.Laws.Distinct.{Outside, Distinct, distinct_apart}
 use Rattle.model.proofs.Laws.Pages.{Has}
 use Rattle.model.proofs.Laws.Filling.{IsOverflow}
 use Rattle.model.proofs.Laws.RecordWords.{length_records}
+use Rattle.records.specs.declared.Working.{Working}
+use Rattle.records.specs.Work.{seen}
 use Rattle.free_list.proofs.Linked.{taken_drawn}
 use Rattle.filling.specs.Fills.{Fillable}
 use Rattle.filling.proofs.Fills.{overflow_fillable}
 use Rattle.chain_change.proofs.ReadChains.{chain_link}
 use Rattle.chain_writer.specs.Writing.{chain_written}
 use Rattle.chain_writer.proofs.Chains.{two_written}
-use Rattle.split_few.specs.declared.Divided.TheVariants as Divided
+use Rattle.split_few.specs.declared.Halved.{Halved}
 use Rattle.split_few.specs.Splitting.{both, halved, both_written, after_dividing, CanWriteHalves}
 use Rattle.split_few.proofs.Bounds.{halves_few}
 use Rattle.split_few.proofs.Cases.{too_few_skipped, free_list_damaged, halves_written_ok}
@@ -39,8 +41,8 @@ use Rattle.split_few.proofs.Cases.{too_few_skipped, free_list_damaged, halves_wr
 
 -- The first i + j pages of a list xs, as the code lends them: the first i, and the j after them.
 module _ (i j : ℕ) (xs : List ℕ) (many : i + j ≤ length xs) where
-  first-lent : take (i - 0) xs ≡ take i (take (i + j) xs)
-  first-lent = front_part i xs ∙ sym (take-take i (i + j) xs (omega arith))
+  first-lent : take i xs ≡ take i (take (i + j) xs)
+  first-lent = sym (take-take i (i + j) xs (omega arith))
 
   last_lent : take (i + j - i) (drop i xs) ≡ drop i (take (i + j) xs)
   last_lent =
@@ -51,7 +53,7 @@ module _ (i j : ℕ) (xs : List ℕ) (many : i + j ≤ length xs) where
 module _ (r : Root) (ps : List ℕ) (i j : ℕ) (xs : List ℕ) (many : i + j ≤ length xs) (h : ℕ) (taken : pages_taken r ps (i + j) ≡ sound (record { pages = take (i + j) xs; head = h }))
     (fit : page_words * (r.primaries + r.overflow) ≤ length ps) where
   abbrev firsts : List ℕ
-  firsts = take (i - 0) xs
+  firsts = take i xs
 
   abbrev lasts : List ℕ
   lasts = take (i + j - i) (drop i xs)
@@ -95,52 +97,52 @@ module _ (r : Root) (ps : List ℕ) (i j : ℕ) (xs : List ℕ) (many : i + j �
 
 -- ---- The three ends: the staying half needs i pages and the other j
 
-module _ {r : Root} {p : Party} {q m n : ℕ} {words gone ps : List ℕ} (can : CanWriteHalves r p q m n words gone ps) {i j : ℕ} (first : i ≡ overflow_needed r.capacity m)
-    (last : j ≡ overflow_needed r.capacity n) where
+module _ {w : Working} {m n : ℕ} {words gone ps : List ℕ} (can : CanWriteHalves w m n words gone ps) {i j : ℕ} (first : i ≡ overflow_needed w.root.capacity m)
+    (last : j ≡ overflow_needed w.root.capacity n) where
   pub few_taken : i + j ≤ 8
-  few_taken = omega (arith, first, last, halves_few r.capacity m n can.can_split.can_change.some_key can.few)
+  few_taken = omega (arith, first, last, halves_few w.root.capacity m n can.can_split.can_change.some_key can.few)
 
-  module _ (ls : List ℕ) (c : Chain) (found : chain_of r ps p.chain ≡ sound c) (stay : take m (records_in words) ≡ (halved r p.chain c.entries).stay)
-      (go : take n (records_in gone) ≡ (halved r p.chain c.entries).go) where
+  module _ (ls : List ℕ) (c : Chain) (found : chain_of w.root ps w.party.chain ≡ sound c) (stay : take m (records_in words) ≡ (halved w.root w.party.chain c.entries).stay)
+      (go : take n (records_in gone) ≡ (halved w.root w.party.chain c.entries).go) where
     abbrev v : View
-    v = viewing r p q ls ps
+    v = seen w ls ps
 
-    stays : i ≡ pages_for r.capacity (halved r p.chain c.entries).stay
+    stays : i ≡ pages_for w.root.capacity (halved w.root w.party.chain c.entries).stay
     unfolding pages_for
     stays =
         let many : m ≡ length (take m (records_in words)) = sym (length-take-le m (records_in words) (omega (arith, length_records words, can.few, can.stay_room))) in
-        first ∙ ap (overflow_needed r.capacity) (many ∙ ap length stay)
+        first ∙ ap (overflow_needed w.root.capacity) (many ∙ ap length stay)
 
-    goes : j ≡ pages_for r.capacity (halved r p.chain c.entries).go
+    goes : j ≡ pages_for w.root.capacity (halved w.root w.party.chain c.entries).go
     unfolding pages_for
     goes =
         let many : n ≡ length (take n (records_in gone)) = sym (length-take-le n (records_in gone) (omega (arith, length_records gone, can.few, can.go_room))) in
-        last ∙ ap (overflow_needed r.capacity) (many ∙ ap length go)
+        last ∙ ap (overflow_needed w.root.capacity) (many ∙ ap length go)
 
-    all_are : i + j ≡ halves_need r.capacity (halved r p.chain c.entries)
+    all_are : i + j ≡ halves_need w.root.capacity (halved w.root w.party.chain c.entries)
     unfolding halves_need
     all_are = ap₂ (λ (x y : ℕ). x + y) stays goes
 
-    pub skips : r.free < i + j → after_dividing v ps Divided.TooFew ≡ step17 v
+    pub skips : w.root.free < i + j → after_dividing v ps (Ok None) ≡ step17 v
     skips few = too_few_skipped v can.can_split.not-barred c found (i + j) all_are few
 
-    module _ (enough : i + j ≤ r.free) where
-      pub refuses : pages_taken r ps (i + j) ≡ damaged → after_dividing v ps Divided.Damaged ≡ step17 v
-      refuses e = free_list_damaged v can.can_split.not-barred c found (i + j) all_are enough e
+    module _ (enough : i + j ≤ w.root.free) where
+      pub refuses : (a : Result (Option Halved) Damaged) → IsErr a → pages_taken w.root ps (i + j) ≡ damaged → after_dividing v ps a ≡ step17 v
+      refuses a e bad = free_list_damaged v can.can_split.not-barred c found (i + j) all_are enough a e bad
 
       -- One chain was written after the other: the code left rs after the first, and qs.
-      pub moves : (h : ℕ) (xs : List ℕ) → i + j ≤ length xs → pages_taken r ps (i + j) ≡ sound (record { pages = take (i + j) xs; head = h }) → (level scratch : ℕ) (rs qs : List ℕ)
-          → level ≡ r.level + 1 → scratch ≡ scratch_page r q
+      pub moves : (h : ℕ) (xs : List ℕ) → i + j ≤ length xs → pages_taken w.root ps (i + j) ≡ sound (record { pages = take (i + j) xs; head = h }) → (level scratch : ℕ) (rs qs : List ℕ)
+          → level ≡ w.root.level + 1 → scratch ≡ scratch_page w.root w.number
           → rs
-          ≡ with_page (overflow_written r.capacity ps (take (i + j - i) (drop i xs)) (take n (records_in gone))) p.other (primary_of r.capacity level (take n (records_in gone)) (take (i + j - i) (drop i xs)))
-          → qs ≡ with_page (overflow_written r.capacity rs (take (i - 0) xs) (take m (records_in words))) scratch (primary_of r.capacity level (take m (records_in words)) (take (i - 0) xs))
-          → after_dividing v qs (Divided.Written (record { head = h; free = r.free - (i + j) })) ≡ step17 v
+          ≡ with_page (overflow_written w.root.capacity ps (take (i + j - i) (drop i xs)) (take n (records_in gone))) w.party.other (primary_of w.root.capacity level (take n (records_in gone)) (take (i + j - i) (drop i xs)))
+          → qs ≡ with_page (overflow_written w.root.capacity rs (take i xs) (take m (records_in words))) scratch (primary_of w.root.capacity level (take m (records_in words)) (take i xs))
+          → after_dividing v qs (Ok (Some (record { head = h; free = w.root.free - (i + j) }))) ≡ step17 v
       moves h xs many taken level scratch rs qs el es er eq =
-          let b = r.capacity in
-          let other = p.other in
+          let b = w.root.capacity in
+          let other = w.party.other in
           let fits = can.can_split.can_change in
-          let written = eq ∙ ap (λ (us : List ℕ). with_page (overflow_written b us (take (i - 0) xs) (take m (records_in words))) scratch (primary_of b level (take m (records_in words)) (take (i - 0) xs))) er
-          ∙ both_are r ps i j xs many h taken fits.pages_fit b level other scratch (take m (records_in words)) (take n (records_in gone)) fits.keys_fit can.can_split.other_fits
+          let written = eq ∙ ap (λ (us : List ℕ). with_page (overflow_written b us (take i xs) (take m (records_in words))) scratch (primary_of b level (take m (records_in words)) (take i xs))) er
+          ∙ both_are w.root ps i j xs many h taken fits.pages_fit b level other scratch (take m (records_in words)) (take n (records_in gone)) fits.keys_fit can.can_split.other_fits
           ∙ ap₂ (λ (k s : ℕ). both_written b k other s (both (take m (records_in words)) (take n (records_in gone))) i (take (i + j) xs) ps) el es
-          ∙ ap₂ (λ (ys zs : List Entry). both_written b (r.level + 1) other (scratch_page r q) (both ys zs) i (take (i + j) xs) ps) stay go in
-          halves_written_ok v can.can_split.not-barred c found (i + j) all_are enough (record { pages = take (i + j) xs; head = h }) i qs stays taken (chain_link r ps p.chain c found) written
+          ∙ ap₂ (λ (ys zs : List Entry). both_written b (w.root.level + 1) other (scratch_page w.root w.number) (both ys zs) i (take (i + j) xs) ps) stay go in
+          halves_written_ok v can.can_split.not-barred c found (i + j) all_are enough (record { pages = take (i + j) xs; head = h }) i qs stays taken (chain_link w.root ps w.party.chain c found) written

@@ -1,7 +1,7 @@
 -- Records parted in place, one after the other: those that stay go to the front of the buffer that they stand in, the
 -- others to the front of another.
 -- Main statements: Parting (the records before i are parted, those from i on stand as they stood); none-parted (the
--- start), one-parted (a turn).
+-- start), one_parted (a turn).
 use mathlib.Core.Path.{◌≡◌, refl, sym, ap, ◌∙◌}
 use mathlib.Core.Bool.{Bool, true, false, cond}
 use mathlib.Core.List.{List, [], ◌∷◌, ◌++◌, append-nil}

@@ -3,87 +3,85 @@
 
 #![tactic(auto)]
 
-ghost use Rattle.std.specs.Prelude.{◌≡◌, List, ℕ, length};
-ghost use Rattle.model.specs.declared.Root.{Root};
+ghost use Rattle.std.specs.Prelude.{◌≡◌, List, ℕ};
 ghost use Rattle.model.specs.Steps.SplitLocks as SplitLocks;
-ghost use Rattle.records.specs.Words.{party_words, seen, left, AtHand};
-ghost use Rattle.lock_requests.specs.Words.{CanLock};
+ghost use Rattle.records.specs.Work.{seen, left, AtHand};
+ghost use Rattle.lock_requests.specs.Locks.{CanLock};
 ghost use Rattle.endings.specs.Scratch.{HasScratch};
 ghost use Rattle.split_locks.specs.Leaving.{split_made};
 
-use lock_requests::ROOT_WORD;
-use model::{ChainAddress, DAMAGE, Mode, Restructuring, Root, SPLIT_MADE, StepAnswer};
-use records::{CHAIN, OLD, OTHER, OWED};
+use lock_requests::Lock;
+use model::{ChainAddress, Mode, Party, Refusal, Restructuring, SPLIT_MADE, StepAnswer};
+use records::Working;
 
 // "15 request selective on root."
-pub fn step_15(party: &mut [u32], q: u32, locks: &mut [u32]) -> StepAnswer
-    requires { CanLock party.old q locks.old }
-    ensures { (r : Root) (ps : List ℕ) → left result r party.new q locks.new ps ≡ SplitLocks.step15 (seen r party.old q locks.old ps) }
+#[tactic(auto, unfolding(model::specs::Steps::SplitLocks::step15))]
+pub fn step_15(work: &mut Working, locks: &mut [u32]) -> Result<StepAnswer, Refusal>
+    requires { CanLock work.old locks.old }
+    ensures { (ps : List ℕ) → left result work.new locks.new ps ≡ SplitLocks.step15 (seen work.old locks.old ps) }
 {
-    lock_requests::request_step(party, q, locks, ROOT_WORD, Mode::Selective, 16)
+    Ok(lock_requests::request(work, locks, Lock::root(Mode::Selective), 16))
 }
 
 // "16 if n = P give up root, done, split skipped; else request selective on chain next." "Grants at 16 and 24 set chain and other chain".
+#[tactic(auto, unfolding(model::specs::Steps::SplitLocks::step16, model::specs::Steps::SplitLocks::splitting))]
 pub fn step_16(
-    root: Root,
-    party: &mut [u32],
-    q: u32,
+    work: &mut Working,
     locks: &mut [u32],
     pages: &mut [u32],
-) -> StepAnswer
-    requires { AtHand root party.old q locks.old pages.old }
-    ensures { left result root party.new q locks.new pages.new ≡ SplitLocks.step16 (seen root party.old q locks.old pages.old) }
+) -> Result<StepAnswer, Refusal>
+    requires { AtHand work.old locks.old pages.old }
+    ensures { left result work.new locks.new pages.new ≡ SplitLocks.step16 (seen work.old locks.old pages.old) }
 {
-    if addresses::split_barred(root) {
+    if addresses::split_barred(work.root) {
         let made = Restructuring::SplitSkipped;
-        return last_locks::ended_with_root(root, party, q, locks, pages, Mode::Selective, made);
+        return last_locks::ended_with(work, locks, pages, &[Lock::root(Mode::Selective)], made);
     }
-    let word = lock_requests::chain_word(ChainAddress(root.next)) as usize;
-    if !lock_words::request(locks, word, q, Mode::Selective) {
-        return StepAnswer::Waiting;
-    }
-    party[CHAIN] = root.next;
-    party[OTHER] = addresses::chain_count(root);
-    records::at_step(party, 17);
-    StepAnswer::Moved
+    let next = ChainAddress(work.root.next);
+    let granted = Party {
+        step: 17,
+        chain: next.0,
+        other: addresses::chain_count(work.root),
+        ..work.party
+    };
+    let lock = Lock::chain(next, Mode::Selective);
+    Ok(lock_requests::request_for(work, locks, lock, granted))
 }
 
 // "19 give up the chain."
-pub fn step_19(party: &mut [u32], q: u32, locks: &mut [u32]) -> StepAnswer
-    requires { CanLock party.old q locks.old }
-    ensures { (r : Root) (ps : List ℕ) → left result r party.new q locks.new ps ≡ SplitLocks.step19 (seen r party.old q locks.old ps) }
+#[tactic(auto, unfolding(model::specs::Steps::SplitLocks::step19))]
+pub fn step_19(work: &mut Working, locks: &mut [u32]) -> Result<StepAnswer, Refusal>
+    requires { CanLock work.old locks.old }
+    ensures { (ps : List ℕ) → left result work.new locks.new ps ≡ SplitLocks.step19 (seen work.old locks.old ps) }
 {
-    let word = lock_requests::chain_word(ChainAddress(party[CHAIN]));
-    lock_requests::release_step(party, q, locks, word, Mode::Selective, 20)
+    let lock = Lock::chain(ChainAddress(work.party.chain), Mode::Selective);
+    lock_requests::release(work, locks, lock, 20)
 }
 
 // "22 ... owed becomes 3; then 13 and 14 on the old chain if it has old pages, else done": once root is given up.
-fn root_left(root: Root, party: &mut [u32], q: u32, pages: &mut [u32]) -> StepAnswer
-    requires { (length party.old ≡ party_words) × HasScratch root q pages.old }
-    ensures { (ls : List ℕ) → left result root party.new q ls pages.new ≡ split_made (seen root party.old q ls pages.old) }
+#[tactic(auto, unfolding(model::specs::Endings::old_pages_first))]
+fn root_left(work: &mut Working, pages: &mut [u32]) -> StepAnswer
+    requires { HasScratch work.old.root work.old.number pages.old }
+    ensures { (ls : List ℕ) → left (Ok result) work.new ls pages.new ≡ split_made (seen work.old ls pages.old) }
 {
-    let old = party[OLD];
-    party[OWED] = SPLIT_MADE;
-    if old == 0 {
-        return endings::finished(root, party, q, pages);
+    work.party.owed = SPLIT_MADE;
+    if work.party.old == 0 {
+        return endings::finished(work, pages);
     }
-    records::at_step(party, 13);
+    work.party.step = 13;
     StepAnswer::Moved
 }
 
 // "22 give up root".
+#[tactic(auto, unfolding(model::specs::Steps::SplitLocks::step22))]
 pub fn step_22(
-    root: Root,
-    party: &mut [u32],
-    q: u32,
+    work: &mut Working,
     locks: &mut [u32],
     pages: &mut [u32],
-) -> StepAnswer
-    requires { AtHand root party.old q locks.old pages.old }
-    ensures { left result root party.new q locks.new pages.new ≡ SplitLocks.step22 (seen root party.old q locks.old pages.old) }
+) -> Result<StepAnswer, Refusal>
+    requires { AtHand work.old locks.old pages.old }
+    ensures { left result work.new locks.new pages.new ≡ SplitLocks.step22 (seen work.old locks.old pages.old) }
 {
-    if !lock_requests::give_up(locks, ROOT_WORD, q, Mode::Selective) {
-        return StepAnswer::Refused(DAMAGE);
-    }
-    root_left(root, party, q, pages)
+    lock_requests::give_up(&*work, locks, &[Lock::root(Mode::Selective)])?;
+    Ok(root_left(work, pages))
 }

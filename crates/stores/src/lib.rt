@@ -17,15 +17,12 @@ pub fn put_root(root: &mut Root, r: Root, mark: Mark)
     ensures { root.new ≡ root_by mark root.old r }
 {
     match mark {
-        Mark::Advanced | Mark::Located => {
-            return;
-        }
+        Mark::Advanced | Mark::Located => {}
         Mark::Ended | Mark::Changed => {
             root.level = r.level;
             root.next = r.next;
             root.head = r.head;
             root.free = r.free;
-            return;
         }
     }
 }
@@ -35,33 +32,24 @@ pub fn put_party(parties: &mut [Party], at: usize, p: Party, mark: Mark)
     ensures { parties.new ≡ set parties.old at (party_by mark (party_at parties.old at) p) }
 {
     if at < parties.len() {
+        let party = &mut parties[at];
         match mark {
-            Mark::Advanced => {
-                parties[at].step = p.step;
-                return;
-            }
+            Mark::Advanced => party.step = p.step,
             Mark::Located => {
-                parties[at].step = p.step;
-                parties[at].lev = p.lev;
-                parties[at].chain = p.chain;
-                parties[at].other = p.other;
-                return;
+                party.step = p.step;
+                party.lev = p.lev;
+                party.chain = p.chain;
+                party.other = p.other;
             }
-            Mark::Ended => {
-                parties[at] = records::idle();
-                return;
-            }
+            Mark::Ended => *party = Party::default(),
             Mark::Changed => {
-                parties[at].step = p.step;
-                parties[at].chain = p.chain;
-                parties[at].other = p.other;
-                parties[at].old = p.old;
-                parties[at].owed = p.owed;
-                parties[at].answer = p.answer;
-                return;
+                party.step = p.step;
+                party.chain = p.chain;
+                party.other = p.other;
+                party.old = p.old;
+                party.owed = p.owed;
+                party.answer = p.answer;
             }
         }
-    } else {
-        return;
     }
 }

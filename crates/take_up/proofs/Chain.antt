@@ -1,6 +1,6 @@
 -- A chain that was walked, and what is seen of its pages: it passes exactly where the model's test of it does.
--- Main statements: Facts and facts (what the sizes and the root's test say); WalkedChain and walked_chain; model-parts
--- and chain-pages (what the model's test says of it); chain-saved, chain-unsaved, chain_unwalked.
+-- Main statements: Facts and facts (what the sizes and the root's test say); WalkedChain and walked_chain; model_parts
+-- and chain_pages_ok (what the model's test says of it); chain_saved_ok, chain_unsaved, chain_unwalked.
 use mathlib.Core.Path.{◌≡◌, refl, sym, ap, ◌∙◌}
 use mathlib.Core.Bool.{Bool, true, false, cond, ◌&&◌, ◌||◌}
 use mathlib.Core.List.{List, ◌∷◌}
@@ -8,12 +8,14 @@ use Prim.Native.Nat.{ℕ, ◌+◌, ◌*◌, ◌≤◌, ◌<◌}
 use native.Mathlib.Omega.{arith}
 use lib.ListN.{length}
 use lib.Dec.{eqb, ltb, leb}
+use Rattle.std.specs.Prelude.{Ok, Err, Some, None}
+use Rattle.model.specs.declared.Damaged.{Damaged}
 use Rattle.model.specs.declared.Root.{Root}
 use Rattle.model.specs.declared.Entry.{Entry}
 use Rattle.model.specs.Sizes.{page_words, most_records}
 use Rattle.model.specs.Addresses.{span, chain_count, count_of_chains}
 use Rattle.model.specs.Entries.{ascending}
-use Rattle.model.specs.Pages.{page_of, count_of, link_of, link_sound, link_to_first, page_sound, primary_page}
+use Rattle.model.specs.Pages.{page_of, count_of, link_of, entries_of, link_sound, link_to_first, page_sound, primary_page}
 use Rattle.model.specs.Chains.{Checked, damaged, sound, list_from, entries_on, read_chain, ascending_chain, chain_of, pages_in}
 use Rattle.model.specs.Filling.{pages_for}
 use Rattle.model.specs.Refusals.{root_sound}
@@ -31,14 +33,12 @@ use Rattle.model.proofs.TakingUp.Tests.{packed_chain}
 use Rattle.model.proofs.TakingUp.Complete.{chain_packed}
 use Rattle.chains.specs.Links.{linked_pages}
 use Rattle.chains.specs.Walks.{counted}
-use Rattle.chains.specs.declared.Walked.{Walked}
 use Rattle.chains.proofs.Links.{chained_pages}
 use Rattle.chain_keys.specs.Gathering.{overflow_of, Followed}
 use Rattle.chain_keys.proofs.Following.{walked_walks}
 use Rattle.chain_keys.proofs.WholeChain.{unwalked_damaged}
 use Rattle.take_up.specs.declared.Home.{Home}
-use Rattle.take_up.specs.declared.Seen.{Seen}
-use Rattle.take_up.specs.Seen.{started, good_from, page_filled, fewest_on, after_page, after_listed, pages_seen, chain_saved, CanSurvey}
+use Rattle.take_up.specs.Seen.{good_from, least_after, page_filled, fewest_on, page_good, listed_good, pages_seen, chain_saved, CanSurvey}
 use Rattle.take_up.proofs.Records.{same_test, good_parts, parts_good, any_reaches, filled_all, page_ok, listed_ok}
 use Rattle.take_up.proofs.Filled.{chain_filled, filled_chain}
 
@@ -87,15 +87,15 @@ pub record WalkedChain (r : Root) (ps : List ℕ) (c n : ℕ) : Type 0 where
   pub bounded : n ≤ r.overflow
   pub chain_is : chain_of r ps c ≡ ascending_chain (read_chain ps c xs)
 
-pub walked_chain : (r : Root) (ps : List ℕ) (c n : ℕ) → Facts r ps → counted (overflow_of r ps c) ≡ Walked.Pages n → WalkedChain r ps c n
+pub walked_chain : (r : Root) (ps : List ℕ) (c n : ℕ) → Facts r ps → counted (overflow_of r ps c) ≡ Ok n → WalkedChain r ps c n
 unfolding overflow_of chain_of list_from
 walked_chain r ps c n f walked = go (page_sound r w) refl walked
   where
     w : List ℕ
     w = page_of ps c
 
-    pages : page_sound r w ≡ true → (x : Checked (List ℕ)) → x ≡ list_from r ps (link_of w) → counted x ≡ Walked.Pages n → WalkedChain r ps c n
-    pages good damaged ex e = absurd (let z : ◌≡◌ {A = ℕ} 0 1 = cc in omega arith)
+    pages : page_sound r w ≡ true → (x : Checked (List ℕ)) → x ≡ list_from r ps (link_of w) → counted x ≡ Ok n → WalkedChain r ps c n
+    pages good damaged ex e = cc
     pages good (sound xs) ex e =
         let walks = walked_walks r ps f.limits.keys_fit f.pages_fit r.overflow (link_of w) xs (sound_page_links r w good) (sym ex) in
         let found = walked_chained r ps r.overflow (link_of w) xs (sym ex) in
@@ -113,9 +113,9 @@ walked_chain r ps c n f walked = go (page_sound r w) refl walked
           chain_is = rw (good, ← ex) refl;
         }
 
-    go : (b : Bool) → b ≡ page_sound r w → counted (cond b (list_from r ps (link_of w)) damaged) ≡ Walked.Pages n → WalkedChain r ps c n
+    go : (b : Bool) → b ≡ page_sound r w → counted (cond b (list_from r ps (link_of w)) damaged) ≡ Ok n → WalkedChain r ps c n
     go true eb e = pages (sym eb) (list_from r ps (link_of w)) refl e
-    go false eb e = absurd (let z : ◌≡◌ {A = ℕ} 0 1 = cc in omega arith)
+    go false eb e = cc
 
 -- ---- What is seen of it
 
@@ -136,11 +136,12 @@ module _ (r : Root) (ps : List ℕ) (f : Facts r ps) (c n : ℕ) (inside : c < r
   unfolding pages_seen entries_on
   seen-is =
       let w = page_of ps c in
-      let s : ℕ → Seen = λ k. after_page h started w (level_at r c) (fewest_on r.capacity k 0) in
-      ap (λ (k : ℕ). (after_listed h r.capacity (s k) ps (linked_pages ps k (link_of w))).ok) (sym walked.many)
-      ∙ ap (λ (l : List ℕ). (after_listed h r.capacity (s (length xs)) ps l).ok) (chained_pages r ps (link_of w) xs walked.chained)
-      ∙ listed_ok h r.capacity (s (length xs)) ps xs
-      ∙ page_ok h r.capacity started w (level_at r c) (fewest_on r.capacity (length xs) 0) (filled_all r.capacity ps xs) (entries_on ps xs)
+      let good : ℕ → Bool = λ k. page_good h 0 w (level_at r c) (fewest_on r.capacity k 0) in
+      let least = least_after 0 (entries_of w) in
+      ap (λ (k : ℕ). good k && listed_good h r.capacity least ps (linked_pages ps k (link_of w))) (sym walked.many)
+      ∙ ap (λ (l : List ℕ). good (length xs) && listed_good h r.capacity least ps l) (chained_pages r ps (link_of w) xs walked.chained)
+      ∙ ap (λ (t : Bool). good (length xs) && t) (listed_ok h r.capacity least ps xs)
+      ∙ page_ok h r.capacity 0 w (level_at r c) (fewest_on r.capacity (length xs) 0) (filled_all r.capacity ps xs) (entries_on ps xs)
 
   has_primary : Has ps c
   has_primary = record { fits = omega (arith, f.pages_fit, inside) }
@@ -213,16 +214,16 @@ module _ (r : Root) (ps : List ℕ) (f : Facts r ps) (c n : ℕ) (inside : c < r
   chain_counted : fits_if_sound r ps c (chain_of r ps c) ≡ true → length (pages_in (chain_of r ps c)) ≡ n
   chain_counted e = ap length (chain_pages_ok e) ∙ walked.many
 
-  pub chain_saved_ok : pages_seen r h n ps ≡ true → Walked.Pages n ≡ chain_saved r ps c
+  pub chain_saved_ok : pages_seen r h n ps ≡ true → Some n ≡ chain_saved r ps c
   unfolding chain_saved
   chain_saved_ok e =
       let g : fits_if_sound r ps c (chain_of r ps c) ≡ true = sym chain_seen ∙ e in
       rw (g, chain_counted g) refl
 
-  pub chain_unsaved : pages_seen r h n ps ≡ false → Walked.Damaged ≡ chain_saved r ps c
+  pub chain_unsaved : pages_seen r h n ps ≡ false → None ≡ chain_saved r ps c
   unfolding chain_saved
   chain_unsaved e = rw (sym chain_seen ∙ e) refl
 
-pub chain_unwalked : (r : Root) (ps : List ℕ) (c : ℕ) → counted (overflow_of r ps c) ≡ Walked.Damaged → Walked.Damaged ≡ chain_saved r ps c
+pub chain_unwalked : (r : Root) (ps : List ℕ) (c : ℕ) {e : Damaged} → Err e ≡ counted (overflow_of r ps c) → None ≡ chain_saved r ps c
 unfolding chain_saved fits_if_sound
 chain_unwalked r ps c e = rw (unwalked_damaged r ps c e) refl

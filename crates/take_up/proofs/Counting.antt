@@ -1,35 +1,35 @@
 -- The chains one after the other, their overflow pages counted.
--- Main statements: saved-fits, unsaved-fails (what the answer of one chain says); fits_next, counted_next (one chain
--- more); chain_bounded, counted-bounded; all_saved, some-unsaved, chains-fit, chains-unfit (the answer of all chains).
+-- Main statements: saved_fits, unsaved_fails (what the answer of one chain says); fits_next, counted_next (one chain
+-- more); chain_bounded, counted_bounded; all_saved, some_unsaved, chains_fit_ok, chains_unfit (the answer of all chains).
 use mathlib.Core.Path.{◌≡◌, refl, sym, ap}
 use mathlib.Core.Bool.{Bool, true, false, cond, ◌&&◌}
 use mathlib.Core.List.{List}
 use Prim.Native.Nat.{ℕ, zero, suc, ◌+◌, ◌-◌, ◌*◌, ◌≤◌, ◌<◌}
 use native.Mathlib.Omega.{arith}
 use lib.ListN.{length}
+use Rattle.std.specs.Prelude.{Some, None}
 use Rattle.model.specs.declared.Root.{Root}
 use Rattle.model.specs.Pages.{page_of, link_of, primary_page}
 use Rattle.model.specs.Chains.{Checked, damaged, sound, list_from, Chain, read_chain, chain_of, pages_in}
 use Rattle.model.specs.TakeUp.{fits_if_sound, chains_fit}
 use Rattle.model.proofs.Laws.Walks.{walked_chained, chain_reads}
-use Rattle.chains.specs.declared.Walked.{Walked}
 use Rattle.take_up.specs.Seen.{chain_saved, pages_counted, chains_saved}
 
 module _ (r : Root) (ps : List ℕ) where
-  pub saved_fits : (c n : ℕ) → chain_saved r ps c ≡ Walked.Pages n → (fits_if_sound r ps c (chain_of r ps c) ≡ true) × (length (pages_in (chain_of r ps c)) ≡ n)
+  pub saved_fits : (c n : ℕ) → chain_saved r ps c ≡ Some n → (fits_if_sound r ps c (chain_of r ps c) ≡ true) × (length (pages_in (chain_of r ps c)) ≡ n)
   unfolding chain_saved
   saved_fits c n e = go (fits_if_sound r ps c (chain_of r ps c)) e
     where
-      go : (t : Bool) → cond t (Walked.Pages (length (pages_in (chain_of r ps c)))) Walked.Damaged ≡ Walked.Pages n → (t ≡ true) × (length (pages_in (chain_of r ps c)) ≡ n)
+      go : (t : Bool) → cond t (Some (length (pages_in (chain_of r ps c)))) None ≡ Some n → (t ≡ true) × (length (pages_in (chain_of r ps c)) ≡ n)
       go true e = (refl, cc)
-      go false e = absurd (let z : ◌≡◌ {A = ℕ} 0 1 = cc in omega arith)
+      go false e = cc
 
-  pub unsaved_fails : (c : ℕ) → chain_saved r ps c ≡ Walked.Damaged → fits_if_sound r ps c (chain_of r ps c) ≡ false
+  pub unsaved_fails : (c : ℕ) → chain_saved r ps c ≡ None → fits_if_sound r ps c (chain_of r ps c) ≡ false
   unfolding chain_saved
   unsaved_fails c e = go (fits_if_sound r ps c (chain_of r ps c)) e
     where
-      go : (t : Bool) → cond t (Walked.Pages (length (pages_in (chain_of r ps c)))) Walked.Damaged ≡ Walked.Damaged → t ≡ false
-      go true e = absurd (let z : ◌≡◌ {A = ℕ} 0 1 = cc in omega arith)
+      go : (t : Bool) → cond t (Some (length (pages_in (chain_of r ps c)))) None ≡ None → t ≡ false
+      go true e = cc
       go false e = refl
 
   pub fits_next : (n c : ℕ) → 0 < n → chains_fit r ps n c ≡ (fits_if_sound r ps c (chain_of r ps c) && chains_fit r ps (n - 1) (c + 1))
@@ -65,26 +65,26 @@ module _ (r : Root) (ps : List ℕ) where
   counted_bounded h zero c = omega arith
   counted_bounded h (suc n) c = omega (arith, h, chain_bounded c, counted_bounded h n (c + 1))
 
-  pub all_saved : (n total : ℕ) → chains_fit r ps n 0 ≡ true → pages_counted r ps n 0 ≡ total → Walked.Pages total ≡ chains_saved r ps n 0
+  pub all_saved : (n total : ℕ) → chains_fit r ps n 0 ≡ true → pages_counted r ps n 0 ≡ total → Some total ≡ chains_saved r ps n 0
   unfolding chains_saved
   all_saved n total e f = rw (e, f) refl
 
-  pub some_unsaved : (n : ℕ) → chains_fit r ps n 0 ≡ false → Walked.Damaged ≡ chains_saved r ps n 0
+  pub some_unsaved : (n : ℕ) → chains_fit r ps n 0 ≡ false → None ≡ chains_saved r ps n 0
   unfolding chains_saved
   some_unsaved n e = rw e refl
 
-  pub chains_fit_ok : (n t : ℕ) → chains_saved r ps n 0 ≡ Walked.Pages t → (chains_fit r ps n 0 ≡ true) × (pages_counted r ps n 0 ≡ t)
+  pub chains_fit_ok : (n t : ℕ) → chains_saved r ps n 0 ≡ Some t → (chains_fit r ps n 0 ≡ true) × (pages_counted r ps n 0 ≡ t)
   unfolding chains_saved
   chains_fit_ok n t e = go (chains_fit r ps n 0) e
     where
-      go : (b : Bool) → cond b (Walked.Pages (pages_counted r ps n 0)) Walked.Damaged ≡ Walked.Pages t → (b ≡ true) × (pages_counted r ps n 0 ≡ t)
+      go : (b : Bool) → cond b (Some (pages_counted r ps n 0)) None ≡ Some t → (b ≡ true) × (pages_counted r ps n 0 ≡ t)
       go true e = (refl, cc)
-      go false e = absurd (let z : ◌≡◌ {A = ℕ} 0 1 = cc in omega arith)
+      go false e = cc
 
-  pub chains_unfit : (n : ℕ) → chains_saved r ps n 0 ≡ Walked.Damaged → chains_fit r ps n 0 ≡ false
+  pub chains_unfit : (n : ℕ) → chains_saved r ps n 0 ≡ None → chains_fit r ps n 0 ≡ false
   unfolding chains_saved
   chains_unfit n e = go (chains_fit r ps n 0) e
     where
-      go : (b : Bool) → cond b (Walked.Pages (pages_counted r ps n 0)) Walked.Damaged ≡ Walked.Damaged → b ≡ false
-      go true e = absurd (let z : ◌≡◌ {A = ℕ} 0 1 = cc in omega arith)
+      go : (b : Bool) → cond b (Some (pages_counted r ps n 0)) None ≡ None → b ≡ false
+      go true e = cc
       go false e = refl

@@ -1,5 +1,5 @@
 -- Pages word for word, by their level, count and the zeros behind their records.
--- Main statements: page_words_lem and filled_page_lem (one page); chain-filled and filled-chain (a chain that is filled as it
+-- Main statements: page_words_lem and filled_page_lem (one page); chain_filled and filled_chain (a chain that is filled as it
 -- must be).
 use mathlib.Core.Path.{◌≡◌, refl, sym, ap, ◌∙◌}
 use mathlib.Core.Bool.{true, ◌&&◌}

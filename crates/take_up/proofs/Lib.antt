@@ -1,6 +1,5 @@
 -- Laws that the proofs of this crate share.
 pub mod Words
-pub mod Levels
 pub mod Records
 pub mod Filled
 pub mod Chain

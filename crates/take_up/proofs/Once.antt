@@ -1,6 +1,6 @@
 -- Pages that are counted are each there once: where the chains fit and the free list is saved, no page is twice in
 -- them, so that V pages counted are all there are, each once.
--- Main statement: counted-once.
+-- Main statement: counted_once.
 use mathlib.Core.Path.{◌≡◌, refl, sym, ap, ◌∙◌, subst}
 use mathlib.Core.Logic.{◌⊎◌, inl, inr}
 use mathlib.Core.Bool.{true}

@@ -1,15 +1,17 @@
 -- Records seen one after the other, and pages.
--- Main statements: same_test (two tests that imply each other); record-seen, records-seen (the records of a page);
--- good_parts and parts_good (what is seen is ascent and home); listed_ok (the pages of a list), one_listed,
--- none-listed.
+-- Main statements: same_test (two tests that imply each other); record_seen, records_seen (the records of a page);
+-- good_parts and parts_good (what is seen is ascent and home); listed_ok (the pages of a list), page_passes,
+-- page_stops, one_listed, none-listed.
 use mathlib.Core.Path.{◌≡◌, refl, sym, ap, ◌∙◌}
-use mathlib.Core.Bool.{Bool, true, false, ◌&&◌, and-true}
+use mathlib.Core.Bool.{Bool, true, false, ◌&&◌}
 use mathlib.Core.List.{List, [], ◌∷◌, ◌++◌}
 use Prim.Native.Nat.{ℕ, zero, suc, ◌+◌, ◌-◌, ◌*◌, ◌≤◌, ◌<◌}
 use native.Mathlib.Omega.{arith}
 use lib.ListN.{length, get_or, drop, length-drop, drop_of_length-le}
 use lib.Seq.{drop-cons, get_or-take, get_or-drop}
 use lib.Dec.{leb}
+use Rattle.std.specs.Prelude.{Some, None}
+use Rattle.model.specs.declared.Root.{Root}
 use Rattle.model.specs.declared.Entry.{Entry}
 use Rattle.model.specs.Sizes.{page_words, most_records, record_words}
 use Rattle.model.specs.Entries.{key_of, entry_of, below_first, ascending}
@@ -23,8 +25,7 @@ use Rattle.model.proofs.Laws.Pages.{length-entries_of}
 use Rattle.chains.specs.Links.{linked_pages}
 use Rattle.chains.proofs.Links.{length-linked_pages}
 use Rattle.take_up.specs.declared.Home.{Home}
-use Rattle.take_up.specs.declared.Seen.{Seen}
-use Rattle.take_up.specs.Seen.{fits_home, good_from, least_after, after_record, after_records, page_filled, fewest_on, after_page, after_listed}
+use Rattle.take_up.specs.Seen.{fits_home, good_from, least_after, behind, after_record, after_records, page_filled, fewest_on, page_good, after_page, listed_good, pages_seen}
 
 -- ---- Tests
 
@@ -38,29 +39,33 @@ and_assoc : (a b c : Bool) → ((a && b) && c) ≡ (a && (b && c))
 and_assoc true b c = refl
 and_assoc false b c = refl
 
-and_shift : (a b c d : Bool) → (a && ((b && c) && d)) ≡ (((a && b) && c) && d)
-and_shift true b c d = refl
-and_shift false b c d = refl
-
-never : (a : Bool) → false ≡ (a && false)
-never true = refl
-never false = refl
-
-shuffled : (a g f k l : Bool) → (((a && g) && f) && (k && l)) ≡ (a && ((g && k) && (f && l)))
-shuffled false g f k l = refl
-shuffled true false f k l = refl
-shuffled true true true k l = refl
-shuffled true true false k l = never k
+swapped : (f g k l : Bool) → ((f && g) && (k && l)) ≡ ((g && k) && (f && l))
+swapped true true k l = refl
+swapped true false k l = refl
+swapped false true true l = refl
+swapped false true false l = refl
+swapped false false k l = refl
 
 -- ---- Records
 
-records_next : (h : Home) (s : Seen) (e : Entry) (es : List Entry) → after_records h s (e ∷ es) ≡ after_records h (after_record h s (key_of e)) es
+-- The first record of some, and those behind it.
+records_next : (h : Home) (l : ℕ) (e : Entry) (es : List Entry) {m : ℕ} → after_record h l (key_of e) ≡ Some m
+    → after_records h l (e ∷ es) ≡ after_records h m es
 unfolding after_records good_from least_after
-records_next h s e es = λ i. record { ok = and_shift s.ok (leb s.least (key_of e)) (fits_home h (key_of e)) (good_from h (key_of e + 1) es) i; least = least_after (key_of e + 1) es }
+records_next h l e es {m} q = go (leb l (key_of e) && fits_home h (key_of e)) q
+  where
+    go : (t : Bool) → behind t (key_of e + 1) ≡ Some m
+        → behind (t && good_from h (key_of e + 1) es) (least_after (key_of e + 1) es) ≡ behind (good_from h m es) (least_after m es)
+    go true q = let same : key_of e + 1 ≡ m = cc in rw same refl
+    go false q = cc
 
-records_none : (h : Home) (s : Seen) → after_records h s [] ≡ s
-unfolding after_records good_from least_after
-records_none h s = λ i. record { ok = and-true s.ok i; least = s.least }
+record_fails : (h : Home) (l : ℕ) (e : Entry) (es : List Entry) → after_record h l (key_of e) ≡ None → after_records h l (e ∷ es) ≡ None
+unfolding after_records good_from
+record_fails h l e es q = go (leb l (key_of e) && fits_home h (key_of e)) q
+  where
+    go : (t : Bool) → behind t (key_of e + 1) ≡ None → behind (t && good_from h (key_of e + 1) es) (least_after l (e ∷ es)) ≡ None
+    go true q = cc
+    go false q = refl
 
 module _ (w : List ℕ) (i : ℕ) (sixteen : length w ≡ page_words) (fits : count_of w ≤ most_records) where
   -- Record i: its key, then its setting.
@@ -82,13 +87,20 @@ module _ (w : List ℕ) (i : ℕ) (sixteen : length w ≡ page_words) (fits : co
       rw one
       (drop-cons (entries_of w) i (entry_of 0 0) (omega (arith, length-entries_of w sixteen fits)) ∙ ap (λ (x : Entry). x ∷ drop (suc i) (entries_of w)) (record_on h))
 
-  pub record_seen : (h : Home) (s : Seen) → i < count_of w
-      → after_records h s (drop i (entries_of w)) ≡ after_records h (after_record h s (get_or w (3 + i * record_words) 0)) (drop (i + 1) (entries_of w))
+  pub record_seen : (h : Home) (l : ℕ) {m : ℕ} → i < count_of w → after_record h l (get_or w (3 + i * record_words) 0) ≡ Some m
+      → after_records h l (drop i (entries_of w)) ≡ after_records h m (drop (i + 1) (entries_of w))
   unfolding here
-  record_seen h s l = ap (after_records h s) (next_on l) ∙ records_next h s here (drop (i + 1) (entries_of w))
+  record_seen h l b q = ap (after_records h l) (next_on b) ∙ records_next h l here (drop (i + 1) (entries_of w)) q
 
-  pub records_seen : (h : Home) (s : Seen) → count_of w ≤ i → after_records h s (drop i (entries_of w)) ≡ s
-  records_seen h s l = ap (after_records h s) (drop_of_length-le (entries_of w) {i = i} (omega (arith, length-entries_of w sixteen fits))) ∙ records_none h s
+  pub record_unseen : (h : Home) (l : ℕ) → i < count_of w → after_record h l (get_or w (3 + i * record_words) 0) ≡ None
+      → after_records h l (drop i (entries_of w)) ≡ None
+  unfolding here
+  record_unseen h l b q = ap (after_records h l) (next_on b) ∙ record_fails h l here (drop (i + 1) (entries_of w)) q
+
+  pub records_seen : (h : Home) (l : ℕ) → count_of w ≤ i → after_records h l (drop i (entries_of w)) ≡ Some l
+  unfolding after_records good_from least_after
+  records_seen h l b =
+      ap (after_records h l) (drop_of_length-le (entries_of w) {i = i} (omega (arith, length-entries_of w sixteen fits)))
 
 -- ---- What is seen of records
 
@@ -150,35 +162,94 @@ filled_all b ps [] = true
 filled_all b ps (x ∷ xs) = page_filled (page_of ps x) 0 (fewest_on b (length xs) 1) && filled_all b ps xs
 
 -- A page and those behind it.
-pub page_ok : (h : Home) (b : ℕ) (s : Seen) (w : List ℕ) (level fewest : ℕ) (k : Bool) (es : List Entry)
-    → ((after_page h s w level fewest).ok && (good_from h (after_page h s w level fewest).least es && k))
-    ≡ (s.ok && (good_from h s.least (entries_of w ++ es) && (page_filled w level fewest && k)))
-unfolding after_page after_records
-page_ok h b s w level fewest k es =
-    shuffled s.ok (good_from h s.least (entries_of w)) (page_filled w level fewest) (good_from h (least_after s.least (entries_of w)) es) k
-    ∙ ap (λ (t : Bool). s.ok && (t && (page_filled w level fewest && k))) (sym (good_append h s.least (entries_of w) es))
+pub page_ok : (h : Home) (b l : ℕ) (w : List ℕ) (level fewest : ℕ) (k : Bool) (es : List Entry)
+    → (page_good h l w level fewest && (good_from h (least_after l (entries_of w)) es && k))
+    ≡ (good_from h l (entries_of w ++ es) && (page_filled w level fewest && k))
+page_ok h b l w level fewest k es =
+    swapped (page_filled w level fewest) (good_from h l (entries_of w)) (good_from h (least_after l (entries_of w)) es) k
+    ∙ ap (λ (t : Bool). t && (page_filled w level fewest && k)) (sym (good_append h l (entries_of w) es))
 
-pub listed_ok : (h : Home) (b : ℕ) (s : Seen) (ps xs : List ℕ) → (after_listed h b s ps xs).ok ≡ (s.ok && (good_from h s.least (entries_on ps xs) && filled_all b ps xs))
-unfolding after_listed entries_on filled_all good_from
-listed_ok h b s ps [] = sym (and-true s.ok)
-listed_ok h b s ps (x ∷ xs) =
-    listed_ok h b (after_page h s (page_of ps x) 0 (fewest_on b (length xs) 1)) ps xs
-    ∙ page_ok h b s (page_of ps x) 0 (fewest_on b (length xs) 1) (filled_all b ps xs) (entries_on ps xs)
+pub listed_ok : (h : Home) (b l : ℕ) (ps xs : List ℕ) → listed_good h b l ps xs ≡ (good_from h l (entries_on ps xs) && filled_all b ps xs)
+unfolding listed_good entries_on filled_all good_from
+listed_ok h b l ps [] = refl
+listed_ok h b l ps (x ∷ xs) =
+    let w = page_of ps x in
+    ap (λ (t : Bool). page_good h l w 0 (fewest_on b (length xs) 1) && t) (listed_ok h b (least_after l (entries_of w)) ps xs)
+    ∙ page_ok h b l w 0 (fewest_on b (length xs) 1) (filled_all b ps xs) (entries_on ps xs)
 
 -- ---- Pages followed by their links
 
-pub one_listed : (h : Home) (b : ℕ) (s : Seen) (ps : List ℕ) (n l : ℕ) → 0 < n
-    → after_listed h b s ps (linked_pages ps n l)
-    ≡ after_listed h b (after_page h s (page_of ps (l - 1)) 0 (fewest_on b (n - 1) 1)) ps (linked_pages ps (n - 1) (link_of (page_of ps (l - 1))))
-unfolding after_listed linked_pages
-one_listed h b s ps zero l some = absurd (omega arith)
-one_listed h b s ps (suc n) l some =
-    let less : n ≡ suc n - 1 = omega arith in
-    let w = page_of ps (l - 1) in
-    ap (λ (k : ℕ). after_listed h b (after_page h s w 0 (fewest_on b k 1)) ps (linked_pages ps n (link_of w))) (length-linked_pages ps n (link_of w))
-    ∙ ap (λ (k : ℕ). after_listed h b (after_page h s w 0 (fewest_on b k 1)) ps (linked_pages ps k (link_of w))) less
+-- What a page's answer says.
+pub page_passes : (h : Home) (l : ℕ) (w : List ℕ) (level fewest : ℕ) {m : ℕ} → after_page h l w level fewest ≡ Some m
+    → (page_good h l w level fewest ≡ true) × (least_after l (entries_of w) ≡ m)
+unfolding after_page
+page_passes h l w level fewest {m} q = go (page_good h l w level fewest) q
+  where
+    go : (t : Bool) → behind t (least_after l (entries_of w)) ≡ Some m → (t ≡ true) × (least_after l (entries_of w) ≡ m)
+    go true q = (refl, cc)
+    go false q = cc
 
-pub none-listed : (h : Home) (b : ℕ) (s : Seen) (ps : List ℕ) (n l : ℕ) → n ≤ 0 → after_listed h b s ps (linked_pages ps n l) ≡ s
-unfolding after_listed linked_pages
-none-listed h b s ps zero l some = refl
-none-listed h b s ps (suc n) l some = absurd (omega arith)
+pub page_stops : (h : Home) (l : ℕ) (w : List ℕ) (level fewest : ℕ) → after_page h l w level fewest ≡ None → page_good h l w level fewest ≡ false
+unfolding after_page
+page_stops h l w level fewest q = go (page_good h l w level fewest) q
+  where
+    go : (t : Bool) → behind t (least_after l (entries_of w)) ≡ None → t ≡ false
+    go true q = cc
+    go false q = refl
+
+pub one_listed : (h : Home) (b l : ℕ) (ps : List ℕ) (n link : ℕ) → 0 < n
+    → listed_good h b l ps (linked_pages ps n link)
+    ≡ (page_good h l (page_of ps (link - 1)) 0 (fewest_on b (n - 1) 1)
+    && listed_good h b (least_after l (entries_of (page_of ps (link - 1)))) ps (linked_pages ps (n - 1) (link_of (page_of ps (link - 1)))))
+unfolding listed_good linked_pages
+one_listed h b l ps zero link some = absurd (omega arith)
+one_listed h b l ps (suc n) link some =
+    let less : n ≡ suc n - 1 = omega arith in
+    let w = page_of ps (link - 1) in
+    let m = least_after l (entries_of w) in
+    ap (λ (k : ℕ). page_good h l w 0 (fewest_on b k 1) && listed_good h b m ps (linked_pages ps n (link_of w))) (length-linked_pages ps n (link_of w))
+    ∙ ap (λ (k : ℕ). page_good h l w 0 (fewest_on b k 1) && listed_good h b m ps (linked_pages ps k (link_of w))) less
+
+pub none-listed : (h : Home) (b l : ℕ) (ps : List ℕ) (n link : ℕ) → n ≤ 0 → listed_good h b l ps (linked_pages ps n link) ≡ true
+unfolding listed_good linked_pages
+none-listed h b l ps zero link some = refl
+none-listed h b l ps (suc n) link some = absurd (omega arith)
+
+-- ---- Pages as they were loaded
+
+module _ (h : Home) (b l : ℕ) (ps : List ℕ) (n link : ℕ) (some : 0 < n) (w : List ℕ) (fewest : ℕ)
+    (loaded : w ≡ page_of ps (link - 1)) (must : fewest ≡ fewest_on b (n - 1) 1) where
+  abbrev behind_it : ℕ → List ℕ → Bool
+  behind_it k v = listed_good h b (least_after l (entries_of v)) ps (linked_pages ps (n - 1) k)
+
+  this_first : listed_good h b l ps (linked_pages ps n link) ≡ (page_good h l w 0 fewest && behind_it (link_of w) w)
+  this_first =
+      one_listed h b l ps n link some
+      ∙ (λ i. page_good h l (sym loaded i) 0 (sym must i) && behind_it (link_of (sym loaded i)) (sym loaded i))
+
+  pub page_listed : {m next : ℕ} → next ≡ link_of w → after_page h l w 0 fewest ≡ Some m
+      → listed_good h b l ps (linked_pages ps n link) ≡ listed_good h b m ps (linked_pages ps (n - 1) next)
+  page_listed e q =
+      let p = page_passes h l w 0 fewest q in
+      this_first ∙ (λ i. p.0 i && listed_good h b (p.1 i) ps (linked_pages ps (n - 1) (sym e i)))
+
+  pub page_unlisted : after_page h l w 0 fewest ≡ None → listed_good h b l ps (linked_pages ps n link) ≡ false
+  page_unlisted q = this_first ∙ ap (λ (t : Bool). t && behind_it (link_of w) w) (page_stops h l w 0 fewest q)
+
+module _ (r : Root) (h : Home) (n : ℕ) (ps w : List ℕ) (fewest : ℕ)
+    (loaded : w ≡ page_of ps h.chain) (must : fewest ≡ fewest_on r.capacity n 0) where
+  abbrev all_behind : ℕ → List ℕ → Bool
+  all_behind k v = listed_good h r.capacity (least_after 0 (entries_of v)) ps (linked_pages ps n k)
+
+  primary_first : pages_seen r h n ps ≡ (page_good h 0 w h.level fewest && all_behind (link_of w) w)
+  unfolding pages_seen
+  primary_first = λ i. page_good h 0 (sym loaded i) h.level (sym must i) && all_behind (link_of (sym loaded i)) (sym loaded i)
+
+  pub primary_seen : {m next : ℕ} → next ≡ link_of w → after_page h 0 w h.level fewest ≡ Some m
+      → pages_seen r h n ps ≡ listed_good h r.capacity m ps (linked_pages ps n next)
+  primary_seen e q =
+      let p = page_passes h 0 w h.level fewest q in
+      primary_first ∙ (λ i. p.0 i && listed_good h r.capacity (p.1 i) ps (linked_pages ps n (sym e i)))
+
+  pub primary_unseen : after_page h 0 w h.level fewest ≡ None → pages_seen r h n ps ≡ false
+  primary_unseen q = primary_first ∙ ap (λ (t : Bool). t && all_behind (link_of w) w) (page_stops h 0 w h.level fewest q)

@@ -1,6 +1,6 @@
 -- The conditions together: a file with a row of zero records passes exactly where its words do.
--- Main statements: locks-fail, scratch-fails, root-fails, beyond-fails, chains-fail, count-fails (a condition that
--- does not hold); free-decides (where all others hold).
+-- Main statements: locks_fail, scratch_fails, root_fails, beyond_fails, chains_fail, count_fails (a condition that
+-- does not hold); free_decides (where all others hold).
 use mathlib.Core.Path.{◌≡◌, refl, sym, ◌∙◌}
 use mathlib.Core.Bool.{Bool, true, false, ◌&&◌}
 use mathlib.Core.List.{List}

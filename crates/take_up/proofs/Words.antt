@@ -1,13 +1,15 @@
 -- Words looked through one after the other.
--- Main statements: zero_passed and zero_ends (a row of words), free_words (a free page), pages_words (a row of pages).
+-- Main statements: all_looked_at (a row of words), free_words (a free page), pages_words (a row of pages), free_next and
+-- free_ends (free pages, one after the other).
 use mathlib.Core.Path.{◌≡◌, refl, sym, ap, ◌∙◌}
 use mathlib.Core.Bool.{Bool, true, false, ◌&&◌, and-true}
 use mathlib.Core.List.{List, [], ◌∷◌, ◌++◌}
 use Prim.Native.Nat.{ℕ, zero, suc, ◌+◌, ◌-◌, ◌*◌, ◌≤◌, ◌<◌}
 use native.Mathlib.Omega.{arith}
-use lib.ListN.{length, get_or, take, drop, replicate, drop_of_length-le}
-use lib.Seq.{drop-cons, take-add, drop-drop}
+use lib.ListN.{length, get_or, take, drop, replicate}
+use lib.Seq.{take-add, drop-drop}
 use lib.Dec.{eqb}
+use Rattle.std.specs.List.{fold}
 use Rattle.model.specs.Sizes.{page_words}
 use Rattle.model.specs.Pages.{page_of, link_of, words_of, filled_page, free_page, zero_page}
 use Rattle.model.specs.WaitingRow.{all_zero}
@@ -20,17 +22,11 @@ and_assoc : (a b c : Bool) → (a && (b && c)) ≡ ((a && b) && c)
 and_assoc true b c = refl
 and_assoc false b c = refl
 
-zero_next : (ws : List ℕ) (i : ℕ) → i < length ws → all_zero (drop i ws) ≡ (eqb (get_or ws i 0) 0 && all_zero (drop (i + 1) ws))
+-- Words looked at one after the other.
+pub all_looked_at : (clear : Bool) (ws : List ℕ) → fold (λ c w. c && eqb w 0) clear ws ≡ (clear && all_zero ws)
 unfolding all_zero
-zero_next ws i h = let one : suc i ≡ i + 1 = omega arith in ap all_zero (drop-cons ws i 0 h) ∙ ap (λ (k : ℕ). eqb (get_or ws i 0) 0 && all_zero (drop k ws)) one
-
-pub zero_passed : (clear : Bool) (ws : List ℕ) (i : ℕ) → i < length ws
-    → (clear && all_zero (drop i ws)) ≡ ((clear && eqb (get_or ws i 0) 0) && all_zero (drop (i + 1) ws))
-zero_passed clear ws i h = ap (λ (t : Bool). clear && t) (zero_next ws i h) ∙ and_assoc clear (eqb (get_or ws i 0) 0) (all_zero (drop (i + 1) ws))
-
-pub zero_ends : (clear : Bool) (ws : List ℕ) (i : ℕ) → length ws ≤ i → (clear && all_zero (drop i ws)) ≡ clear
-unfolding all_zero
-zero_ends clear ws i h = ap (λ (l : List ℕ). clear && all_zero l) (drop_of_length-le ws {i = i} h) ∙ and-true clear
+all_looked_at clear [] = sym (and-true clear)
+all_looked_at clear (w ∷ ws) = all_looked_at (clear && eqb w 0) ws ∙ sym (and_assoc clear (eqb w 0) (all_zero ws))
 
 -- ---- Zeros as a row of zeros
 
@@ -43,23 +39,13 @@ zero_same (suc k) (w ∷ ws) e = ap (λ (t : Bool). eqb w 0 && t) (zero_same k w
 
 -- ---- A free page
 
-turned : (z a b : Bool) → ((z && a) && b) ≡ (a && (b && (true && z)))
-turned true true true = refl
-turned true true false = refl
-turned true false true = refl
-turned true false false = refl
-turned false true true = refl
-turned false true false = refl
-turned false false true = refl
-turned false false false = refl
-
-pub free_words : (w : List ℕ) → length w ≡ page_words → ((all_zero (drop 3 w) && eqb (get_or w 0 0) 0) && eqb (get_or w 1 0) 0) ≡ same_words w (free_page (link_of w))
+pub free_words : (w : List ℕ) → length w ≡ page_words → ((eqb (get_or w 0 0) 0 && eqb (get_or w 1 0) 0) && all_zero (drop 3 w)) ≡ same_words w (free_page (link_of w))
 unfolding same_words free_page filled_page link_of words_of
 free_words [] long = absurd (omega arith)
 free_words (a ∷ []) long = absurd (omega arith)
 free_words (a ∷ (n ∷ [])) long = absurd (omega arith)
 free_words (a ∷ (n ∷ (l ∷ ws))) long =
-    turned (all_zero ws) (eqb a 0) (eqb n 0)
+    sym (and_assoc (eqb a 0) (eqb n 0) (all_zero ws))
     ∙ (λ i. eqb a 0 && (eqb n 0 && (sym (eqb_same l l refl) i && sym (zero_same 13 ws (omega (arith, long))) i)))
 
 -- ---- A row of pages
@@ -90,18 +76,17 @@ pages_words ps (suc n) x h =
 
 -- ---- Free pages followed by their links
 
-pub free_passed : (clear : Bool) (ps : List ℕ) (n l : ℕ) → 0 < n
-    → (clear && all_free ps (linked_pages ps n l))
-    ≡ ((clear && same_words (page_of ps (l - 1)) (free_page (link_of (page_of ps (l - 1))))) && all_free ps (linked_pages ps (n - 1) (link_of (page_of ps (l - 1)))))
+pub free_next : (ps : List ℕ) (n l : ℕ) → 0 < n
+    → all_free ps (linked_pages ps n l)
+    ≡ (same_words (page_of ps (l - 1)) (free_page (link_of (page_of ps (l - 1)))) && all_free ps (linked_pages ps (n - 1) (link_of (page_of ps (l - 1)))))
 unfolding all_free linked_pages
-free_passed clear ps zero l some = absurd (omega arith)
-free_passed clear ps (suc n) l some =
+free_next ps zero l some = absurd (omega arith)
+free_next ps (suc n) l some =
     let less : n ≡ suc n - 1 = omega arith in
     let w = page_of ps (l - 1) in
-    and_assoc clear (same_words w (free_page (link_of w))) (all_free ps (linked_pages ps n (link_of w)))
-    ∙ ap (λ (k : ℕ). (clear && same_words w (free_page (link_of w))) && all_free ps (linked_pages ps k (link_of w))) less
+    ap (λ (k : ℕ). same_words w (free_page (link_of w)) && all_free ps (linked_pages ps k (link_of w))) less
 
-pub free_ends : (clear : Bool) (ps : List ℕ) (n l : ℕ) → n ≤ 0 → (clear && all_free ps (linked_pages ps n l)) ≡ clear
+pub free_ends : (ps : List ℕ) (n l : ℕ) → n ≤ 0 → all_free ps (linked_pages ps n l) ≡ true
 unfolding all_free linked_pages
-free_ends clear ps zero l some = and-true clear
-free_ends clear ps (suc n) l some = absurd (omega arith)
+free_ends ps zero l some = refl
+free_ends ps (suc n) l some = absurd (omega arith)

@@ -1,8 +1,8 @@
 -- A saved file looked through: what each function of this crate answers, in terms of the model.
--- Main definitions: after_records, after_page, after_listed and pages_seen (what was seen of a chain, page after page);
+-- Main definitions: after_records, after_page, listed_good and pages_seen (what was seen of a chain, page after page);
 -- chain_saved and chains_saved (overflow pages counted, where the chains fit); at_rest (the file with a row of zero
 -- records); CanSurvey (sizes, root and lengths are as they must be).
-use Rattle.std.specs.Prelude.{◌≡◌, Bool, true, cond, ◌&&◌, List, [], ◌∷◌, ℕ, zero, suc, ◌+◌, ◌*◌, ◌≤◌, length, drop, replicate, eqb, leb}
+use Rattle.std.specs.Prelude.{◌≡◌, Bool, true, cond, ◌&&◌, List, [], ◌∷◌, ℕ, zero, suc, ◌+◌, ◌*◌, ◌≤◌, length, drop, replicate, eqb, leb, Option, Some, None}
 use Rattle.model.specs.declared.Root.{Root}
 use Rattle.model.specs.declared.Entry.{Entry}
 use Rattle.model.specs.Sizes.{page_words, record_words, within_limits, all_page_words}
@@ -16,9 +16,13 @@ use Rattle.model.specs.Refusals.{root_sound}
 use Rattle.model.specs.WaitingRow.{all_zero}
 use Rattle.model.specs.TakeUp.{fits_if_sound, chains_fit}
 use Rattle.chains.specs.Links.{linked_pages}
-use Rattle.chains.specs.declared.Walked.{Walked}
 use Rattle.take_up.specs.declared.Home.{Home}
-use Rattle.take_up.specs.declared.Seen.{Seen}
+
+-- What the hash of a key asks of the chain that is looked through.
+pub record HomeFits (h : Home) : Type 0 where
+  pub some_original : 1 ≤ h.originals
+  pub originals_fit : h.originals ≤ 256
+  pub level_fits : h.level ≤ 10
 
 -- ---- Records
 
@@ -36,16 +40,16 @@ unfoldable pub least_after : ℕ → List Entry → ℕ
 least_after l [] = l
 least_after l (e ∷ es) = least_after (key_of e + 1) es
 
--- Nothing was seen yet.
-abbrev pub started : Seen
-started = record { ok = true; least = 0 }
+-- The least that a key behind them may be, where all is well with them.
+abbrev pub behind : Bool → ℕ → Option ℕ
+behind well least = cond well (Some least) None
 
 -- After one record more, and after some.
-abbrev pub after_record : Home → Seen → ℕ → Seen
-after_record h s k = record { ok = s.ok && leb s.least k && fits_home h k; least = k + 1 }
+abbrev pub after_record : Home → ℕ → ℕ → Option ℕ
+after_record h l k = behind (leb l k && fits_home h k) (k + 1)
 
-unfoldable pub after_records : Home → Seen → List Entry → Seen
-after_records h s es = record { ok = s.ok && good_from h s.least es; least = least_after s.least es }
+unfoldable pub after_records : Home → ℕ → List Entry → Option ℕ
+after_records h l es = behind (good_from h l es) (least_after l es)
 
 -- ---- Pages
 
@@ -57,20 +61,26 @@ page_filled w level fewest = all_zero (drop (3 + count_of w * record_words) w) &
 unfoldable pub fewest_on : ℕ → ℕ → ℕ → ℕ
 fewest_on b left last = cond (eqb left 0) last b
 
--- After one page more.
-unfoldable pub after_page : Home → Seen → List ℕ → ℕ → ℕ → Seen
-after_page h s w level fewest = record { ok = (after_records h s (entries_of w)).ok && page_filled w level fewest; least = (after_records h s (entries_of w)).least }
+-- Whether all is well with a page, and what its records leave.
+abbrev pub page_good : Home → ℕ → List ℕ → ℕ → ℕ → Bool
+page_good h l w level fewest = page_filled w level fewest && good_from h l (entries_of w)
 
--- After the overflow pages xs, b records a page.
-unfoldable pub after_listed : Home → ℕ → Seen → List ℕ → List ℕ → Seen
-after_listed h b s ps [] = s
-after_listed h b s ps (x ∷ xs) = after_listed h b (after_page h s (page_of ps x) 0 (fewest_on b (length xs) 1)) ps xs
+-- After one page more.
+unfoldable pub after_page : Home → ℕ → List ℕ → ℕ → ℕ → Option ℕ
+after_page h l w level fewest = behind (page_good h l w level fewest) (least_after l (entries_of w))
+
+-- Whether all is well with the overflow pages xs, b records a page.
+unfoldable pub listed_good : Home → ℕ → ℕ → List ℕ → List ℕ → Bool
+listed_good h b l ps [] = true
+listed_good h b l ps (x ∷ xs) =
+    page_good h l (page_of ps x) 0 (fewest_on b (length xs) 1) && listed_good h b (least_after l (entries_of (page_of ps x))) ps xs
 
 -- Whether all is well with a chain of n overflow pages.
 unfoldable pub pages_seen : Root → Home → ℕ → List ℕ → Bool
 pages_seen r h n ps =
     let w = page_of ps h.chain in
-    (after_listed h r.capacity (after_page h started w h.level (fewest_on r.capacity n 0)) ps (linked_pages ps n (link_of w))).ok
+    page_good h 0 w h.level (fewest_on r.capacity n 0)
+    && listed_good h r.capacity (least_after 0 (entries_of w)) ps (linked_pages ps n (link_of w))
 
 -- Page x is within the page memory.
 pub record Within (ps : List ℕ) (x : ℕ) : Type 0 where
@@ -79,16 +89,16 @@ pub record Within (ps : List ℕ) (x : ℕ) : Type 0 where
 -- ---- Chains
 
 -- How many overflow pages a chain has, where it fits.
-unfoldable pub chain_saved : Root → List ℕ → ℕ → Walked
-chain_saved r ps c = cond (fits_if_sound r ps c (chain_of r ps c)) (Walked.Pages (length (pages_in (chain_of r ps c)))) Walked.Damaged
+unfoldable pub chain_saved : Root → List ℕ → ℕ → Option ℕ
+chain_saved r ps c = cond (fits_if_sound r ps c (chain_of r ps c)) (Some (length (pages_in (chain_of r ps c)))) None
 
 -- The overflow pages of the n chains from chain c on, counted.
 unfoldable pub pages_counted : Root → List ℕ → ℕ → ℕ → ℕ
 pages_counted r ps zero c = 0
 pages_counted r ps (suc n) c = length (pages_in (chain_of r ps c)) + pages_counted r ps n (c + 1)
 
-unfoldable pub chains_saved : Root → List ℕ → ℕ → ℕ → Walked
-chains_saved r ps n c = cond (chains_fit r ps n c) (Walked.Pages (pages_counted r ps n c)) Walked.Damaged
+unfoldable pub chains_saved : Root → List ℕ → ℕ → ℕ → Option ℕ
+chains_saved r ps n c = cond (chains_fit r ps n c) (Some (pages_counted r ps n c)) None
 
 -- ---- The file
 

@@ -16,11 +16,12 @@ ghost use Rattle.model.specs.TakeUp.{same_words, zero_pages, level_at, all_free,
 ghost use Rattle.addresses.specs.Fits.{RootFits};
 ghost use Rattle.chains.specs.Links.{linked_pages, LeadsOn};
 ghost use Rattle.chain_keys.specs.Gathering.{Followed};
-ghost use Rattle.take_up.specs.Seen.{after_record, after_records, page_filled, fewest_on, after_page, pages_seen, Within, chain_saved, chains_saved, at_rest, CanSurvey};
+ghost use Rattle.take_up.specs.Seen.{after_record, after_records, page_filled, fewest_on, after_page, pages_seen, Within, HomeFits, chain_saved, chains_saved, at_rest, CanSurvey};
 
-use chains::Walked;
-use free_list::Drawn;
-use model::{ChainAddress, FIRST_RECORD, PAGE_WORDS, Page, PageAddress, RECORD_WORDS, Root};
+use model::{
+    COUNT_WORD, ChainAddress, FIRST_RECORD, LEVEL_WORD, PAGE_WORDS, Page, PageAddress,
+    RECORD_WORDS, Root,
+};
 
 // The chain that is looked through, and the level that its keys are hashed by.
 #[derive(Clone, Copy)]
@@ -30,46 +31,19 @@ pub struct Home {
     pub chain: u32,
 }
 
-// What was seen of a chain: whether all is well so far, and the least that its next key may be.
-#[derive(Clone, Copy)]
-pub struct Seen {
-    pub ok: bool,
-    pub least: u64,
-}
-
-// Whether every word is zero, in all its bits.
+// Whether every word is zero, in all its bits. Every word is looked at, so that the compiler takes several at once:
+// `all`, which stops at the first that is not, needs three times the instructions.
 fn all_zero(words: &[u32]) -> bool
     ensures { result ≡ all_zero words.now }
 {
-    let mut clear = true;
-    let mut i = 0;
-    while i < words.len() {
-        clear = clear & (words[i] == 0);
-        i += 1;
-    }
-    clear
-}
-
-// Whether the words of a page from word `from` on are zero.
-fn zero_from(w: Page, from: usize) -> bool
-    requires { from ≤ page_words }
-    ensures { result ≡ all_zero (drop from w) }
-{
-    let mut clear = true;
-    let mut i = from;
-    while i < PAGE_WORDS {
-        clear = clear & (w[i] == 0);
-        i += 1;
-    }
-    clear
+    words.iter().fold(true, |clear, word| clear & (*word == 0))
 }
 
 // "A free page is zero except word 2, its link in the free list."
 fn is_free(w: Page) -> bool
     ensures { result ≡ same_words w (free_page (link_of w)) }
 {
-    let clear = zero_from(w, FIRST_RECORD);
-    clear & (w[0] == 0) & (w[1] == 0)
+    w[LEVEL_WORD] == 0 && w[COUNT_WORD] == 0 && all_zero(&w[FIRST_RECORD..])
 }
 
 // Whether the n pages that link `first` leads to are zero but for their links.
@@ -77,16 +51,15 @@ fn all_free(n: u32, first: u32, pages: &[u32]) -> bool
     requires { LeadsOn (Within pages.now) pages.now n first }
     ensures { result ≡ all_free pages.now (linked_pages pages.now n first) }
 {
-    let mut clear = true;
     let mut l = first;
-    let mut left = n;
-    while 0 < left {
+    for _left in (0..n).rev() {
         let w = pages::load(pages, PageAddress(l - 1));
-        clear = clear & is_free(w);
+        if !is_free(w) {
+            return false;
+        }
         l = chains::link_of(w);
-        left -= 1;
     }
-    clear
+    true
 }
 
 // "the free count is that of the list", and "free pages zeroed".
@@ -94,156 +67,140 @@ fn free_saved(root: Root, pages: &[u32]) -> bool
     requires { (page_words * (root.primaries + root.overflow) ≤ length pages.now) × (root.overflow ≤ 752) }
     ensures { result ≡ free_if_sound pages.now (pages_taken root pages.now root.free) }
 {
-    match free_list::draw(root, root.free, pages) {
-        Drawn::Damaged => false,
-        Drawn::Head(l) => {
-            if l != 0 {
-                return false;
-            }
-            all_free(root.free, root.head, pages)
-        }
-    }
+    let Ok(l) = free_list::draw(root, root.free, pages) else {
+        return false;
+    };
+    l == 0 && all_free(root.free, root.head, pages)
 }
 
 // "The local levels are level+1 on the first next chains and on those from N × 2^level to n − 1, level on those
 // between."
+#[tactic(auto, unfolding(model::specs::TakeUp::level_at, model::specs::Addresses::chain_count))]
 fn level_at(root: Root, c: u32) -> u32
     requires { RootFits root }
     ensures { result ≡ level_at root c }
 {
     let size = addresses::chain_count(root) - root.next;
-    if (c < root.next) | (size <= c) {
+    if c < root.next || size <= c {
         root.level + 1
     } else {
         root.level
     }
 }
 
-// A record is seen: its key is at home, and above those before it.
-fn after_record(home: Home, seen: Seen, key: u32) -> Seen
-    requires { (1 ≤ home.originals) × (home.originals ≤ 256) × (home.level ≤ 10) }
-    ensures { result ≡ after_record home seen key }
+// A record is seen, whose key is `least` or more and at home: the least that the next key may be.
+#[tactic(auto, unfolding(crate::specs::Seen::fits_home))]
+fn after_record(home: Home, least: u64, key: u32) -> Option<u64>
+    requires { HomeFits home }
+    ensures { result ≡ after_record home least key }
 {
-    let mixed = mixing::mixed(key);
-    let at = addresses::hash(home.originals, home.level, mixed);
-    let k = key as u64;
-    Seen {
-        ok: seen.ok & (seen.least <= k) & (at.0 == home.chain),
-        least: k + 1,
+    let at = addresses::hash(home.originals, home.level, mixing::mixed(key));
+    let k = u64::from(key);
+    if least <= k && at.0 == home.chain {
+        Some(k + 1)
+    } else {
+        None
     }
 }
 
 // The records of a page are seen.
-fn after_records(home: Home, seen: Seen, w: Page) -> Seen
-    requires { (1 ≤ home.originals) × (home.originals ≤ 256) × (home.level ≤ 10) × (count_of w ≤ most_records) }
-    ensures { result ≡ after_records home seen (entries_of w) }
+fn after_records(home: Home, least: u64, w: Page) -> Option<u64>
+    requires { HomeFits home × (count_of w ≤ most_records) }
+    ensures { result ≡ after_records home least (entries_of w) }
 {
     let n = chains::count_of(w) as usize;
-    let mut next = seen;
-    let mut i = 0;
-    while i < n {
-        next = after_record(home, next, w[FIRST_RECORD + i * RECORD_WORDS]);
-        i += 1;
+    let mut next = least;
+    for i in 0..n {
+        next = after_record(home, next, w[FIRST_RECORD + i * RECORD_WORDS])?;
     }
-    next
+    Some(next)
 }
 
 // Whether a page has its level, as many records as it must, and zeros behind them.
+#[tactic(auto, unfolding(crate::specs::Seen::page_filled))]
 fn page_filled(w: Page, level: u32, fewest: u32) -> bool
     requires { count_of w ≤ most_records }
     ensures { result ≡ page_filled w level fewest }
 {
     let n = chains::count_of(w);
-    let clear = zero_from(w, FIRST_RECORD + n as usize * RECORD_WORDS);
-    clear & (chains::level_of(w) == level) & (fewest <= n)
+    let behind = FIRST_RECORD + n as usize * RECORD_WORDS;
+    chains::level_of(w) == level && fewest <= n && all_zero(&w[behind..])
 }
 
 // How many records a page must have: b where pages follow it, else so many as `last` says.
+#[tactic(auto, unfolding(crate::specs::Seen::fewest_on))]
 fn fewest_on(capacity: u32, left: u32, last: u32) -> u32
     ensures { result ≡ fewest_on capacity left last }
 {
     if left == 0 { last } else { capacity }
 }
 
-// A page is seen: its records, and that it is filled.
-fn after_page(home: Home, seen: Seen, w: Page, level: u32, fewest: u32) -> Seen
-    requires { (1 ≤ home.originals) × (home.originals ≤ 256) × (home.level ≤ 10) × (count_of w ≤ most_records) }
-    ensures { result ≡ after_page home seen w level fewest }
+// A page is seen: that it is filled, and its records.
+#[tactic(auto, unfolding(crate::specs::Seen::after_page))]
+fn after_page(home: Home, least: u64, w: Page, level: u32, fewest: u32) -> Option<u64>
+    requires { HomeFits home × (count_of w ≤ most_records) }
+    ensures { result ≡ after_page home least w level fewest }
 {
-    let filled = page_filled(w, level, fewest);
-    let next = after_records(home, seen, w);
-    Seen {
-        ok: next.ok & filled,
-        least: next.least,
+    if page_filled(w, level, fewest) {
+        after_records(home, least, w)
+    } else {
+        None
     }
 }
 
 // The primary page of a chain and the n overflow pages that were walked are looked through.
 fn pages_saved(root: Root, home: Home, n: u32, pages: &[u32]) -> bool
-    requires { (1 ≤ home.originals) × (home.originals ≤ 256) × (home.level ≤ 10) × (home.chain * page_words + page_words ≤ length pages.now) × (count_of (page_of pages.now home.chain) ≤ most_records) × Followed pages.now n (link_of (page_of pages.now home.chain)) }
+    requires { HomeFits home × (home.chain * page_words + page_words ≤ length pages.now) × (count_of (page_of pages.now home.chain) ≤ most_records) × Followed pages.now n (link_of (page_of pages.now home.chain)) }
     ensures { result ≡ pages_seen root home n pages.now }
 {
     let first = pages::load(pages, PageAddress(home.chain));
-    let start = Seen { ok: true, least: 0 };
-    let mut seen = after_page(
-        home,
-        start,
-        first,
-        home.level,
-        fewest_on(root.capacity, n, 0),
-    );
+    let fewest = fewest_on(root.capacity, n, 0);
+    let Some(start) = after_page(home, 0, first, home.level, fewest) else {
+        return false;
+    };
+    let mut least = start;
     let mut l = chains::link_of(first);
-    let mut left = n;
-    while 0 < left {
-        left -= 1;
+    for left in (0..n).rev() {
         let w = pages::load(pages, PageAddress(l - 1));
-        seen = after_page(home, seen, w, 0, fewest_on(root.capacity, left, 1));
+        let Some(next) = after_page(home, least, w, 0, fewest_on(root.capacity, left, 1)) else {
+            return false;
+        };
+        least = next;
         l = chains::link_of(w);
     }
-    seen.ok
+    true
 }
 
-// A chain: how many overflow pages it has, or that it is not as it must be.
-fn chain_saved(root: Root, c: u32, pages: &[u32]) -> Walked
+// How many overflow pages a chain has, where it is as it must be.
+fn chain_saved(root: Root, c: u32, pages: &[u32]) -> Option<u32>
     requires { CanSurvey root pages.now × (c < count_of_chains root) }
     ensures { result ≡ chain_saved root pages.now c }
 {
-    match chain_keys::walk(root, ChainAddress(c), pages) {
-        Walked::Damaged => Walked::Damaged,
-        Walked::Pages(n) => {
-            let home = Home {
-                originals: root.originals,
-                level: level_at(root, c),
-                chain: c,
-            };
-            if pages_saved(root, home, n, pages) {
-                Walked::Pages(n)
-            } else {
-                Walked::Damaged
-            }
-        }
+    let Ok(n) = chain_keys::walk(root, ChainAddress(c), pages) else {
+        return None;
+    };
+    let home = Home {
+        originals: root.originals,
+        level: level_at(root, c),
+        chain: c,
+    };
+    if pages_saved(root, home, n, pages) {
+        Some(n)
+    } else {
+        None
     }
 }
 
-// All chains: how many overflow pages they have.
-fn chains_saved(root: Root, count: u32, pages: &[u32]) -> Walked
+// How many overflow pages all chains have, where each is as it must be.
+fn chains_saved(root: Root, count: u32, pages: &[u32]) -> Option<u32>
     requires { CanSurvey root pages.now × (count ≡ count_of_chains root) }
     ensures { result ≡ chains_saved root pages.now count 0 }
 {
     let mut total = 0;
-    let mut c = 0;
-    while c < count {
-        match chain_saved(root, c, pages) {
-            Walked::Damaged => {
-                return Walked::Damaged;
-            }
-            Walked::Pages(n) => {
-                total += n;
-            }
-        }
-        c += 1;
+    for c in 0..count {
+        total += chain_saved(root, c, pages)?;
     }
-    Walked::Pages(total)
+    Some(total)
 }
 
 // Whether the pages from page `from` to before page `to` are zero.
@@ -275,14 +232,9 @@ pub fn words_saved(root: Root, locks: &[u32], pages: &[u32]) -> bool
     if !pages_zero(pages, count, root.primaries) {
         return false;
     }
-    match chains_saved(root, count, pages) {
-        Walked::Damaged => false,
-        Walked::Pages(n) => {
-            let counted = n + root.free;
-            if counted != root.overflow {
-                return false;
-            }
-            free_saved(root, pages)
-        }
-    }
+    let Some(n) = chains_saved(root, count, pages) else {
+        return false;
+    };
+    let counted = n + root.free;
+    counted == root.overflow && free_saved(root, pages)
 }

@@ -3,7 +3,7 @@
 -- for a lock that Table I forbids it, no call is refused for damage, and a begin enters its operation and nothing
 -- else.
 -- Main statements: Effect (what an outcome leaves of the view that it met), step_effect (every step number);
--- nothing-altered, performed-alters, waits_for_lock, begin-alters (all memory); step-alters (under the invariant,
+-- nothing_altered, performed-alters, waits_for_lock, begin_alters (all memory); step-alters (under the invariant,
 -- which the scratch page of a 9 needs); run_alters, never_damaged (after every list of calls from formatted memory).
 use mathlib.Core.Path.{◌≡◌, refl, sym, ap, ◌∙◌, subst}
 use mathlib.Core.Logic.{◌≢◌, ◌⊎◌, inl, inr}
@@ -15,13 +15,15 @@ use native.Mathlib.Omega.{arith}
 use lib.ListN.{length, set, length-set, get_or}
 use lib.Seq.{set-get_or}
 use lib.Dec.{eqb}
+use Rattle.std.specs.Prelude.{Ok, Err}
+use Rattle.model.proofs.Laws.Answers.{not_refused, Caused, no_cause, caused_by, caused}
+use Rattle.model.specs.declared.Refusal.{Refusal}
 use Rattle.model.specs.declared.Party.{Party}
 use Rattle.model.specs.declared.Operation.{Operation}
 use Rattle.model.specs.declared.StepAnswer.{StepAnswer}
-use Rattle.model.specs.declared.BeginAnswer.{BeginAnswer}
 use Rattle.model.specs.Sizes.{page_words}
 use Rattle.model.specs.Records.{idle, begun}
-use Rattle.model.specs.Answers.{operation_number, performs, setting_given}
+use Rattle.model.specs.Answers.{operation_number, performs, setting_given, StepReply, CallReply}
 use Rattle.model.specs.LockWords.{Claim, permits}
 use Rattle.model.specs.Pages.{page_of, with_page, link_of, link_to_first, scratch_page, linked_page}
 use Rattle.model.specs.Outcome.{View, Outcome, moved}
@@ -35,7 +37,7 @@ use Rattle.model.specs.Runs.{Call, reply_to}
 use Rattle.model.specs.Book.{Book}
 use Rattle.model.specs.Effects.{scratch_link, AltersRecord, AltersScratch, AltersOwn, own_record, own_scratch, StepAlters, WaitsForLock, Begins, BeginAlters, QuietAlters}
 use Rattle.theory.specs.Demands.{Start, Reached, book_reached}
-use Rattle.model.proofs.Laws.Lists.{Cmp, same, diff, cmp, All, and_both, eqb-true, eqb_same, eqb-false, leb-false, not-true, not-false, among_first, and_fails, cond-true}
+use Rattle.model.proofs.Laws.Lists.{All, and_both, eqb-true, eqb_same, eqb-false, leb-false, not-true, not-false, among_first, and_fails, cond-true}
 use Rattle.model.proofs.Laws.Booleans.{and_left, and_right}
 use Rattle.model.proofs.Laws.Pages.{page_same, length_page_of}
 use Rattle.model.proofs.Theorems.RefusalOrder.{begin_refused_ok, begin_accepted, step_refused_ok, step-accepted}
@@ -87,27 +89,19 @@ module _ (v : View) (k : ℕ) where
 pub step_effect : (k : ℕ) (v : View) → Effect v k (step_of k v)
 step_effect k v = by_exit v k (step_of k v) (step_exits k v)
 
--- ---- Answers told apart
-
-waiting_not_refused : (n : ℕ) → StepAnswer.Waiting ≢ StepAnswer.Refused n
-waiting_not_refused n e = let z : ◌≡◌ {A = ℕ} 0 1 = cc in omega arith
-
-pub begun-not_refused : (n : ℕ) → BeginAnswer.Begun ≢ BeginAnswer.Refused n
-begun-not_refused n e = let z : ◌≡◌ {A = ℕ} 0 1 = cc in omega arith
-
 -- ---- A call of step
 
 -- A call of step is refused and leaves all lent memory, or performs the party's next step.
 pub data Tested (m : Memory) (q : ℕ) : Type 0 where
-  turned_away : (n : ℕ) → step_call m q ≡ called (StepAnswer.Refused n) m → Tested m q
-  let_through : first_cause (step_rows m q) ≡ 0 → step_call m q ≡ stepped m q → Tested m q
+  turned_away : (n : Refusal) → step_call m q ≡ called (Err n) m → Tested m q
+  let_through : first_cause (step_rows m q) ≡ Ok tt → step_call m q ≡ stepped m q → Tested m q
 
 pub tested : (m : Memory) (q : ℕ) → Tested m q
-tested m q = go (cmp (first_cause (step_rows m q)) 0)
+tested m q = go (caused (first_cause (step_rows m q)))
   where
-    go : Cmp (first_cause (step_rows m q)) 0 → Tested m q
-    go (same e) = let_through e (step-accepted m q e)
-    go (diff n) = turned_away (first_cause (step_rows m q)) (step_refused_ok m (first_cause (step_rows m q)) (omega arith) q refl)
+    go : Caused (first_cause (step_rows m q)) → Tested m q
+    go (no_cause e) = let_through e (step-accepted m q e)
+    go (caused_by c y) = turned_away c (step_refused_ok m c q y)
 
 module _ (m : Memory) (q : ℕ) where
   abbrev view : View
@@ -127,15 +121,15 @@ module _ (m : Memory) (q : ℕ) where
     where
       by_effect : step_call m q ≡ stepped m q → Effect view number (step_of number view) → (step_call m q).memory ≡ with_waiting (row_after q m.waiting (step_call m q).answer) m
       by_effect e (stays p s) =
-          ap (λ (c : Called StepAnswer). c.memory) e
+          ap (λ (c : Called StepReply). c.memory) e
           ∙ ap (with_waiting (row_after q m.waiting (step_of number view).answer)) (same_memory (step_of number view).after s)
-          ∙ ap (λ (c : Called StepAnswer). with_waiting (row_after q m.waiting c.answer) m) (sym e)
-      by_effect e (goes p _ _) = absurd (false≢true (sym n ∙ ap (λ (c : Called StepAnswer). performs c.answer) e ∙ p))
+          ∙ ap (λ (c : Called StepReply). with_waiting (row_after q m.waiting c.answer) m) (sym e)
+      by_effect e (goes p _ _) = absurd (false≢true (sym n ∙ ap (λ (c : Called StepReply). performs c.answer) e ∙ p))
       by_effect e (looks _ _ o) =
-          absurd (false≢true (sym n ∙ ap (λ (c : Called StepAnswer). performs c.answer) e ∙ ap (λ (x : Outcome). performs x.answer) o))
+          absurd (false≢true (sym n ∙ ap (λ (c : Called StepReply). performs c.answer) e ∙ ap (λ (x : Outcome). performs x.answer) o))
 
       go : Tested m q → (step_call m q).memory ≡ with_waiting (row_after q m.waiting (step_call m q).answer) m
-      go (turned_away c e) = ap (λ (c : Called StepAnswer). c.memory) e ∙ ap (λ (c : Called StepAnswer). with_waiting (row_after q m.waiting c.answer) m) (sym e)
+      go (turned_away c e) = ap (λ (c : Called StepReply). c.memory) e ∙ ap (λ (c : Called StepReply). with_waiting (row_after q m.waiting c.answer) m) (sym e)
       go (let_through _ e) = by_effect e (step_effect number view)
 
   -- Moved or done: the record's step number is another, or the call is a 9 that copies the next page.
@@ -147,22 +141,22 @@ module _ (m : Memory) (q : ℕ) where
   unfolding stepped performs
   performed-alters y = go (tested m q)
     where
-      record_then : first_cause (step_rows m q) ≡ 0 → (v : View) → v.number ≡ q → party_at (after_step m v).parties q ≡ v.party
+      record_then : first_cause (step_rows m q) ≡ Ok tt → (v : View) → v.number ≡ q → party_at (after_step m v).parties q ≡ v.party
       record_then z v e =
           ap (λ (j : ℕ). party_at (set m.parties j v.party) q) e ∙ row_same m.parties q v.party (omega (arith, row_fits m q z, (ready m q z).number_fits))
 
-      by_effect : first_cause (step_rows m q) ≡ 0 → step_call m q ≡ stepped m q → Effect view number (step_of number view) → Performed
-      by_effect z e (stays p _) = absurd (false≢true (sym p ∙ sym (ap (λ (c : Called StepAnswer). performs c.answer) e) ∙ y))
+      by_effect : first_cause (step_rows m q) ≡ Ok tt → step_call m q ≡ stepped m q → Effect view number (step_of number view) → Performed
+      by_effect z e (stays p _) = absurd (false≢true (sym p ∙ sym (ap (λ (c : Called StepReply). performs c.answer) e) ∙ y))
       by_effect z e (goes p k n) =
           went
           (record {
             another_step = λ s.
-                n (sym (ap (λ (p : Party). p.step) (record_then z (step_of number view).after k)) ∙ ap (λ (c : Called StepAnswer). (party_at c.memory.parties q).step) (sym e) ∙ s);
+                n (sym (ap (λ (p : Party). p.step) (record_then z (step_of number view).after k)) ∙ ap (λ (c : Called StepReply). (party_at c.memory.parties q).step) (sym e) ∙ s);
           })
       by_effect z e (looks k l o) = looked (ready m q z).number_fits k l (e ∙ ap (called_by m q) o)
 
       go : Tested m q → Performed
-      go (turned_away c e) = absurd (false≢true (sym (ap (λ (c : Called StepAnswer). performs c.answer) e) ∙ y))
+      go (turned_away c e) = absurd (false≢true (sym (ap (λ (c : Called StepReply). performs c.answer) e) ∙ y))
       go (let_through z e) = by_effect z e (step_effect number view)
 
 -- ---- A 9 that goes on, under the invariant: the next page has another link
@@ -203,15 +197,15 @@ module _ (m : Memory) (b : Book) (i : Inv m b) (q : ℕ) (in_row : q < m.root.pa
   scratch_altered : step_call m q ≡ called_by m q (moved (copied_on (view_of m q))) → AltersScratch m q
   scratch_altered e = record {
     at_nine = is_nine;
-    moves = ap (λ (c : Called StepAnswer). c.answer) e;
-    same_record = ap (λ (c : Called StepAnswer). party_at c.memory.parties q) e ∙ ap (λ (ps : List Party). party_at ps q) (set-get_or m.parties q idle);
-    another_link = λ s. copied_differs walk.rest refl (ap (λ (c : Called StepAnswer). scratch_link c.memory q) (sym e) ∙ s);
+    moves = ap (λ (c : Called StepReply). c.answer) e;
+    same_record = ap (λ (c : Called StepReply). party_at c.memory.parties q) e ∙ ap (λ (ps : List Party). party_at ps q) (set-get_or m.parties q idle);
+    another_link = λ s. copied_differs walk.rest refl (ap (λ (c : Called StepReply). scratch_link c.memory q) (sym e) ∙ s);
   }
 
 -- ---- A call that waits
 
 -- A fair answer that waits goes with a lock that is wanted and not granted.
-forbidden_lock : (m : Memory) (q : ℕ) (w : Option Claim) → wants m.root (party_at m.parties q) ≡ w → fairly (view_of m q) w StepAnswer.Waiting ≡ true → WaitsForLock m q
+forbidden_lock : (m : Memory) (q : ℕ) (w : Option Claim) → wants m.root (party_at m.parties q) ≡ w → fairly (view_of m q) w (Ok StepAnswer.Waiting) ≡ true → WaitsForLock m q
 unfolding fairly unasked asked is_granted
 forbidden_lock m q none e f = absurd (false≢true f)
 forbidden_lock m q (some c) e f = record { lock = c; wanted = e; forbidden = go (and_fails (permits (get_or m.locks c.word 0) c.mode) (not (view_of m q).behind) (not-true (is_granted (view_of m q) c) f)) }
@@ -221,22 +215,22 @@ forbidden_lock m q (some c) e f = record { lock = c; wanted = e; forbidden = go 
     go (inl h) = inl h
     go (inr h) = inr (not-false (view_of m q).behind h)
 
-pub waits_for_lock : (m : Memory) (q : ℕ) → (step_call m q).answer ≡ StepAnswer.Waiting → WaitsForLock m q
+pub waits_for_lock : (m : Memory) (q : ℕ) → (step_call m q).answer ≡ Ok StepAnswer.Waiting → WaitsForLock m q
 unfolding stepped
 waits_for_lock m q w = go (tested m q)
   where
     go : Tested m q → WaitsForLock m q
-    go (turned_away n e) = absurd (waiting_not_refused n (sym w ∙ ap (λ (c : Called StepAnswer). c.answer) e))
+    go (turned_away n e) = absurd (not_refused StepAnswer.Waiting n (sym w ∙ ap (λ (c : Called StepReply). c.answer) e))
     go (let_through _ e) =
         forbidden_lock m q (wants m.root (party_at m.parties q)) refl
-        (subst (λ (a : StepAnswer). fairly (view_of m q) (wants m.root (party_at m.parties q)) a ≡ true) (sym (ap (λ (c : Called StepAnswer). c.answer) e) ∙ w) (step_fair (view_of m q)).fair)
+        (subst (λ (a : StepReply). fairly (view_of m q) (wants m.root (party_at m.parties q)) a ≡ true) (sym (ap (λ (c : Called StepReply). c.answer) e) ∙ w) (step_fair (view_of m q)).fair)
 
 -- ---- A begin
 
-module _ (m : Memory) (q : ℕ) (none : first_cause (begin_rows m q) ≡ 0) where
+module _ (m : Memory) (q : ℕ) (none : first_cause (begin_rows m q) ≡ Ok tt) where
   begin_unmet : All (λ x. x.met ≡ false) (begin_rows m q)
   unfolding begin_rows
-  begin_unmet = none_met (begin_rows m q) (omega arith) none
+  begin_unmet = none_met (begin_rows m q) none
 
   begin_fits : q < length m.parties
   unfolding begin_rows lengths_fit
@@ -247,33 +241,33 @@ module _ (m : Memory) (q : ℕ) (none : first_cause (begin_rows m q) ≡ 0) wher
       omega (arith, eqb-true (length m.parties) m.root.parties (search (and_left, and_right)))
 
 module _ (m : Memory) (q : ℕ) (o : Operation) (k : ℕ) where
-  begun-alters : first_cause (begin_rows m q) ≡ 0 → begin_call m q o k ≡ called BeginAnswer.Begun (with_begun m q o k) → Begins m q o k
+  begun-alters : first_cause (begin_rows m q) ≡ Ok tt → begin_call m q o k ≡ called (Ok tt) (with_begun m q o k) → Begins m q o k
   unfolding with_begun
   begun-alters z e =
       let p = begun (operation_number o) k (setting_given o) in
       record {
-        own = ap (λ (c : Called BeginAnswer). party_at c.memory.parties q) e ∙ row_same m.parties q p (begin_fits m q z);
-        others = λ j n. ap (λ (c : Called BeginAnswer). party_at c.memory.parties j) e ∙ row_other m.parties q j p n;
-        as_many = ap (λ (c : Called BeginAnswer). length c.memory.parties) e ∙ length-set m.parties q p;
-        root = ap (λ (c : Called BeginAnswer). c.memory.root) e;
-        locks = ap (λ (c : Called BeginAnswer). c.memory.locks) e;
-        pages = ap (λ (c : Called BeginAnswer). c.memory.pages) e;
-        waiting = ap (λ (c : Called BeginAnswer). c.memory.waiting) e;
-        memory = ap (λ (c : Called BeginAnswer). c.memory) e;
+        own = ap (λ (c : Called CallReply). party_at c.memory.parties q) e ∙ row_same m.parties q p (begin_fits m q z);
+        others = λ j n. ap (λ (c : Called CallReply). party_at c.memory.parties j) e ∙ row_other m.parties q j p n;
+        as_many = ap (λ (c : Called CallReply). length c.memory.parties) e ∙ length-set m.parties q p;
+        root = ap (λ (c : Called CallReply). c.memory.root) e;
+        locks = ap (λ (c : Called CallReply). c.memory.locks) e;
+        pages = ap (λ (c : Called CallReply). c.memory.pages) e;
+        waiting = ap (λ (c : Called CallReply). c.memory.waiting) e;
+        memory = ap (λ (c : Called CallReply). c.memory) e;
       }
 
   pub begin_alters : BeginAlters m q o k
-  begin_alters = go (cmp (first_cause (begin_rows m q)) 0)
+  begin_alters = go (caused (first_cause (begin_rows m q)))
     where
-      go : Cmp (first_cause (begin_rows m q)) 0 → BeginAlters m q o k
-      go (same z) =
+      go : Caused (first_cause (begin_rows m q)) → BeginAlters m q o k
+      go (no_cause z) =
           let e = begin_accepted m q o k z in
-          record { accepted = λ _. begun-alters z e; refused = λ n a. absurd (begun-not_refused n (sym (ap (λ (c : Called BeginAnswer). c.answer) e) ∙ a)) }
-      go (diff d) =
-          let e = begin_refused_ok m (first_cause (begin_rows m q)) (omega arith) q o k refl in
+          record { accepted = λ _. begun-alters z e; refused = λ n a. absurd (not_refused tt n (sym (ap (λ (c : Called CallReply). c.answer) e) ∙ a)) }
+      go (caused_by c y) =
+          let e = begin_refused_ok m c q o k y in
           record {
-            accepted = λ a. absurd (begun-not_refused (first_cause (begin_rows m q)) (sym a ∙ ap (λ (c : Called BeginAnswer). c.answer) e));
-            refused = λ n a. ap (λ (c : Called BeginAnswer). c.memory) e;
+            accepted = λ a. absurd (not_refused tt c (sym a ∙ ap (λ (c : Called CallReply). c.answer) e));
+            refused = λ n a. ap (λ (c : Called CallReply). c.memory) e;
           }
 
 -- ---- Every reachable memory
@@ -284,11 +278,11 @@ unfolding performs row_after row_with
 quiet_alters m q = record {
   waits = waits-row;
   waits-again = λ e h. waits-row e ∙ ap (λ (row : List ℕ). with_waiting row m) (cond-true (is_among (q + 1) m.waiting) m.waiting (appended (q + 1) m.waiting) h);
-  refused = λ n e. nothing_altered m q (ap performs e) ∙ ap (λ (a : StepAnswer). with_waiting (row_after q m.waiting a) m) e;
+  refused = λ n e. nothing_altered m q (ap performs e) ∙ ap (λ (a : StepReply). with_waiting (row_after q m.waiting a) m) e;
 }
   where
-    waits-row : (step_call m q).answer ≡ StepAnswer.Waiting → (step_call m q).memory ≡ with_waiting (row_with q m.waiting) m
-    waits-row e = nothing_altered m q (ap performs e) ∙ ap (λ (a : StepAnswer). with_waiting (row_after q m.waiting a) m) e
+    waits-row : (step_call m q).answer ≡ Ok StepAnswer.Waiting → (step_call m q).memory ≡ with_waiting (row_with q m.waiting) m
+    waits-row e = nothing_altered m q (ap performs e) ∙ ap (λ (a : StepReply). with_waiting (row_after q m.waiting a) m) e
 
 pub step-alters : (m : Memory) (b : Book) → Inv m b → (q : ℕ) → StepAlters m q
 step-alters m b i q = record { performed = λ y. go (performed-alters m q y); otherwise = quiet_alters m q }

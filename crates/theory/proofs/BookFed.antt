@@ -1,14 +1,14 @@
 -- What the book is fed is what the calls returned (statements in specs/Effects.antt).
 -- Main statements: book_fed (the event of a call, and the memory that the next call meets), book_fed_at (of every call
--- of a list), book_compares, book-enters, book_leaves.
+-- of a list), book_compares, book_enters, book_leaves.
 use mathlib.Core.Path.{◌≡◌, refl, ap, ◌∙◌}
 use mathlib.Core.Logic.{◌≢◌}
 use mathlib.Core.List.{List, [], ◌∷◌, ◌++◌}
 use mathlib.Core.Option.{none, some}
 use Prim.Native.Nat.{ℕ}
+use Rattle.std.specs.Prelude.{Ok, Err}
+use Rattle.model.specs.Answers.{CallReply}
 use Rattle.model.specs.declared.Operation.{Operation}
-use Rattle.model.specs.declared.BeginAnswer.TheVariants as BeginAnswer
-use Rattle.model.specs.declared.WithdrawAnswer.{WithdrawAnswer}
 use Rattle.model.specs.Memory.{Memory, party_at}
 use Rattle.model.specs.Calls.{begin_call, withdraw_call}
 use Rattle.model.specs.Runs.{Call, begin_for, reply_to, after_call, Event, event_of, events, final_memory}
@@ -31,7 +31,7 @@ pub book_compares : (m : Memory) (b : Book) (q : ℕ) → BookCompares m b q
 unfolding event_of reply_to agrees agrees_with
 book_compares m b q = record { compares = λ a s e. ap (agrees_with b q (party_at m.parties q).step) e }
 
-module _ (m : Memory) (b : Book) (q : ℕ) (o : Operation) (k : ℕ) (begins : (begin_call m q o k).answer ≡ BeginAnswer.Begun) where
+module _ (m : Memory) (b : Book) (q : ℕ) (o : Operation) (k : ℕ) (begins : (begin_call m q o k).answer ≡ Ok tt) where
   abbrev entry : Entered
   entry = record { operation = o; key = k; note = none }
 
@@ -52,16 +52,16 @@ module _ (m : Memory) (b : Book) (q : ℕ) (o : Operation) (k : ℕ) (begins : (
 pub book_leaves : (m : Memory) (b : Book) (q : ℕ) → BookLeaves m b q
 unfolding event_of reply_to book_after after_withdraw
 book_leaves m b q = record {
-  own = λ e. ap (λ (a : WithdrawAnswer). (after_withdraw b q a).entries q) e ∙ changed_here b.entries q none q refl;
+  own = λ e. ap (λ (a : CallReply). (after_withdraw b q a).entries q) e ∙ changed_here b.entries q none q refl;
   others = λ j n. other (withdraw_call m q).answer j n;
   contents = same (withdraw_call m q).answer;
   refused = λ n e. ap (after_withdraw b q) e;
 }
   where
-    other : (a : WithdrawAnswer) (j : ℕ) → j ≢ q → (after_withdraw b q a).entries j ≡ b.entries j
-    other WithdrawAnswer.Withdrawn j n = changed_elsewhere b.entries q none j n
-    other (WithdrawAnswer.Refused k) j n = refl
+    other : (a : CallReply) (j : ℕ) → j ≢ q → (after_withdraw b q a).entries j ≡ b.entries j
+    other (Ok _) j n = changed_elsewhere b.entries q none j n
+    other (Err k) j n = refl
 
-    same : (a : WithdrawAnswer) → (after_withdraw b q a).contents ≡ b.contents
-    same WithdrawAnswer.Withdrawn = refl
-    same (WithdrawAnswer.Refused k) = refl
+    same : (a : CallReply) → (after_withdraw b q a).contents ≡ b.contents
+    same (Ok _) = refl
+    same (Err k) = refl

@@ -1,8 +1,8 @@
 -- An operation takes at most 31 + V calls for a find and 45 for an insert or a delete, waiting ones set aside,
 -- whatever the other parties do; and fewer by the sizes.
 -- Beside the invariant: what an operation has taken and what it has left (CallsLeft) make at most its limit.
--- Main statements: Stands (one party), call-counted (one call), run-counted (a list); calls_with (any R that
--- suffices); larger-bounded (larger limits); rehashes_least, rehashes_most (R);
+-- Main statements: Stands (one party), call_counted (one call), run_counted (a list); calls_with (any R that
+-- suffices); larger_bounded (larger limits); rehashes_least, rehashes_most (R);
 -- sizes_imply, calls_by_sizes, calls_right; calls_formatted.
 use mathlib.Core.Path.{◌≡◌, refl, sym, ap, ◌∙◌, subst}
 use mathlib.Core.Logic.{◌≢◌}
@@ -13,6 +13,9 @@ use Prim.Native.Nat.{ℕ, zero, suc, ◌+◌, ◌≤◌, ◌<◌}
 use native.Mathlib.Omega.{arith}
 use lib.ListN.{length}
 use lib.Dec.{eqb, leb}
+use Rattle.std.specs.Prelude.{Ok, Err}
+use Rattle.model.proofs.Laws.Answers.{not_refused}
+use Rattle.model.specs.declared.Refusal.{Refusal}
 use Rattle.model.specs.WaitingRow.{row_after, row_left, row_without}
 use Rattle.model.specs.declared.Root.{Root}
 use Rattle.model.specs.declared.Party.{Party}
@@ -20,12 +23,10 @@ use Rattle.model.specs.declared.Operation.{Operation}
 use Rattle.model.specs.declared.OperationAnswer.{OperationAnswer}
 use Rattle.model.specs.declared.Restructuring.{Restructuring}
 use Rattle.model.specs.declared.StepAnswer.{StepAnswer}
-use Rattle.model.specs.declared.BeginAnswer.{BeginAnswer}
-use Rattle.model.specs.declared.WithdrawAnswer.{WithdrawAnswer}
 use Rattle.model.specs.Sizes.{within_limits}
 use Rattle.model.specs.Addresses.{span}
 use Rattle.model.specs.Records.{begun}
-use Rattle.model.specs.Answers.{operation_number, performs, setting_given}
+use Rattle.model.specs.Answers.{operation_number, performs, setting_given, StepReply, CallReply}
 use Rattle.model.specs.Outcome.{View, Outcome}
 use Rattle.model.specs.Withdraw.{withdrawn}
 use Rattle.model.specs.Memory.{Memory, party_at, view_of, after_step, formatted_root, formatted, with_waiting}
@@ -54,7 +55,7 @@ use Rattle.theory.proofs.SizesStay.{limits_on, call_limits, start_limits}
 use Rattle.theory.proofs.LockTrades.{step_trades}
 use Rattle.theory.proofs.Alters.{nothing_altered}
 use Rattle.theory.proofs.UnderWay.{entered_under, unentered_under, Met, no_party, nothing-begun, under_way_lem, meets}
-use Rattle.theory.proofs.Withdraws.{withdrawn-not_refused, WithdrawTested, turned_away, let_through, withdraw_tested, withdraws, WithdrawMet, stranger, unbegun, too_late, taken_back, withdraw_meets}
+use Rattle.theory.proofs.Withdraws.{WithdrawTested, turned_away, let_through, withdraw_tested, withdraws, WithdrawMet, stranger, unbegun, too_late, taken_back, withdraw_meets}
 use Rattle.theory.proofs.Linearization.Notes.{noted_elsewhere, noted_own}
 use Rattle.theory.proofs.CallsLeft.{left, left_at, left-begun, left-some, left_alike, Nearer, stays, goes, ends}
 use Rattle.theory.proofs.StepsNearer.{step_nearer}
@@ -110,38 +111,38 @@ module _ (most : ℕ) where
 
 -- ---- Answers that count nothing
 
-idle_bounded : (x : Option Counted) (a : StepAnswer) → performs a ≡ false → (step_bounded x a ≡ true) × (counted_step x a ≡ x)
+idle_bounded : (x : Option Counted) (a : StepReply) → performs a ≡ false → (step_bounded x a ≡ true) × (counted_step x a ≡ x)
 unfolding performs step_bounded counted_step
-idle_bounded none StepAnswer.Waiting h = (refl, refl)
-idle_bounded none StepAnswer.Moved h = absurd (not-both true refl h)
-idle_bounded none (StepAnswer.Done a s) h = absurd (not-both true refl h)
-idle_bounded none (StepAnswer.Refused n) h = (refl, refl)
-idle_bounded (some x) StepAnswer.Waiting h = (refl, refl)
-idle_bounded (some x) StepAnswer.Moved h = absurd (not-both true refl h)
-idle_bounded (some x) (StepAnswer.Done a s) h = absurd (not-both true refl h)
-idle_bounded (some x) (StepAnswer.Refused n) h = (refl, refl)
+idle_bounded none (Ok StepAnswer.Waiting) h = (refl, refl)
+idle_bounded none (Ok StepAnswer.Moved) h = absurd (not-both true refl h)
+idle_bounded none (Ok (StepAnswer.Done a s)) h = absurd (not-both true refl h)
+idle_bounded none (Err n) h = (refl, refl)
+idle_bounded (some x) (Ok StepAnswer.Waiting) h = (refl, refl)
+idle_bounded (some x) (Ok StepAnswer.Moved) h = absurd (not-both true refl h)
+idle_bounded (some x) (Ok (StepAnswer.Done a s)) h = absurd (not-both true refl h)
+idle_bounded (some x) (Err n) h = (refl, refl)
 
 -- They leave the book.
-idle_book : (b : Book) (q number : ℕ) (a : StepAnswer) → performs a ≡ false → after_reply b q number a ≡ b
+idle_book : (b : Book) (q number : ℕ) (a : StepReply) → performs a ≡ false → after_reply b q number a ≡ b
 unfolding performs after_reply
-idle_book b q number StepAnswer.Waiting h = refl
-idle_book b q number StepAnswer.Moved h = absurd (not-both true refl h)
-idle_book b q number (StepAnswer.Done a s) h = absurd (not-both true refl h)
-idle_book b q number (StepAnswer.Refused n) h = refl
+idle_book b q number (Ok StepAnswer.Waiting) h = refl
+idle_book b q number (Ok StepAnswer.Moved) h = absurd (not-both true refl h)
+idle_book b q number (Ok (StepAnswer.Done a s)) h = absurd (not-both true refl h)
+idle_book b q number (Err n) h = refl
 
-refused_begin : (x : Option Counted) (n : ℕ) → begin_bounded x (BeginAnswer.Refused n) ≡ true
+refused_begin : (x : Option Counted) (n : Refusal) → begin_bounded x (Err n) ≡ true
 unfolding begin_bounded
 refused_begin none n = refl
 refused_begin (some x) n = refl
 
 -- A reply leaves the entries of the others.
-reply_elsewhere : (b : Book) (q number : ℕ) (a : StepAnswer) (j : ℕ) → j ≢ q → (after_reply b q number a).entries j ≡ b.entries j
+reply_elsewhere : (b : Book) (q number : ℕ) (a : StepReply) (j : ℕ) → j ≢ q → (after_reply b q number a).entries j ≡ b.entries j
 unfolding after_reply
-reply_elsewhere b q number StepAnswer.Waiting j d = refl
-reply_elsewhere b q number StepAnswer.Moved j d = noted_elsewhere b q (b.entries q) number j d
-reply_elsewhere b q number (StepAnswer.Done a s) j d =
+reply_elsewhere b q number (Ok StepAnswer.Waiting) j d = refl
+reply_elsewhere b q number (Ok StepAnswer.Moved) j d = noted_elsewhere b q (b.entries q) number j d
+reply_elsewhere b q number (Ok (StepAnswer.Done a s)) j d =
     changed_elsewhere (note_for b q (b.entries q) number).entries q none j d ∙ noted_elsewhere b q (b.entries q) number j d
-reply_elsewhere b q number (StepAnswer.Refused n) j d = refl
+reply_elsewhere b q number (Err n) j d = refl
 
 -- The figures go by the sizes.
 most_with_sizes : (most : ℕ) (z r : Root) → SameLimits z r → (o : Operation) → most_with most r o ≡ most_with most z o
@@ -182,14 +183,14 @@ module _ (most : ℕ) (z : Root) (room : z.primaries ≤ span z.originals most) 
 
   -- ---- Begin
 
-  abbrev BeginCounted : ℕ → Operation → ℕ → Called BeginAnswer → Type 0
+  abbrev BeginCounted : ℕ → Operation → ℕ → Called CallReply → Type 0
   BeginCounted q o k c = (begin_bounded (w q) c.answer ≡ true) × CountsOk most c.memory (after_begin b q o k c.answer) (changed_at w q (counted_begin (most_with most z o) (w q) c.answer))
 
-  begin_turned : (q : ℕ) (o : Operation) (k n : ℕ) → BeginCounted q o k (called (BeginAnswer.Refused n) m)
+  begin_turned : (q : ℕ) (o : Operation) (k : ℕ) (n : Refusal) → BeginCounted q o k (called (Err n) m)
   unfolding counted_begin after_begin
   begin_turned q o k n = (refused_begin (w q) n, counts_same q (w q) refl)
 
-  begin_begun : (q : ℕ) (o : Operation) (k : ℕ) → q < m.root.parties → b.entries q ≡ none → BeginCounted q o k (called BeginAnswer.Begun (with_begun m q o k))
+  begin_begun : (q : ℕ) (o : Operation) (k : ℕ) → q < m.root.parties → b.entries q ≡ none → BeginCounted q o k (called (Ok tt) (with_begun m q o k))
   unfolding counted_begin after_begin with_begun enter begin_bounded left
   begin_begun q o k h n = (
     free (w q) (ok q),
@@ -206,7 +207,7 @@ module _ (most : ℕ) (z : Root) (room : z.primaries ≤ span z.originals most) 
       p : Party
       p = begun (operation_number o) k (setting_given o)
 
-      free : (x : Option Counted) → Stands most m b q x → begin_bounded x BeginAnswer.Begun ≡ true
+      free : (x : Option Counted) → Stands most m b q x → begin_bounded x (Ok tt) ≡ true
       free none s = refl
       free (some x) s = absurd (not_under b q n s.0)
 
@@ -222,16 +223,16 @@ module _ (most : ℕ) (z : Root) (room : z.primaries ≤ span z.originals most) 
       fits = within_limits_lem m.root i.limits
 
       go : Met m b i q → BeginCounted q o k (begin_call m q o k)
-      go (no_party h _ _ _) = subst (BeginCounted q o k) (sym ((begin_order m q o k).party fits (lengths_fit_ok m b i) h)) (begin_turned q o k 3)
+      go (no_party h _ _ _) = subst (BeginCounted q o k) (sym ((begin_order m q o k).party fits (lengths_fit_ok m b i) h)) (begin_turned q o k Refusal.Party)
       go (nothing-begun h e n _ _) =
           subst (BeginCounted q o k) (sym ((begin_order m q o k).none fits (lengths_fit_ok m b i) h (ap (λ (p : Party). p.operation) e))) (begin_begun q o k h n)
       go (under_way_lem h e c _ _) =
           subst (BeginCounted q o k)
-          (sym ((begin_order m q o k).busy fits (lengths_fit_ok m b i) h (operation_some e.operation (party_at m.parties q).operation c.same_operation))) (begin_turned q o k 4)
+          (sym ((begin_order m q o k).busy fits (lengths_fit_ok m b i) h (operation_some e.operation (party_at m.parties q).operation c.same_operation))) (begin_turned q o k Refusal.Busy)
 
   -- ---- Step
 
-  abbrev StepCounted : ℕ → Called StepAnswer → Type 0
+  abbrev StepCounted : ℕ → Called StepReply → Type 0
   StepCounted q c = (step_bounded (w q) c.answer ≡ true)
       × CountsOk most c.memory (after_reply b q (party_at m.parties q).step c.answer) (changed_at w q (counted_step (w q) c.answer))
 
@@ -241,7 +242,7 @@ module _ (most : ℕ) (z : Root) (room : z.primaries ≤ span z.originals most) 
   stands_row row c j none h = h
   stands_row row c j (some x) h = h
 
-  idle-counted : (q : ℕ) (a : StepAnswer) → performs a ≡ false → (row : List ℕ) → StepCounted q (called a (with_waiting row m))
+  idle-counted : (q : ℕ) (a : StepReply) → performs a ≡ false → (row : List ℕ) → StepCounted q (called a (with_waiting row m))
   idle-counted q a h row =
       let x = idle_bounded (w q) a h in
       (x.0, λ j. stands_row row (after_reply b q (party_at m.parties q).step a) j (changed_at w q (counted_step (w q) a) j) (subst (λ (c : Book). CountsOk most m c (changed_at w q (counted_step (w q) a))) (sym (idle_book b q (party_at m.parties q).step a h)) (counts_same q (counted_step (w q) a) x.1) j))
@@ -269,7 +270,7 @@ module _ (most : ℕ) (z : Root) (room : z.primaries ≤ span z.originals most) 
     others j d u = record {
       entry= = reply_elsewhere b q number o.answer j d;
       party= = rw (number=) (row_other m.parties q j o.after.party d);
-      overflow= = ap (λ (c : Called StepAnswer). c.memory.root.overflow) (sym call) ∙ (call_limits m (step_for q)).overflow=;
+      overflow= = ap (λ (c : Called StepReply). c.memory.root.overflow) (sym call) ∙ (call_limits m (step_for q)).overflow=;
       ahead= = λ nine. (kept m b i q in_row k.step_fits).framed j d (under_row j u) nine;
     }
 
@@ -279,7 +280,7 @@ module _ (most : ℕ) (z : Root) (room : z.primaries ≤ span z.originals most) 
 
     -- Moved: it is under way on, and has less left.
     moves : suc (left most o.after) ≤ left most (view_of m q) → (y : Option Counted) → Stands most m b q y
-        → (step_bounded y StepAnswer.Moved ≡ true) × Stands most then (after_reply b q number StepAnswer.Moved) q (counted_step y StepAnswer.Moved)
+        → (step_bounded y (Ok StepAnswer.Moved) ≡ true) × Stands most then (after_reply b q number (Ok StepAnswer.Moved)) q (counted_step y (Ok StepAnswer.Moved))
     unfolding step_bounded counted_step after_reply
     moves h none s = absurd (not_under b q s (entered_under b q e k.entry))
     moves h (some y) s =
@@ -290,7 +291,7 @@ module _ (most : ℕ) (z : Root) (room : z.primaries ≤ span z.originals most) 
 
     -- Done: its entry goes.
     ended : (a : OperationAnswer) (r : Restructuring) → 1 ≤ left most (view_of m q) → (y : Option Counted) → Stands most m b q y
-        → (step_bounded y (StepAnswer.Done a r) ≡ true) × Stands most then (after_reply b q number (StepAnswer.Done a r)) q (counted_step y (StepAnswer.Done a r))
+        → (step_bounded y (Ok (StepAnswer.Done a r)) ≡ true) × Stands most then (after_reply b q number (Ok (StepAnswer.Done a r))) q (counted_step y (Ok (StepAnswer.Done a r)))
     unfolding step_bounded counted_step after_reply
     ended a r h none s = absurd (not_under b q s (entered_under b q e k.entry))
     ended a r h (some y) s = (
@@ -301,14 +302,14 @@ module _ (most : ℕ) (z : Root) (room : z.primaries ≤ span z.originals most) 
     by_nearer : Nearer most (left most (view_of m q)) o → StepCounted q (step_call m q)
     unfolding stepped
     by_nearer (stays h) =
-        let still : performs (step_call m q).answer ≡ false = ap (λ (c : Called StepAnswer). performs c.answer) call ∙ h in
+        let still : performs (step_call m q).answer ≡ false = ap (λ (c : Called StepReply). performs c.answer) call ∙ h in
         subst (λ (u : Memory). StepCounted q (called (step_call m q).answer u)) (sym (nothing_altered m q still)) (idle-counted q (step_call m q).answer still _)
     by_nearer (goes a h) =
         subst (StepCounted q) (sym call)
-        (performed (subst (λ (y : StepAnswer). (step_bounded (w q) y ≡ true) × Stands most then (after_reply b q number y) q (counted_step (w q) y)) (sym a) (moves h (w q) (ok q))))
+        (performed (subst (λ (y : StepReply). (step_bounded (w q) y ≡ true) × Stands most then (after_reply b q number y) q (counted_step (w q) y)) (sym a) (moves h (w q) (ok q))))
     by_nearer (ends s r a h) =
         subst (StepCounted q) (sym call)
-        (performed (subst (λ (y : StepAnswer). (step_bounded (w q) y ≡ true) × Stands most then (after_reply b q number y) q (counted_step (w q) y)) (sym a) (ended s r h (w q) (ok q))))
+        (performed (subst (λ (y : StepReply). (step_bounded (w q) y ≡ true) × Stands most then (after_reply b q number y) q (counted_step (w q) y)) (sym a) (ended s r h (w q) (ok q))))
 
     under_way_counted : StepCounted q (step_call m q)
     unfolding left
@@ -319,16 +320,16 @@ module _ (most : ℕ) (z : Root) (room : z.primaries ≤ span z.originals most) 
   step-counted q = go (meets m b i q)
     where
       go : Met m b i q → StepCounted q (step_call m q)
-      go (no_party _ _ _ e) = subst (StepCounted q) (sym e) (idle-counted q (StepAnswer.Refused 3) refl m.waiting)
-      go (nothing-begun _ _ _ _ e) = subst (StepCounted q) (sym e) (idle-counted q (StepAnswer.Refused 5) refl m.waiting)
+      go (no_party _ _ _ e) = subst (StepCounted q) (sym e) (idle-counted q (Err Refusal.Party) refl m.waiting)
+      go (nothing-begun _ _ _ _ e) = subst (StepCounted q) (sym e) (idle-counted q (Err Refusal.Idle) refl m.waiting)
       go (under_way_lem h e k x c) = under_way_counted q h e k x c
 
   -- ---- Withdraw
 
-  abbrev WithdrawCounted : ℕ → Called WithdrawAnswer → Type 0
+  abbrev WithdrawCounted : ℕ → Called CallReply → Type 0
   WithdrawCounted q c = CountsOk most c.memory (after_withdraw b q c.answer) (changed_at w q (counted_withdraw (w q) c.answer))
 
-  withdraw_turned : (q n : ℕ) → WithdrawCounted q (called (WithdrawAnswer.Refused n) m)
+  withdraw_turned : (q : ℕ) (n : Refusal) → WithdrawCounted q (called (Err n) m)
   unfolding counted_withdraw after_withdraw
   withdraw_turned q n = counts_same q (w q) refl
 
@@ -337,7 +338,7 @@ module _ (most : ℕ) (z : Root) (room : z.primaries ≤ span z.originals most) 
   withdraw_counted q = go (withdraw_meets m b i q)
     where
       gone : (u : Memory) → u ≡ (withdraw_call m q).memory → u ≡ with_waiting (row_without q m.waiting) (after_step m (withdrawn (view_of m q)).after) → Withdraws m q
-          → AheadStays m q (withdrawn (view_of m q)).after.root (withdrawn (view_of m q)).after.pages → WithdrawCounted q (called WithdrawAnswer.Withdrawn u)
+          → AheadStays m q (withdrawn (view_of m q)).after.root (withdrawn (view_of m q)).after.pages → WithdrawCounted q (called (Ok tt) u)
       gone u is left_is x framed =
           counts_after q u (with_entry b q none) none (λ j d. changed_elsewhere b.entries q none j d)
           (λ j d on. record {
@@ -348,20 +349,20 @@ module _ (most : ℕ) (z : Root) (room : z.primaries ≤ span z.originals most) 
           })
           (changed_here b.entries q none q refl)
 
-      accepted : Turn m b q (party_at m.parties q).step → (withdraw_call m q).answer ≡ WithdrawAnswer.Withdrawn
+      accepted : Turn m b q (party_at m.parties q).step → (withdraw_call m q).answer ≡ Ok tt
           → AheadStays m q (withdrawn (view_of m q)).after.root (withdrawn (view_of m q)).after.pages → WithdrawTested m q → WithdrawCounted q (withdraw_call m q)
-      accepted t a f (turned_away n e) = absurd (withdrawn-not_refused n (sym a ∙ ap (λ (c : Called WithdrawAnswer). c.answer) e))
+      accepted t a f (turned_away n e) = absurd (not_refused tt n (sym a ∙ ap (λ (c : Called CallReply). c.answer) e))
       accepted t a f (let_through xs z d x y e) =
-          subst (λ (c : WithdrawAnswer). WithdrawCounted q (called c (withdraw_call m q).memory)) (sym a)
+          subst (λ (c : CallReply). WithdrawCounted q (called c (withdraw_call m q).memory)) (sym a)
           (gone (withdraw_call m q).memory refl
-          (ap (λ (c : Called WithdrawAnswer). c.memory) (withdraw_accepted m q z)
-          ∙ ap (λ (y : WithdrawAnswer). with_waiting (row_left q m.waiting y) (after_step m (withdrawn (view_of m q)).after))
-          (sym (ap (λ (c : Called WithdrawAnswer). c.answer) (withdraw_accepted m q z)) ∙ a)) (withdraws m q xs z d e) f)
+          (ap (λ (c : Called CallReply). c.memory) (withdraw_accepted m q z)
+          ∙ ap (λ (y : CallReply). with_waiting (row_left q m.waiting y) (after_step m (withdrawn (view_of m q)).after))
+          (sym (ap (λ (c : Called CallReply). c.answer) (withdraw_accepted m q z)) ∙ a)) (withdraws m q xs z d e) f)
 
       go : WithdrawMet m b i q → WithdrawCounted q (withdraw_call m q)
-      go (stranger _ _ e) = subst (WithdrawCounted q) (sym e) (withdraw_turned q 3)
-      go (unbegun _ _ e) = subst (WithdrawCounted q) (sym e) (withdraw_turned q 5)
-      go (too_late _ _ _ _ e) = subst (WithdrawCounted q) (sym e) (withdraw_turned q 7)
+      go (stranger _ _ e) = subst (WithdrawCounted q) (sym e) (withdraw_turned q Refusal.Party)
+      go (unbegun _ _ e) = subst (WithdrawCounted q) (sym e) (withdraw_turned q Refusal.Idle)
+      go (too_late _ _ _ _ e) = subst (WithdrawCounted q) (sym e) (withdraw_turned q Refusal.Decided)
       go (taken_back _ _ _ t d a) = accepted t a (withdraw_kept t d).framed (withdraw_tested m q)
 
   pub call_counted : (c : Call) → CallCounted most z m b w c
@@ -407,34 +408,34 @@ Wider none (some y) = ⊥
 Wider (some x) none = ⊥
 Wider (some x) (some y) = (y.taken ≡ x.taken) × (x.limit ≤ y.limit)
 
-begin_wider : (l n : ℕ) (x y : Option Counted) (a : BeginAnswer) → l ≤ n → Wider x y → begin_bounded x a ≡ true
+begin_wider : (l n : ℕ) (x y : Option Counted) (a : CallReply) → l ≤ n → Wider x y → begin_bounded x a ≡ true
     → (begin_bounded y a ≡ true) × Wider (counted_begin l x a) (counted_begin n y a)
 unfolding begin_bounded counted_begin
-begin_wider l n none none BeginAnswer.Begun h k e = (refl, (refl, h))
-begin_wider l n none none (BeginAnswer.Refused c) h k e = (refl, k)
+begin_wider l n none none (Ok _) h k e = (refl, (refl, h))
+begin_wider l n none none (Err c) h k e = (refl, k)
 begin_wider l n none (some y) a h k e = absurd k
 begin_wider l n (some x) none a h k e = absurd k
-begin_wider l n (some x) (some y) BeginAnswer.Begun h k e = absurd (false≢true e)
-begin_wider l n (some x) (some y) (BeginAnswer.Refused c) h k e = (refl, k)
+begin_wider l n (some x) (some y) (Ok _) h k e = absurd (false≢true e)
+begin_wider l n (some x) (some y) (Err c) h k e = (refl, k)
 
-step_wider : (x y : Option Counted) (a : StepAnswer) → Wider x y → step_bounded x a ≡ true → (step_bounded y a ≡ true) × Wider (counted_step x a) (counted_step y a)
+step_wider : (x y : Option Counted) (a : StepReply) → Wider x y → step_bounded x a ≡ true → (step_bounded y a ≡ true) × Wider (counted_step x a) (counted_step y a)
 unfolding step_bounded counted_step
-step_wider none none StepAnswer.Waiting k e = (refl, k)
-step_wider none none StepAnswer.Moved k e = absurd (false≢true e)
-step_wider none none (StepAnswer.Done a s) k e = absurd (false≢true e)
-step_wider none none (StepAnswer.Refused n) k e = (refl, k)
+step_wider none none (Ok StepAnswer.Waiting) k e = (refl, k)
+step_wider none none (Ok StepAnswer.Moved) k e = absurd (false≢true e)
+step_wider none none (Ok (StepAnswer.Done a s)) k e = absurd (false≢true e)
+step_wider none none (Err n) k e = (refl, k)
 step_wider none (some y) a k e = absurd k
 step_wider (some x) none a k e = absurd k
-step_wider (some x) (some y) StepAnswer.Waiting k e = (refl, k)
-step_wider (some x) (some y) StepAnswer.Moved k e =
+step_wider (some x) (some y) (Ok StepAnswer.Waiting) k e = (refl, k)
+step_wider (some x) (some y) (Ok StepAnswer.Moved) k e =
     (lt-ltb (y.taken + 1) y.limit (omega (arith, ltb-true (x.taken + 1) x.limit e, k.0, k.1)), (omega (arith, k.0), k.1))
-step_wider (some x) (some y) (StepAnswer.Done a s) k e = (le-leb (y.taken + 1) y.limit (omega (arith, leb-true (x.taken + 1) x.limit e, k.0, k.1)), tt)
-step_wider (some x) (some y) (StepAnswer.Refused n) k e = (refl, k)
+step_wider (some x) (some y) (Ok (StepAnswer.Done a s)) k e = (le-leb (y.taken + 1) y.limit (omega (arith, leb-true (x.taken + 1) x.limit e, k.0, k.1)), tt)
+step_wider (some x) (some y) (Err n) k e = (refl, k)
 
-withdraw_wider : (x y : Option Counted) (a : WithdrawAnswer) → Wider x y → Wider (counted_withdraw x a) (counted_withdraw y a)
+withdraw_wider : (x y : Option Counted) (a : CallReply) → Wider x y → Wider (counted_withdraw x a) (counted_withdraw y a)
 unfolding counted_withdraw
-withdraw_wider x y WithdrawAnswer.Withdrawn k = tt
-withdraw_wider x y (WithdrawAnswer.Refused n) k = k
+withdraw_wider x y (Ok _) k = tt
+withdraw_wider x y (Err n) k = k
 
 module _ (f g : Operation → ℕ) (larger : (o : Operation) → f o ≤ g o) where
   changed_wider : (v w : ℕ → Option Counted) → ((q : ℕ) → Wider (v q) (w q)) → (q : ℕ) (x y : Option Counted) → Wider x y → (j : ℕ) → Wider (changed_at v q x j) (changed_at w q y j)

@@ -1,6 +1,6 @@
 -- How many calls an operation has left, at most: a number by step number and record that every step performed lowers.
 -- Main statements: left_table, left (where an operation is led on at most `most` times); left-begun, left-some,
--- left-alike; Nearer (what an outcome leaves of it); nearer-01 to nearer-30 (all but 6, 9 and 10 on all memory).
+-- left_alike; Nearer (what an outcome leaves of it); nearer_01 to nearer_30 (all but 6, 9 and 10 on all memory).
 use mathlib.Core.Path.{◌≡◌, refl, sym, ap, ◌∙◌, subst}
 use mathlib.Core.Logic.{◌≢◌}
 use mathlib.Core.Bool.{Bool, true, false, cond, not, ◌&&◌}
@@ -9,6 +9,8 @@ use Prim.Native.Nat.{ℕ, zero, suc, ◌+◌, ◌-◌, ◌*◌, ◌≤◌, ◌<�
 use native.Mathlib.Omega.{arith}
 use lib.ListN.{length, get_or}
 use lib.Dec.{eqb, leb, ltb}
+use Rattle.std.specs.Prelude.{Ok}
+use Rattle.model.specs.declared.Refusal.{Refusal}
 use Rattle.model.specs.declared.Root.{Root}
 use Rattle.model.specs.declared.Party.{Party}
 use Rattle.model.specs.declared.Operation.{Operation}
@@ -25,7 +27,7 @@ use Rattle.model.specs.Chains.{Checked, damaged, sound, and_then, sound_if, Chai
 use Rattle.model.specs.declared.Entry.{Entry}
 use Rattle.model.specs.FreeList.{too_few, Taken, pages_taken, room_to_give_back, pages_given_back}
 use Rattle.model.specs.Filling.{pages_for}
-use Rattle.model.specs.Outcome.{View, Outcome, with_party, refuse, damage, moved, guarded, checked}
+use Rattle.model.specs.Outcome.{View, Outcome, with_party, refuse, moved, guarded, checked}
 use Rattle.model.specs.ScratchPages.{scratch_of, with_scratch, primary_written}
 use Rattle.model.specs.Endings.{done, finished, onward, old_pages_first, ended_with}
 use Rattle.model.specs.LockRequests.{is_granted, with_hold, request, is_held, held_all, given_up, release, chain_selective, chain_exclusive, root_selective, root_exclusive, chain_lock}
@@ -239,24 +241,24 @@ module _ (most : ℕ) where
   -- them.
   pub data Nearer (n : ℕ) (o : Outcome) : Type 0 where
     stays : performs o.answer ≡ false → Nearer n o
-    goes : o.answer ≡ StepAnswer.Moved → suc (left o.after) ≤ n → Nearer n o
-    ends : (a : OperationAnswer) (s : Restructuring) → o.answer ≡ StepAnswer.Done a s → 1 ≤ n → Nearer n o
+    goes : o.answer ≡ Ok StepAnswer.Moved → suc (left o.after) ≤ n → Nearer n o
+    ends : (a : OperationAnswer) (s : Restructuring) → o.answer ≡ Ok (StepAnswer.Done a s) → 1 ≤ n → Nearer n o
 
   -- What a view has left whose step number is one of those that count no pages.
   abbrev Nexts : ℕ → ℕ → View → Type 0
   Nexts n k u = (x : ℕ) → suc (left_at k u.root u.party x) ≤ n
 
   module _ {n : ℕ} (v : View) where
-    pub refused_nearer : (c : ℕ) → Nearer n (refuse c v)
+    pub refused_nearer : (c : Refusal) → Nearer n (refuse c v)
     unfolding performs
     refused_nearer c = stays refl
 
     guarded_nearer : {o : Outcome} (t : Bool) → Nearer n o → Nearer n (guarded v t o)
     guarded_nearer true f = f
-    guarded_nearer false f = refused_nearer damage
+    guarded_nearer false f = refused_nearer Refusal.Damage
 
     checked_nearer : {A : Type 0} {g : A → Outcome} (c : Checked A) → ((a : A) → Nearer n (g a)) → Nearer n (checked v c g)
-    checked_nearer damaged f = refused_nearer damage
+    checked_nearer damaged f = refused_nearer Refusal.Damage
     checked_nearer (sound a) f = f a
 
     either_nearer : {x y : Outcome} (t : Bool) → (t ≡ true → Nearer n x) → (t ≡ false → Nearer n y) → Nearer n (cond t x y)
@@ -484,7 +486,7 @@ module _ (most : ℕ) where
       go : Told (page_sound v.root w && leb p.lev (level_of w) && ltb t.chain v.root.primaries) → Told (leb p.lev (level_of w)) → Told (eqb t.chain p.chain) → Told (eqb p.operation 1)
           → Nearer (3 * (most - p.lev) + 1 + cond (eqb p.operation 1) (1 + v.root.overflow) (change_tail p.operation) + 0)
           (guarded v (page_sound v.root w && leb p.lev (level_of w) && ltb t.chain v.root.primaries) (moved (with_party (cond (eqb t.chain p.chain) (at_step (cond (eqb p.operation 1) 9 10) (with_lev t.lev p)) (at_step 7 (with_lev t.lev (with_chain t.chain (with_other p.chain p))))) (with_scratch w v))))
-      go (fails e) l c o = rw e (refused_nearer v damage)
+      go (fails e) l c o = rw e (refused_nearer v Refusal.Damage)
       go (holds e) (fails l) c o = absurd (not-both (leb p.lev (level_of w)) (and_both (page_sound v.root w) (leb p.lev (level_of w)) (and_both (page_sound v.root w && leb p.lev (level_of w)) (ltb t.chain v.root.primaries) e).0).1 l)
       go (holds e) (holds l) (holds c) (holds o) = rw (e, c, o) (goes refl (omega (arith, pages_ahead_most (with_party (at_step 9 (with_lev t.lev p)) (with_scratch w v)))))
       go (holds e) (holds l) (holds c) (fails o) = rw (e, c, o) (goes refl (omega arith))

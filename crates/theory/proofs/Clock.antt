@@ -1,6 +1,6 @@
 -- The clock of the link rule beside a memory: when links were read and pages given back, and what a call does to both.
 -- Main statements: ClockOk (every link that a party has yet to follow was read after its page was last given back);
--- fresh-now, fresh-walked (links followed); Spared, clock_moves, clock_ticks (the clock after a call).
+-- fresh_now, fresh_walked (links followed); Spared, clock_moves, clock_ticks (the clock after a call).
 use mathlib.Core.Path.{◌≡◌, refl, sym, ap, ◌∙◌, subst}
 use mathlib.Core.Logic.{◌≢◌}
 use mathlib.Core.Bool.{true, false}

@@ -7,9 +7,9 @@ use Prim.Native.Nat.{ℕ, suc, ◌+◌, ◌≤◌, ◌<◌}
 use native.Mathlib.Omega.{arith}
 use lib.ListN.{get_or, get_or-eq_default}
 use lib.Dec.{eqb, ltb, leb}
+use Rattle.model.specs.Answers.{StepReply}
 use Rattle.model.specs.declared.Root.{Root}
 use Rattle.model.specs.declared.Party.{Party}
-use Rattle.model.specs.declared.StepAnswer.{StepAnswer}
 use Rattle.model.specs.Sizes.{within}
 use Rattle.model.specs.Records.{idle}
 use Rattle.model.specs.LockWords.{holds, chain_word}
@@ -262,12 +262,12 @@ module _ (m : Memory) (b : Book) (i : Inv m b) (q : ℕ) where
       where
         go : Tested m q → step_call m q ≡ stepped m q
         go (let_through _ e) = e
-        go (turned_away c e) = absurd (false≢true (ap (within 9 10) (sym is_six ∙ ap (λ (x : Called StepAnswer). (party_at x.memory.parties q).step) (sym e)) ∙ ends))
+        go (turned_away c e) = absurd (false≢true (ap (within 9 10) (sym is_six ∙ ap (λ (x : Called StepReply). (party_at x.memory.parties q).step) (sym e)) ∙ ends))
 
     leaves : (step_call m q).memory ≡ (called_by m q (moved (with_party next (with_scratch page (view_of m q))))).memory
     unfolding stepped step_of step_table
     leaves =
-        ap (λ (x : Called StepAnswer). x.memory) leads_on ∙ ap (λ (k : ℕ). (called_by m q (step_of k (view_of m q))).memory) is_six
+        ap (λ (x : Called StepReply). x.memory) leads_on ∙ ap (λ (k : ℕ). (called_by m q (step_of k (view_of m q))).memory) is_six
         ∙ ap (λ (o : Outcome). (called_by m q o).memory) (step06_moves (turn_at m b i q (in_row m b i q 5 is_six) 5 is_six))
 
     next_ends : within 9 10 next.step ≡ true

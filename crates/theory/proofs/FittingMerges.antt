@@ -1,6 +1,6 @@
 -- Merges that fit, over every list of calls: 26 goes ahead exactly where the joined records fit and leaves the free list alone, 29 gives back what both chains had, and the joined chain has no
 -- overflow page.
--- Main statements: one-page-read (a chain without overflow pages); call_fits (one call), run_fits (a list), merges_right (from formatted memory).
+-- Main statements: one_page_read (a chain without overflow pages); call_fits (one call), run_fits (a list), merges_right (from formatted memory).
 use mathlib.Core.Path.{◌≡◌, refl, ap, ◌∙◌, subst}
 use mathlib.Core.Logic.{◌⊎◌, inl, inr}
 use mathlib.Core.Bool.{Bool, true, false, cond, not, ◌&&◌, ◌||◌, false≢true, and-false}
@@ -9,13 +9,14 @@ use Prim.Native.Nat.{ℕ, suc, ◌+◌, ◌-◌, ◌<◌}
 use native.Mathlib.Omega.{arith}
 use lib.ListN.{length, set, length-set}
 use lib.Dec.{eqb}
+use Rattle.std.specs.Prelude.{Err}
+use Rattle.model.specs.declared.Refusal.{Refusal}
 use Rattle.model.specs.declared.Root.{Root}
 use Rattle.model.specs.declared.Party.{Party}
 use Rattle.model.specs.declared.Entry.{Entry}
-use Rattle.model.specs.declared.StepAnswer.{StepAnswer}
 use Rattle.model.specs.declared.Restructuring.TheVariants as Restructuring
 use Rattle.model.specs.Records.{at_step}
-use Rattle.model.specs.Answers.{is_moved, performs, answer_of}
+use Rattle.model.specs.Answers.{is_moved, performs, answer_of, StepReply}
 use Rattle.model.specs.Entries.{joined}
 use Rattle.model.specs.Pages.{page_of, primary_page, link_to_first, scratch_page, with_page, zero_page, with_local_level, level_of, page_sound}
 use Rattle.model.specs.Chains.{sound, chain_of, list_from, pages_in, pages_listed, records_read}
@@ -188,7 +189,7 @@ module _ (kept : StepsKept) (m : Memory) (b : Book) (i : Inv m b) (q : ℕ) (in_
       → Turn (called_by m q o).memory (book_after_call b m (step_for q)) q (suc n)
   unfolding after_call event_of
   turn_then n o c number= party= =
-      let inv = subst (λ (x : Called StepAnswer). Inv x.memory (book_after_call b m (step_for q))) c (call_kept kept m b i (step_for q)).inv in
+      let inv = subst (λ (x : Called StepReply). Inv x.memory (book_after_call b m (step_for q))) c (call_kept kept m b i (step_for q)).inv in
       let long : length (set m.parties o.after.number o.after.party) ≡ length m.parties = length-set m.parties o.after.number o.after.party in
       turn_at (called_by m q o).memory (book_after_call b m (step_for q)) inv q (omega (arith, long, inv.parties_many, i.parties_many)) n (ap (λ (x : Party). x.step) (record_then o number= party=))
     where
@@ -268,7 +269,7 @@ pub record CallFits (had : ℕ → List ℕ) (m : Memory) (c : Call) : Type 0 wh
 
 module _ (kept : StepsKept) (m : Memory) (b : Book) (i : Inv m b) (had : ℕ → List ℕ) (none : HadNone had) where
   -- A call that was refused.
-  refused_fits : (q n : ℕ) → step_call m q ≡ called (StepAnswer.Refused n) m → CallFits had m (step_for q)
+  refused_fits : (q : ℕ) (n : Refusal) → step_call m q ≡ called (Err n) m → CallFits had m (step_for q)
   unfolding call_fits had_after performs is_moved
   refused_fits q n e = record { right = rw e refl; none = λ j. rw (e, and-false (eqb (party_at m.parties q).step 26)) (none j) }
 
@@ -281,8 +282,8 @@ module _ (kept : StepsKept) (m : Memory) (b : Book) (i : Inv m b) (had : ℕ →
 
   step_fits : (q : ℕ) → Met m b i q → CallFits had m (step_for q)
   unfolding call_fits had_after
-  step_fits q (no_party _ _ _ e) = refused_fits q 3 e
-  step_fits q (nothing-begun _ _ _ _ e) = refused_fits q 5 e
+  step_fits q (no_party _ _ _ e) = refused_fits q Refusal.Party e
+  step_fits q (nothing-begun _ _ _ _ e) = refused_fits q Refusal.Idle e
   step_fits q (under_way_lem in_row _ _ _ call) = record {
     right = cond_ind (λ (t : Bool). t ≡ true) (performs (step_call m q).answer) _ _ (λ h. step_right kept m b i q in_row call had (none q) h) (λ _. refl);
     none = λ j. notes q _ (eqb (party_at m.parties q).step 26 && is_moved (step_call m q).answer)

@@ -2,7 +2,7 @@
 -- a step that requests nothing never waits, no step of an operation under way is refused, and every other call is refused or accepted as the table of refusals says; a withdraw, which never waits, is
 -- refused only 3, 5 or 7.
 -- Which locks are held and who is under way is derived from the calls (specs/Holds.antt).
--- Main statements: call-grants (one call, and the ledger after it); run_grants (a list from any memory with the invariant);
+-- Main statements: call_grants (one call, and the ledger after it); run_grants (a list from any memory with the invariant);
 -- grants_right_lem (from formatted memory).
 use mathlib.Core.Path.{◌≡◌, refl, sym, ap, ◌∙◌, subst}
 use mathlib.Core.Bool.{Bool, true, false, cond, not, ◌&&◌}
@@ -12,27 +12,28 @@ use Prim.Native.Nat.{ℕ, ◌+◌, ◌-◌, ◌≤◌, ◌<◌}
 use native.Mathlib.Omega.{arith}
 use lib.ListN.{length, get_or, set}
 use lib.Dec.{leb}
+use Rattle.std.specs.Prelude.{Ok, Err}
+use Rattle.model.proofs.Laws.Answers.{cause_some, not_refused}
+use Rattle.model.specs.declared.Refusal.{Refusal}
 use Rattle.model.specs.declared.Root.{Root}
 use Rattle.model.specs.declared.Party.{Party}
 use Rattle.model.specs.declared.Operation.{Operation}
 use Rattle.model.specs.declared.StepAnswer.{StepAnswer}
-use Rattle.model.specs.declared.BeginAnswer.{BeginAnswer}
-use Rattle.model.specs.declared.WithdrawAnswer.{WithdrawAnswer}
 use Rattle.model.specs.Sizes.{within_limits, lock_words}
 use Rattle.model.specs.Records.{begun, idle}
-use Rattle.model.specs.Answers.{operation_number, refusal_number, is_moved, setting_given}
+use Rattle.model.specs.Answers.{operation_number, refusal_number, is_moved, setting_given, StepReply, CallReply, cause_number}
 use Rattle.model.specs.LockWords.{Claim, permits}
-use Rattle.model.specs.Outcome.{View, Outcome, damage}
+use Rattle.model.specs.Outcome.{View, Outcome}
 use Rattle.model.specs.LockRequests.{is_granted}
 use Rattle.model.specs.Memory.{Memory, party_at, view_of}
 use Rattle.model.specs.Calls.{Called, called, stepped, step_call, with_begun, begin_call, withdraw_call}
 use Rattle.model.specs.Runs.{Call, begin_for, step_for, withdraw_for, event_of, after_call}
 use Rattle.model.specs.Book.{Book, Entered}
 use Rattle.model.specs.Progress.{under_way, book_after_call}
-use Rattle.model.specs.Holds.{Hold, waits_before, waits_after, permitted, without_all, gives_up, requested, with_held, wanted_by, holds_after_step, gives_up_withdrawn, holds_after_withdraw, holds_after, never_waits, grant_right, answer_right, refused_with, begin_refused_with, is_begun, idle_right, begin_right, withdraw_refused_with, is_withdrawn, withdraw_right, step_right, call_right, grants_right}
+use Rattle.model.specs.Holds.{Hold, waits_before, waits_after, permitted, without_all, gives_up, requested, with_held, wanted_by, holds_after_step, gives_up_withdrawn, holds_after_withdraw, holds_after, never_waits, grant_right, answer_right, refused_with, idle_right, begin_right, withdraw_right, step_right, call_right, grants_right}
 use Rattle.theory.specs.Demands.{Start, sizes_of, start, GrantsRight, book_start}
 use Rattle.model.specs.Steps.Dispatch.{wants}
-use Rattle.model.proofs.Laws.Lists.{both-and, eqb-true, le-leb, lt-leb}
+use Rattle.model.proofs.Laws.Lists.{both-and, le-leb, lt-leb}
 use Rattle.model.specs.Claims.{claims}
 use Rattle.model.specs.GivenSizes.{sized_root}
 use Rattle.model.specs.Withdraw.{is_decided}
@@ -44,7 +45,7 @@ use Rattle.model.proofs.Theorems.RefusalOrder.{begin_order}
 use Rattle.model.proofs.Theorems.Calls.{StepsKept, within_limits_lem, operation_some, lengths_fit_ok, call_kept}
 use Rattle.theory.proofs.SizesStay.{limits_on, call_limits, start_limits, sized_root_lem}
 use Rattle.theory.proofs.UnderWay.{inv_fits, entered_under, unentered_under, Met, no_party, nothing-begun, under_way_lem, meets}
-use Rattle.theory.proofs.Withdraws.{withdrawn-not_refused, WithdrawTested, turned_away, let_through, withdraw_tested, WithdrawMet, stranger, unbegun, too_late, taken_back, withdraw_meets}
+use Rattle.theory.proofs.Withdraws.{WithdrawTested, turned_away, let_through, withdraw_tested, WithdrawMet, stranger, unbegun, too_late, taken_back, withdraw_meets}
 use Rattle.model.proofs.Theorems.Answering.{unasked, asked, fairly, step_fair, asked_wanted}
 use Rattle.theory.proofs.LockOrder.{WantedHigher, wanted_higher}
 use Rattle.model.proofs.Exits.Trades.{claim_count, listed}
@@ -57,12 +58,12 @@ use Rattle.theory.proofs.WaitLedger.{call_waits}
 -- ---- The ledger after a step
 
 -- What specs/Holds.antt makes of the ledger, by the answer.
-abbrev ledger_after : List Hold → ℕ → ℕ → Party → Option Claim → StepAnswer → List Hold
+abbrev ledger_after : List Hold → ℕ → ℕ → Party → Option Claim → StepReply → List Hold
 ledger_after hs q k p w a =
     let left = without_all hs q (gives_up k p a) in
     cond (is_moved a) (with_held left q (requested k w)) left
 
-count_after : (hs : List Hold) (q k : ℕ) (p : Party) (w : Option Claim) (a : StepAnswer) (j : ℕ) (d : Claim)
+count_after : (hs : List Hold) (q k : ℕ) (p : Party) (w : Option Claim) (a : StepReply) (j : ℕ) (d : Claim)
     → hold_count (ledger_after hs q k p w a) j d ≡ hold_count hs j d - count_for q (gives_up k p a) j d + count_for q (gained k w a) j d
 unfolding gained
 count_after hs q k p w a j d = go (is_moved a)
@@ -101,24 +102,24 @@ pub record CallGrants (z : Root) (b : Book) (hs ws : List Hold) (m : Memory) (c 
 -- An answer that goes with the request by the lock word, and is no refusal, goes with it by the ledger, where the two permit the same locks of the file.
 module _ (hs ws : List Hold) (q : ℕ) (v : View) (held : List Claim) (want : Option Claim)
     (agree : (c : Claim) → want ≡ some c → c.word < lock_words v.root → (permitted hs c && not (waits_before ws q c)) ≡ is_granted v c) where
-  answer_right_ok : (w : Option Claim) (a : StepAnswer) → want ≡ w → WantedHigher v.root held w → refusal_number a ≡ 0 → fairly v w a ≡ true → answer_right hs ws q w a ≡ true
+  answer_right_ok : (w : Option Claim) (a : StepReply) → want ≡ w → WantedHigher v.root held w → refusal_number a ≡ 0 → fairly v w a ≡ true → answer_right hs ws q w a ≡ true
   unfolding answer_right never_waits grant_right refusal_number fairly unasked asked
-  answer_right_ok none StepAnswer.Waiting e x r f = f
-  answer_right_ok none StepAnswer.Moved e x r f = refl
-  answer_right_ok none (StepAnswer.Done a s) e x r f = refl
-  answer_right_ok none (StepAnswer.Refused n) e x r f = absurd (omega (arith, r, eqb-true n damage f))
-  answer_right_ok (some c) StepAnswer.Waiting e x r f = ap not (agree c e x.inside) ∙ f
-  answer_right_ok (some c) StepAnswer.Moved e x r f = agree c e x.inside ∙ f
-  answer_right_ok (some c) (StepAnswer.Done a s) e x r f = f
-  answer_right_ok (some c) (StepAnswer.Refused n) e x r f = absurd (omega (arith, r, eqb-true n damage f))
+  answer_right_ok none (Ok StepAnswer.Waiting) e x r f = f
+  answer_right_ok none (Ok StepAnswer.Moved) e x r f = refl
+  answer_right_ok none (Ok (StepAnswer.Done a s)) e x r f = refl
+  answer_right_ok none (Err n) e x r f = absurd (cause_some n r)
+  answer_right_ok (some c) (Ok StepAnswer.Waiting) e x r f = ap not (agree c e x.inside) ∙ f
+  answer_right_ok (some c) (Ok StepAnswer.Moved) e x r f = agree c e x.inside ∙ f
+  answer_right_ok (some c) (Ok (StepAnswer.Done a s)) e x r f = f
+  answer_right_ok (some c) (Err n) e x r f = absurd (cause_some n r)
 
 -- A step refused with the number that stands for its party.
-no_party_right : (n q : ℕ) → n ≤ q → idle_right n q (StepAnswer.Refused 3) ≡ true
-unfolding idle_right refused_with
+no_party_right : (n q : ℕ) → n ≤ q → idle_right n q (Err Refusal.Party) ≡ true
+unfolding idle_right refused_with cause_number
 no_party_right n q h = rw (le-leb n q h) refl
 
-idle_party_right : (n q : ℕ) → q < n → idle_right n q (StepAnswer.Refused 5) ≡ true
-unfolding idle_right refused_with
+idle_party_right : (n q : ℕ) → q < n → idle_right n q (Err Refusal.Idle) ≡ true
+unfolding idle_right refused_with cause_number
 idle_party_right n q h = rw (lt-leb n q h) refl
 
 module _ (kept : StepsKept) (z : Root) (m : Memory) (b : Book) (i : Inv m b) (l : SameLimits z m.root) (hs : List Hold) (ok : LedgerOk m.root m.parties hs)
@@ -127,7 +128,7 @@ module _ (kept : StepsKept) (z : Root) (m : Memory) (b : Book) (i : Inv m b) (l 
   want= : (q : ℕ) → wanted_by z m q ≡ wants m.root (party_at m.parties q)
   want= q = ap (λ (r : Root). wants r (party_at m.parties q)) (sized_root_lem z m.root l)
 
-  abbrev StepGrants : ℕ → Called StepAnswer → Type 0
+  abbrev StepGrants : ℕ → Called StepReply → Type 0
   StepGrants q c = (cond (under_way b q) (answer_right hs ws q (wanted_by z m q) c.answer) (idle_right z.parties q c.answer) ≡ true)
       × LedgerOk c.memory.root c.memory.parties (ledger_after hs q (party_at m.parties q).step (party_at m.parties q) (wanted_by z m q) c.answer)
 
@@ -148,7 +149,7 @@ module _ (kept : StepsKept) (z : Root) (m : Memory) (b : Book) (i : Inv m b) (l 
           ap (λ (t : Bool). t && not (waits_before ws q c)) (permitted-is m.root m.parties hs ok i.locks_ok c inside)
           ∙ ap (λ (t : Bool). permits (get_or m.locks c.word 0) c.mode && not t) (sym behind)
 
-  refused_grants : (q n : ℕ) → b.entries q ≡ none → idle_right z.parties q (StepAnswer.Refused n) ≡ true → StepGrants q (called (StepAnswer.Refused n) m)
+  refused_grants : (q : ℕ) (n : Refusal) → b.entries q ≡ none → idle_right z.parties q (Err n) ≡ true → StepGrants q (called (Err n) m)
   unfolding is_moved gives_up without_all
   refused_grants q n u h = (rw (unentered_under b q u) h, ok)
 
@@ -156,17 +157,17 @@ module _ (kept : StepsKept) (z : Root) (m : Memory) (b : Book) (i : Inv m b) (l 
   step_grants q = go (meets m b i q)
     where
       go : Met m b i q → StepGrants q (step_call m q)
-      go (no_party h u _ e) = subst (StepGrants q) (sym e) (refused_grants q 3 u (no_party_right z.parties q (omega (arith, l.parties=))))
-      go (nothing-begun h _ u _ e) = subst (StepGrants q) (sym e) (refused_grants q 5 u (idle_party_right z.parties q (omega (arith, l.parties=))))
+      go (no_party h u _ e) = subst (StepGrants q) (sym e) (refused_grants q Refusal.Party u (no_party_right z.parties q (omega (arith, l.parties=))))
+      go (nothing-begun h _ u _ e) = subst (StepGrants q) (sym e) (refused_grants q Refusal.Idle u (idle_party_right z.parties q (omega (arith, l.parties=))))
       go (under_way_lem h e k x c) = subst (StepGrants q) (sym c) (performed_grants q h e k x)
 
   -- ---- Begin
 
-  abbrev BeginGrants : ℕ → Called BeginAnswer → Type 0
+  abbrev BeginGrants : ℕ → Called CallReply → Type 0
   BeginGrants q c = (begin_right z.parties q (under_way b q) c.answer ≡ true) × LedgerOk c.memory.root c.memory.parties hs
 
   begin_grants : (q : ℕ) (o : Operation) (k : ℕ) → BeginGrants q (begin_call m q o k)
-  unfolding begin_right begin_refused_with is_begun with_begun claims
+  unfolding begin_right refused_with cause_number with_begun claims
   begin_grants q o k = go (meets m b i q)
     where
       fits : within_limits m.root ≡ true
@@ -188,7 +189,7 @@ module _ (kept : StepsKept) (z : Root) (m : Memory) (b : Book) (i : Inv m b) (l 
 
   -- ---- Withdraw
 
-  abbrev WithdrawGrants : ℕ → Called WithdrawAnswer → Type 0
+  abbrev WithdrawGrants : ℕ → Called CallReply → Type 0
   WithdrawGrants q c = (withdraw_right z.parties q (under_way b q) (is_decided (party_at m.parties q)) c.answer ≡ true)
       × LedgerOk c.memory.root c.memory.parties (without_all hs q (gives_up_withdrawn (sized_root z m.root) (party_at m.parties q) c.answer))
 
@@ -202,15 +203,15 @@ module _ (kept : StepsKept) (z : Root) (m : Memory) (b : Book) (i : Inv m b) (l 
       (λ j d n. omega (arith, count_without_all hs q cs j d, count_other q cs j d n))
 
   withdraw_grants : (q : ℕ) → WithdrawGrants q (withdraw_call m q)
-  unfolding withdraw_right withdraw_refused_with is_withdrawn gives_up_withdrawn without_all
+  unfolding withdraw_right refused_with cause_number gives_up_withdrawn without_all
   withdraw_grants q = go (withdraw_meets m b i q)
     where
       inside : q < m.root.parties → leb z.parties q ≡ false
       inside h = lt-leb z.parties q (omega (arith, l.parties=))
 
-      accepted : q < m.root.parties → is_decided (party_at m.parties q) ≡ false → under_way b q ≡ true → (withdraw_call m q).answer ≡ WithdrawAnswer.Withdrawn
+      accepted : q < m.root.parties → is_decided (party_at m.parties q) ≡ false → under_way b q ≡ true → (withdraw_call m q).answer ≡ Ok tt
           → WithdrawTested m q → WithdrawGrants q (withdraw_call m q)
-      accepted h d u a (turned_away n e) = absurd (withdrawn-not_refused n (sym a ∙ ap (λ (c : Called WithdrawAnswer). c.answer) e))
+      accepted h d u a (turned_away n e) = absurd (not_refused tt n (sym a ∙ ap (λ (c : Called CallReply). c.answer) e))
       accepted h d u a (let_through xs _ _ _ _ e) = subst (WithdrawGrants q) (sym e) (rw (inside h, u, d) refl, withdrawn_ledger q h (left_by (view_of m q) xs).root)
 
       go : WithdrawMet m b i q → WithdrawGrants q (withdraw_call m q)

@@ -5,6 +5,7 @@ use mathlib.Core.Bool.{true, false, not, ◌||◌}
 use Prim.Native.Nat.{ℕ, ◌≤◌}
 use native.Mathlib.Omega.{arith}
 use lib.Dec.{leb, ltb}
+use Rattle.std.specs.Prelude.{Ok}
 use Rattle.model.specs.declared.OperationAnswer.{OperationAnswer}
 use Rattle.model.specs.declared.Restructuring.{Restructuring}
 use Rattle.model.specs.declared.StepAnswer.TheVariants as StepAnswer
@@ -21,8 +22,8 @@ use Rattle.model.proofs.Exits.{step_exits}
 -- Waiting or refused; moved on, to 12 or further, with the answer so far; or done with it.
 pub data Later (v : View) (o : Outcome) : Type 0 where
   stays : performs o.answer ≡ false → Later v o
-  goes : o.answer ≡ StepAnswer.Moved → 12 ≤ o.after.party.step → o.after.party.answer ≡ v.party.answer → Later v o
-  ends : (s : Restructuring) → o.answer ≡ StepAnswer.Done (answer_of v.party.answer) s → o.after.party ≡ idle → Later v o
+  goes : o.answer ≡ Ok StepAnswer.Moved → 12 ≤ o.after.party.step → o.after.party.answer ≡ v.party.answer → Later v o
+  ends : (s : Restructuring) → o.answer ≡ Ok (StepAnswer.Done (answer_of v.party.answer) s) → o.after.party ≡ idle → Later v o
 
 module _ (v : View) (k : ℕ) (late : 11 ≤ k) where
   -- From 11 on a step that moves leads to 12 or further.
@@ -41,7 +42,7 @@ module _ (v : View) (k : ℕ) (late : 11 ≤ k) where
   by_exit o (taking c u w g d m) = moves_later u d m
   by_exit o (moving u w d m) = moves_later u d m
   by_exit o (looking e w l m) = absurd (omega arith)
-  by_exit o (ending a s u w e) = ends s (ap (λ (b : OperationAnswer). StepAnswer.Done b s) (e.answer= (λ e. omega arith))) refl
+  by_exit o (ending a s u w e) = ends s (ap (λ (b : OperationAnswer). Ok (StepAnswer.Done b s)) (e.answer= (λ e. omega arith))) refl
 
 pub later_at : (k : ℕ) → 11 ≤ k → (v : View) → Later v (step_of k v)
 later_at k h v = by_exit v k h (step_of k v) (step_exits k v)

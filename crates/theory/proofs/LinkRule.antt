@@ -10,16 +10,16 @@ use native.Mathlib.Omega.{arith}
 use lib.ListN.{length, set}
 use lib.Seq.{set-get_or}
 use lib.Dec.{eqb}
+use Rattle.std.specs.Prelude.{Ok, Err}
+use Rattle.model.proofs.Laws.Answers.{Caused, no_cause, caused_by, caused}
+use Rattle.model.specs.declared.Refusal.{Refusal}
 use Rattle.model.specs.WaitingRow.{row_after}
 use Rattle.model.specs.declared.Party.{Party}
 use Rattle.model.specs.declared.Operation.{Operation}
-use Rattle.model.specs.declared.StepAnswer.{StepAnswer}
 use Rattle.model.specs.declared.Root.{Root}
-use Rattle.model.specs.declared.BeginAnswer.{BeginAnswer}
-use Rattle.model.specs.declared.WithdrawAnswer.{WithdrawAnswer}
 use Rattle.model.specs.declared.Mode.TheVariants.{Exclusive}
 use Rattle.model.specs.Records.{idle, begun}
-use Rattle.model.specs.Answers.{operation_number, is_moved, performs, setting_given}
+use Rattle.model.specs.Answers.{operation_number, is_moved, performs, setting_given, StepReply, CallReply}
 use Rattle.model.specs.LockWords.{chain_word}
 use Rattle.model.specs.Pages.{page_of, link_of, link_to_first, scratch_page, linked_page}
 use Rattle.model.specs.Chains.{Checked, sound, list_from, pages_listed}
@@ -70,7 +70,7 @@ use Rattle.theory.proofs.Traces.{Traced, stays, goes, moves_by_link, step_traced
 abbrev link_steps : List ℕ
 link_steps = 6 ∷ (9 ∷ (10 ∷ (14 ∷ (17 ∷ (26 ∷ (29 ∷ []))))))
 
-no_links : (t n : ℕ) (v : View) (a : StepAnswer) (next s o : ℕ) → Outside n link_steps → trace_of t n v a next s o ≡ no_trace
+no_links : (t n : ℕ) (v : View) (a : StepReply) (next s o : ℕ) → Outside n link_steps → trace_of t n v a next s o ≡ no_trace
 unfolding trace_of
 no_links t n v a next s o h =
     rw (
@@ -245,7 +245,7 @@ module _ (m : Memory) (b : Book) (i : Inv m b) where
       fair_ten : (xs : List ℕ) (o : Bool) → Fair (trace_ten now xs o)
       fair_ten xs o = record { fresh = fresh_now k now xs earlier; given = none-given }
 
-      fair_walked : me.step ≡ 9 → (a : StepAnswer) → (is_moved a ≡ true → link_of (scratch_of (view_of m q)) ≢ 0) → Fair (trace_nine (view_of m q) (k.scratch_read q) a)
+      fair_walked : me.step ≡ 9 → (a : StepReply) → (is_moved a ≡ true → link_of (scratch_of (view_of m q)) ≢ 0) → Fair (trace_nine (view_of m q) (k.scratch_read q) a)
       unfolding trace_nine all_fresh
       fair_walked e a n =
           cond_ind Fair (is_moved a) _ _
@@ -279,7 +279,7 @@ module _ (m : Memory) (b : Book) (i : Inv m b) where
           rw (x.no_old_link, x.partner_link, none-listed) fair_none
 
       -- By step number.
-      trace_fair : (a : StepAnswer) (next : ℕ) → (me.step ≡ 9 → is_moved a ≡ true → link_of (scratch_of (view_of m q)) ≢ 0)
+      trace_fair : (a : StepReply) (next : ℕ) → (me.step ≡ 9 → is_moved a ≡ true → link_of (scratch_of (view_of m q)) ≢ 0)
           → Fair (trace_of now me.step (view_of m q) a next (k.scratch_read q) (k.old_read q))
       unfolding trace_of
       trace_fair a next linked = go (tell (is_among me.step link_steps))
@@ -311,23 +311,23 @@ pub record CallFresh (k : Clock) (m : Memory) (c : Call) : Type 0 where
   pub clock : ClockOk (clock_after k m c) (after_call m c)
 
 -- The trace of a call that performs no step, and of one that performs a step.
-quiet_trace : (k : Clock) (m : Memory) (q : ℕ) (a : StepAnswer) (u : Memory) → step_call m q ≡ called a u → performs a ≡ false → trace_of_step k m q ≡ no_trace
+quiet_trace : (k : Clock) (m : Memory) (q : ℕ) (a : StepReply) (u : Memory) → step_call m q ≡ called a u → performs a ≡ false → trace_of_step k m q ≡ no_trace
 unfolding trace_of_step
 quiet_trace k m q a u e p = rw (e, p) refl
 
-acting_trace : (k : Clock) (m : Memory) (q : ℕ) (a : StepAnswer) (u : Memory) (p : Party) → step_call m q ≡ called a u → performs a ≡ true → party_at u.parties q ≡ p
+acting_trace : (k : Clock) (m : Memory) (q : ℕ) (a : StepReply) (u : Memory) (p : Party) → step_call m q ≡ called a u → performs a ≡ true → party_at u.parties q ≡ p
     → trace_of_step k m q ≡ trace_of (k.calls + 1) (party_at m.parties q).step (view_of m q) a p.step (k.scratch_read q) (k.old_read q)
 unfolding trace_of_step
 acting_trace k m q a u p e h s = rw (e, h, s) refl
 
 module _ (k : Clock) (m : Memory) (ok : ClockOk k m) (q : ℕ) where
   -- A call that performs no step.
-  quiet_fresh : (a : StepAnswer) (u : Memory) → step_call m q ≡ called a u → performs a ≡ false → (row : List ℕ) → u ≡ with_waiting row m → CallFresh k m (step_for q)
+  quiet_fresh : (a : StepReply) (u : Memory) → step_call m q ≡ called a u → performs a ≡ false → (row : List ℕ) → u ≡ with_waiting row m → CallFresh k m (step_for q)
   unfolding trace_of_call clock_after after_call all_fresh
   quiet_fresh a u e p row s = record {
     fresh = ap (λ (t : Trace). all_fresh k t.follows) none;
     clock = subst (λ (t : Trace). ClockOk (ticked k q t) (step_call m q).memory) (sym none)
-        (subst (λ (x : Memory). ClockOk (ticked k q no_trace) x) (sym (ap (λ (c : Called StepAnswer). c.memory) e ∙ s)) (clock_row row (clock_ticks k m ok q)));
+        (subst (λ (x : Memory). ClockOk (ticked k q no_trace) x) (sym (ap (λ (c : Called StepReply). c.memory) e ∙ s)) (clock_row row (clock_ticks k m ok q)));
   }
     where
       clock_row : (row : List ℕ) → ClockOk (ticked k q no_trace) m → ClockOk (ticked k q no_trace) (with_waiting row m)
@@ -336,7 +336,7 @@ module _ (k : Clock) (m : Memory) (ok : ClockOk k m) (q : ℕ) where
       none : trace_of_step k m q ≡ no_trace
       none = quiet_trace k m q a u e p
 
-  module _ (b : Book) (i : Inv m b) (none : first_cause (step_rows m q) ≡ 0) where
+  module _ (b : Book) (i : Inv m b) (none : first_cause (step_rows m q) ≡ Ok tt) where
     abbrev v : View
     v = view_of m q
 
@@ -407,7 +407,7 @@ module _ (k : Clock) (m : Memory) (ok : ClockOk k m) (q : ℕ) where
           record {
             fresh = ap (λ (s : Trace). all_fresh k s.follows) is ∙ fair.fresh;
             clock = subst (λ (s : Trace). ClockOk (ticked k q s) (step_call m q).memory) (sym is)
-                (subst (λ (c : Called StepAnswer). ClockOk (ticked k q t) c.memory) (sym e)
+                (subst (λ (c : Called StepReply). ClockOk (ticked k q t) c.memory) (sym e)
                 (clock_moves k m u ok q t spared
                 (λ _. subst (λ (p : Party). scratch_open p.step ≡ true → (ticked k q t).given_at (linked_page (link_of (scratch_of (view_of u q)))) < (ticked k q t).scratch_read q) (sym own_record)
                 (λ s. own_scratch s (linked_page (link_of (scratch_of (view_of u q))))))
@@ -425,11 +425,11 @@ module _ (k : Clock) (m : Memory) (ok : ClockOk k m) (q : ℕ) where
 
   step_fresh : (b : Book) → Inv m b → CallFresh k m (step_for q)
   unfolding stepped performs
-  step_fresh b i = go (cmp (first_cause (step_rows m q)) 0)
+  step_fresh b i = go (caused (first_cause (step_rows m q)))
     where
-      go : Cmp (first_cause (step_rows m q)) 0 → CallFresh k m (step_for q)
-      go (same e) = tested_fresh b i e (step-accepted m q e)
-      go (diff n) = quiet_fresh (StepAnswer.Refused (first_cause (step_rows m q))) m (step_refused_ok m (first_cause (step_rows m q)) (omega arith) q refl) refl m.waiting refl
+      go : Caused (first_cause (step_rows m q)) → CallFresh k m (step_for q)
+      go (no_cause e) = tested_fresh b i e (step-accepted m q e)
+      go (caused_by c y) = quiet_fresh (Err c) m (step_refused_ok m c q y) refl m.waiting refl
 
   -- ---- Begin
 
@@ -456,27 +456,27 @@ module _ (k : Clock) (m : Memory) (ok : ClockOk k m) (q : ℕ) where
 
     begin_fresh : (b : Book) → Inv m b → CallFresh k m (begin_for q op key)
     unfolding trace_of_call clock_after after_call all_fresh
-    begin_fresh b i = record { fresh = refl; clock = go (cmp (first_cause (begin_rows m q)) 0) }
+    begin_fresh b i = record { fresh = refl; clock = go (caused (first_cause (begin_rows m q))) }
       where
-        go : Cmp (first_cause (begin_rows m q)) 0 → ClockOk (ticked k q no_trace) (begin_call m q op key).memory
-        go (same e) = subst (λ (c : Called BeginAnswer). ClockOk (ticked k q no_trace) c.memory) (sym (begin_accepted m q op key e)) (begun_clock i.parties_many)
-        go (diff n) =
-            subst (λ (c : Called BeginAnswer). ClockOk (ticked k q no_trace) c.memory) (sym (begin_refused_ok m (first_cause (begin_rows m q)) (omega arith) q op key refl))
+        go : Caused (first_cause (begin_rows m q)) → ClockOk (ticked k q no_trace) (begin_call m q op key).memory
+        go (no_cause e) = subst (λ (c : Called CallReply). ClockOk (ticked k q no_trace) c.memory) (sym (begin_accepted m q op key e)) (begun_clock i.parties_many)
+        go (caused_by c y) =
+            subst (λ (c : Called CallReply). ClockOk (ticked k q no_trace) c.memory) (sym (begin_refused_ok m c q op key y))
             (clock_ticks k m ok q)
 
   -- ---- Withdraw
 
   -- Refused: nothing is followed, and nothing changes.
-  kept_fresh : (n : ℕ) → withdraw_call m q ≡ called (WithdrawAnswer.Refused n) m → CallFresh k m (withdraw_for q)
+  kept_fresh : (n : Refusal) → withdraw_call m q ≡ called (Err n) m → CallFresh k m (withdraw_for q)
   unfolding trace_of_call clock_after after_call all_fresh trace_of_withdraw trace_answered
   kept_fresh n e = record {
-    fresh = ap (λ (c : Called WithdrawAnswer). all_fresh k (trace_answered k m q c.answer).follows) e;
-    clock = subst (λ (c : Called WithdrawAnswer). ClockOk (ticked k q (trace_answered k m q c.answer)) c.memory) (sym e) (clock_ticks k m ok q);
+    fresh = ap (λ (c : Called CallReply). all_fresh k (trace_answered k m q c.answer).follows) e;
+    clock = subst (λ (c : Called CallReply). ClockOk (ticked k q (trace_answered k m q c.answer)) c.memory) (sym e) (clock_ticks k m ok q);
   }
 
   -- Accepted: at 11 the list that scratch leads to is walked and given back.
   module _ (b : Book) (now : Turn m b q (party_at m.parties q).step) (undone : is_decided (party_at m.parties q) ≡ false)
-      (accepted : (withdraw_call m q).answer ≡ WithdrawAnswer.Withdrawn) where
+      (accepted : (withdraw_call m q).answer ≡ Ok tt) where
     abbrev builts : List ℕ
     builts = now.inv.ghost.held (built_by q)
 
@@ -545,9 +545,9 @@ module _ (k : Clock) (m : Memory) (ok : ClockOk k m) (q : ℕ) where
   withdraw_fresh b i = go (withdraw_meets m b i q)
     where
       go : WithdrawMet m b i q → CallFresh k m (withdraw_for q)
-      go (stranger h n e) = kept_fresh 3 e
-      go (unbegun h n e) = kept_fresh 5 e
-      go (too_late h e c d f) = kept_fresh 7 f
+      go (stranger h n e) = kept_fresh Refusal.Party e
+      go (unbegun h n e) = kept_fresh Refusal.Idle e
+      go (too_late h e c d f) = kept_fresh Refusal.Decided f
       go (taken_back h e c t d a) = taken_fresh b t d a
 
 pub clock_kept : (k : Clock) (m : Memory) (b : Book) → Inv m b → ClockOk k m → (c : Call) → CallFresh k m c

@@ -7,8 +7,7 @@ use mathlib.Core.Bool.{true, cond}
 use mathlib.Core.List.{List, []}
 use mathlib.Core.Option.{Option}
 use Prim.Native.Nat.{ℕ}
-use Rattle.model.specs.declared.StepAnswer.{StepAnswer}
-use Rattle.model.specs.Answers.{is_moved}
+use Rattle.model.specs.Answers.{is_moved, StepReply}
 use Rattle.model.specs.LockWords.{Claim}
 use Rattle.model.specs.Outcome.{View, Outcome}
 use Rattle.model.specs.Holds.{gives_up, requested}
@@ -21,7 +20,7 @@ use Rattle.model.proofs.Exits.Statement.{want_at, Kept, Exit, refusing, waiting,
 use Rattle.model.proofs.Exits.{step_exits}
 
 -- The locks that a step with this answer is granted.
-unfoldable pub gained : ℕ → Option Claim → StepAnswer → List Claim
+unfoldable pub gained : ℕ → Option Claim → StepReply → List Claim
 gained k w a = cond (is_moved a) (listed (requested k w)) []
 
 -- An outcome of step k: the party's claims are traded as the ledger has it.

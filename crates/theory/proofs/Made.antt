@@ -3,31 +3,29 @@
 -- and which memory a run may start from: what format made, and what passes take-up.
 -- Main statements: made, made_reply, made_memory, made_once; look, looked_answer, looked_memory, looked_once; ran,
 -- ran_looking (a look at every place), ran_events, ran_memory, ran_once, ran_both (a list behind another),
--- calls_told; format_starts, formatted-fits, formatted-once; start-opens, format_opens, OpenedAt, opened_starts;
+-- calls_told; format_starts, formatted_fits, formatted_once; start-opens, format_opens, OpenedAt, opened_starts;
 -- looks_right_lem. What is no call and no run: Refutations/Runs.antt.
 use mathlib.Core.Path.{◌≡◌, refl, sym, ◌∙◌, ap, ap₂, subst}
 use mathlib.Core.Bool.{Bool, true, false, cond}
 use mathlib.Core.List.{List, [], ◌∷◌, ◌++◌, map}
 use Prim.Native.Nat.{ℕ, suc}
-use native.Mathlib.Omega.{arith}
 use lib.ListN.{length}
+use Rattle.std.specs.Prelude.{Ok, Err, ⊤}
+use Rattle.model.proofs.Laws.Answers.{not_refused}
+use Rattle.model.specs.declared.Refusal.{Refusal}
+use Rattle.model.specs.Answers.{StepReply, CallReply, cause_number, refusal_number}
 use Rattle.model.specs.declared.FileSizes.{FileSizes}
-use Rattle.model.specs.declared.FormatAnswer.{FormatAnswer}
-use Rattle.model.specs.declared.BeginAnswer.{BeginAnswer}
-use Rattle.model.specs.declared.StepAnswer.{StepAnswer}
-use Rattle.model.specs.declared.WithdrawAnswer.{WithdrawAnswer}
-use Rattle.model.specs.declared.TakeUpAnswer.{TakeUpAnswer}
 use Rattle.model.specs.Sizes.{within_limits}
 use Rattle.model.specs.Records.{root_sized}
 use Rattle.model.specs.Memory.{Memory, formatted}
 use Rattle.model.specs.Refusals.{lengths_fit}
 use Rattle.model.specs.Calls.{Called, called, begin_call, step_call, withdraw_call}
-use Rattle.model.specs.TakeUp.{take_up_call, unsaved_refusal}
+use Rattle.model.specs.TakeUp.{take_up_call}
 use Rattle.model.specs.Book.{Book}
 use Rattle.model.specs.Progress.{under_way, some_below, book_after_call}
 use Rattle.model.specs.Runs.{Call, begin_for, step_for, withdraw_for, Reply, to_begin, to_step, to_withdraw, Event, reply_to, after_call, event_of, events, final_memory}
 use Rattle.theory.specs.Demands.{Sizes, Start, start}
-use Rattle.theory.specs.Made.{Formatted, Looked, Opened, by_format, by-take_up, Made, begun, stepped, withdrew, happened, Ran, ended, next, looked, looks_made, take_up_refusal, looks_right}
+use Rattle.theory.specs.Made.{Formatted, Looked, Opened, by_format, by-take_up, Made, begun, stepped, withdrew, happened, Ran, ended, next, looked, looks_made, looks_right}
 use Rattle.model.proofs.Laws.Lists.{both-and, eqb_same}
 use Rattle.model.proofs.Invariant.Statement.{Inv}
 use Rattle.model.proofs.Theorems.Calls.{call_kept}
@@ -48,15 +46,15 @@ made m (withdraw_for q) = withdrew q (withdraw_call m q).answer refl
 -- And with no other.
 pub made_reply : {m m' : Memory} {c : Call} {x : Reply} → Made m c x m' → x ≡ reply_to m c
 unfolding reply_to
-made_reply (begun q o k a e) = ap (λ (r : Called BeginAnswer). to_begin r.answer) e
-made_reply (stepped q a e) = ap (λ (r : Called StepAnswer). to_step r.answer) e
-made_reply (withdrew q a e) = ap (λ (r : Called WithdrawAnswer). to_withdraw r.answer) e
+made_reply (begun q o k a e) = ap (λ (r : Called CallReply). to_begin r.answer) e
+made_reply (stepped q a e) = ap (λ (r : Called StepReply). to_step r.answer) e
+made_reply (withdrew q a e) = ap (λ (r : Called CallReply). to_withdraw r.answer) e
 
 pub made_memory : {m m' : Memory} {c : Call} {x : Reply} → Made m c x m' → m' ≡ after_call m c
 unfolding after_call
-made_memory (begun q o k a e) = ap (λ (r : Called BeginAnswer). r.memory) e
-made_memory (stepped q a e) = ap (λ (r : Called StepAnswer). r.memory) e
-made_memory (withdrew q a e) = ap (λ (r : Called WithdrawAnswer). r.memory) e
+made_memory (begun q o k a e) = ap (λ (r : Called CallReply). r.memory) e
+made_memory (stepped q a e) = ap (λ (r : Called StepReply). r.memory) e
+made_memory (withdrew q a e) = ap (λ (r : Called CallReply). r.memory) e
 
 pub made_once : {m u v : Memory} {c : Call} {x y : Reply} → Made m c x u → Made m c y v → (x ≡ y) × (u ≡ v)
 made_once a b = (made_reply a ∙ sym (made_reply b), made_memory a ∙ sym (made_memory b))
@@ -68,14 +66,14 @@ pub look : (m : Memory) → Looked m (take_up_call m).answer m
 unfolding take_up_call
 look m = refl
 
-pub looked_answer : (m : Memory) {m' : Memory} {a : TakeUpAnswer} → Looked m a m' → a ≡ (take_up_call m).answer
-looked_answer m is = ap (λ (c : Called TakeUpAnswer). c.answer) is
+pub looked_answer : (m : Memory) {m' : Memory} {a : CallReply} → Looked m a m' → a ≡ (take_up_call m).answer
+looked_answer m is = ap (λ (c : Called CallReply). c.answer) is
 
-pub looked_memory : {m m' : Memory} {a : TakeUpAnswer} → Looked m a m' → m' ≡ m
+pub looked_memory : {m m' : Memory} {a : CallReply} → Looked m a m' → m' ≡ m
 unfolding take_up_call
-looked_memory is = ap (λ (c : Called TakeUpAnswer). c.memory) is
+looked_memory is = ap (λ (c : Called CallReply). c.memory) is
 
-pub looked_once : (m : Memory) {u v : Memory} {a b : TakeUpAnswer} → Looked m a u → Looked m b v → (a ≡ b) × (u ≡ v)
+pub looked_once : (m : Memory) {u v : Memory} {a b : CallReply} → Looked m a u → Looked m b v → (a ≡ b) × (u ≡ v)
 looked_once m x y = (looked_answer m x ∙ sym (looked_answer m y), looked_memory x ∙ sym (looked_memory y))
 
 -- ---- A list of calls
@@ -137,10 +135,8 @@ module _ (m₀ : Memory) (z : FileSizes) where
   format_starts e f = sym (ordered.none e f)
 
   -- An answer is not formatted and refused at once.
-  refused : {X : Type 0} (m : Memory) (k : ℕ) → called FormatAnswer.Formatted m ≡ called (FormatAnswer.Refused k) m₀ → X
-  refused m k e =
-      let same : FormatAnswer.Formatted ≡ FormatAnswer.Refused k = ap (λ (c : Called FormatAnswer). c.answer) e in
-      absurd (let y : ◌≡◌ {A = ℕ} 0 1 = cc in omega arith)
+  refused : {X : Type 0} (m : Memory) (k : Refusal) → ◌≡◌ {A = Called CallReply} (called (Ok tt) m) (called (Err k) m₀) → X
+  refused m k e = absurd (not_refused tt k (ap (λ (c : Called CallReply). c.answer) e))
 
   abbrev pub Fits : Memory → Type 0
   Fits m = (within_limits (root_sized z) ≡ true) × (lengths_fit (root_sized z) m₀ ≡ true) × (m ≡ formatted (root_sized z))
@@ -150,9 +146,9 @@ module _ (m₀ : Memory) (z : FileSizes) where
   formatted_fits m is = go (within_limits (root_sized z)) (lengths_fit (root_sized z) m₀) refl refl
     where
       go : (s l : Bool) → within_limits (root_sized z) ≡ s → lengths_fit (root_sized z) m₀ ≡ l → Fits m
-      go false l e f = refused m 2 (is ∙ ordered.sizes e)
-      go true false e f = refused m 1 (is ∙ ordered.lengths e f)
-      go true true e f = (e, f, ap (λ (c : Called FormatAnswer). c.memory) (is ∙ ordered.none e f))
+      go false l e f = refused m Refusal.Size (is ∙ ordered.sizes e)
+      go true false e f = refused m Refusal.Length (is ∙ ordered.lengths e f)
+      go true true e f = (e, f, ap (λ (c : Called CallReply). c.memory) (is ∙ ordered.none e f))
 
   pub formatted_once : (u v : Memory) → Formatted m₀ z u → Formatted m₀ z v → u ≡ v
   formatted_once u v a b = (formatted_fits u a).2 ∙ sym (formatted_fits v b).2
@@ -171,7 +167,7 @@ module _ (m₀ : Memory) (z : FileSizes) where
 -- ---- The ways into a run
 
 -- Memory that a run may start from is taken up, and left as it is.
-pub start_taken : (s : Start) → Looked (start s) TakeUpAnswer.TakenUp (start s)
+pub start_taken : (s : Start) → Looked (start s) (Ok tt) (start s)
 start_taken s = sym ((take_up_order (start s)).none s.sizes_fit s.lengths_fit_ok s.saved)
 
 -- So there is a way into a run from it, and after every format that was answered formatted.
@@ -194,14 +190,15 @@ opened_starts (by-take_up {m} m₀ is) = record { begins = taken_start m₀ (sym
 -- ---- What looks answer
 
 -- The number of the answer that a look gets where the invariant holds.
-refusal_is : (t : Bool) → take_up_refusal (cond t (TakeUpAnswer.Refused unsaved_refusal) TakeUpAnswer.TakenUp) ≡ cond t unsaved_refusal 0
+refusal_is : (t : Bool) → refusal_number {A = ⊤} (cond t (Err Refusal.Unsaved) (Ok tt)) ≡ cond t 8 0
+unfolding refusal_number cause_number
 refusal_is true = refl
 refusal_is false = refl
 
-look_number : (m m' : Memory) (b : Book) (a : TakeUpAnswer) → Inv m b → Looked m a m'
-    → take_up_refusal a ≡ cond (some_below m.root.parties (under_way b)) unsaved_refusal 0
+look_number : (m m' : Memory) (b : Book) (a : CallReply) → Inv m b → Looked m a m'
+    → refusal_number a ≡ cond (some_below m.root.parties (under_way b)) 8 0
 look_number m m' b a i is =
-    ap (λ (c : Called TakeUpAnswer). take_up_refusal c.answer) (is ∙ taken_answer m b i) ∙ refusal_is (some_below m.root.parties (under_way b))
+    ap (λ (c : Called CallReply). refusal_number c.answer) (is ∙ taken_answer m b i) ∙ refusal_is (some_below m.root.parties (under_way b))
 
 pub looks_right_lem : {m m' : Memory} {cs : List Call} {es : List Event} (n : ℕ) (b : Book) (run : Ran m cs es m') → n ≡ m.root.parties → Inv m b → looks_right n b run ≡ true
 unfolding looks_right event_of
@@ -210,6 +207,6 @@ looks_right_lem n b (next {m} {m'} {m''} {c} {x} {cs} {es} call rest) e i =
     looks_right_lem n (book_after_call b m c) rest (e ∙ sym (call_limits m c).parties= ∙ ap (λ (z : Memory). z.root.parties) (sym (made_memory call)))
     (subst (λ (z : Memory). Inv z (book_after_call b m c)) (sym (made_memory call)) (call_kept steps_kept m b i c).inv)
 looks_right_lem n b (looked {m} {m'} {m''} {a} {cs} {es} is rest) e i =
-    both-and (eqb_same (take_up_refusal a) (cond (some_below n (under_way b)) unsaved_refusal 0)
-    (look_number m m' b a i is ∙ ap (λ (k : ℕ). cond (some_below k (under_way b)) unsaved_refusal 0) (sym e)))
+    both-and (eqb_same (refusal_number a) (cond (some_below n (under_way b)) 8 0)
+    (look_number m m' b a i is ∙ ap (λ (k : ℕ). cond (some_below k (under_way b)) 8 0) (sym e)))
     (looks_right_lem n b rest (e ∙ ap (λ (z : Memory). z.root.parties) (sym (looked_memory is))) (subst (λ (z : Memory). Inv z b) (sym (looked_memory is)) i))

@@ -13,6 +13,8 @@ use mathlib.Core.List.{List, [], ◌∷◌, map}
 use mathlib.Core.Option.{Option, none, some}
 use Prim.Native.Nat.{ℕ}
 use lib.Dec.{eqb, ltb}
+use Rattle.std.specs.Prelude.{Ok, Err}
+use Rattle.model.specs.declared.Refusal.{Refusal}
 use Rattle.model.specs.declared.Operation.{Operation}
 use Rattle.model.specs.declared.Operation.TheVariants as Operation
 use Rattle.model.specs.declared.OperationAnswer.{OperationAnswer}
@@ -20,8 +22,7 @@ use Rattle.model.specs.declared.OperationAnswer.TheVariants as OperationAnswer
 use Rattle.model.specs.declared.Restructuring.{Restructuring}
 use Rattle.model.specs.declared.StepAnswer.{StepAnswer}
 use Rattle.model.specs.declared.StepAnswer.TheVariants as StepAnswer
-use Rattle.model.specs.declared.WithdrawAnswer.TheVariants as WithdrawAnswer
-use Rattle.model.specs.Answers.{answer_number, found_or_absent, performs, setting_found, same_answer}
+use Rattle.model.specs.Answers.{answer_number, found_or_absent, performs, setting_found, same_answer, StepReply}
 use Rattle.model.specs.Runs.{begin_for, step_for, withdraw_for, Reply, to_step, to_withdraw}
 use Rattle.model.specs.Book.{Value, contents_at_eleven}
 use Rattle.model.specs.Entries.{setting_in, ascending}
@@ -75,13 +76,13 @@ plain_ascends s o k a = rw (plain_eleven s o k) (ascends_eleven o k s a)
 
 -- An operation run singly ends done: any other last reply is no answer of a plain map.
 pub other_replies_refused :
-    (s : PlainMap) (x : Wanted) (xs : List Wanted) (rest : List StepAnswer) (n : ℕ)
-    → map (λ a. answers_as_maps s (x ∷ xs) (a ∷ rest)) (StepAnswer.Waiting ∷ StepAnswer.Moved ∷ StepAnswer.Refused n ∷ []) ≡ false ∷ false ∷ false ∷ []
+    (s : PlainMap) (x : Wanted) (xs : List Wanted) (rest : List StepReply) (n : Refusal)
+    → map (λ a. answers_as_maps s (x ∷ xs) (a ∷ rest)) (Ok StepAnswer.Waiting ∷ Ok StepAnswer.Moved ∷ Err n ∷ []) ≡ false ∷ false ∷ false ∷ []
 unfolding answers_as_maps
 other_replies_refused s x xs rest n = refl
 
 -- There are as many answers as operations.
-pub lengths_agree : (s : PlainMap) (x : Wanted) (xs : List Wanted) (a : StepAnswer) (rest : List StepAnswer) → (answers_as_maps s (x ∷ xs) [] ≡ false) × (answers_as_maps s [] (a ∷ rest) ≡ false)
+pub lengths_agree : (s : PlainMap) (x : Wanted) (xs : List Wanted) (a : StepReply) (rest : List StepReply) → (answers_as_maps s (x ∷ xs) [] ≡ false) × (answers_as_maps s [] (a ∷ rest) ≡ false)
 unfolding answers_as_maps
 lengths_agree s x xs a rest = (refl, refl)
 
@@ -98,8 +99,8 @@ read_before_given k t x h = rw h refl
 
 -- A reply is accepted if it is no refusal.
 pub accepted_replies :
-    (a : OperationAnswer) (r : Restructuring) (n : ℕ)
-    → map is_accepted (StepAnswer.Waiting ∷ StepAnswer.Moved ∷ StepAnswer.Done a r ∷ StepAnswer.Refused n ∷ []) ≡ true ∷ true ∷ true ∷ false ∷ []
+    (a : OperationAnswer) (r : Restructuring) (n : Refusal)
+    → map is_accepted (Ok StepAnswer.Waiting ∷ Ok StepAnswer.Moved ∷ Ok (StepAnswer.Done a r) ∷ Err n ∷ []) ≡ true ∷ true ∷ true ∷ false ∷ []
 unfolding is_accepted
 accepted_replies a r n = refl
 
@@ -113,7 +114,7 @@ pub begins_write_none : (q : ℕ) (o : Operation) (k number : ℕ) (r : Reply) �
 unfolding writes_map
 begins_write_none q o k number r = refl
 
-pub steps_write_eleven : (q number : ℕ) (a : StepAnswer) → writes_map (step_for q) number (to_step a) ≡ (performs a && eqb number 11)
+pub steps_write_eleven : (q number : ℕ) (a : StepReply) → writes_map (step_for q) number (to_step a) ≡ (performs a && eqb number 11)
 unfolding writes_map is_writing
 steps_write_eleven q number a = refl
 
@@ -122,6 +123,6 @@ unfolding writes_map
 withdraws_write_none q number r = refl
 
 -- An operation that has performed an 11 is not withdrawn.
-pub withdrawn_wrote_none : (w : ℕ → Bool) (q : ℕ) → w q ≡ true → unwritten w (withdraw_for q) (to_withdraw WithdrawAnswer.Withdrawn) ≡ false
+pub withdrawn_wrote_none : (w : ℕ → Bool) (q : ℕ) → w q ≡ true → unwritten w (withdraw_for q) (to_withdraw (Ok tt)) ≡ false
 unfolding unwritten
 withdrawn_wrote_none w q h = rw h refl

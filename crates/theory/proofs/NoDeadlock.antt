@@ -11,15 +11,17 @@ use Prim.Native.Nat.{ℕ, zero, suc, ◌+◌, ◌≤◌, ◌<◌}
 use native.Mathlib.Omega.{arith}
 use lib.ListN.{get_or, get_or-eq_default}
 use lib.Dec.{eqb}
+use Rattle.std.specs.Prelude.{Ok, Err}
+use Rattle.model.proofs.Laws.Answers.{cause_some}
 use Rattle.model.specs.declared.Root.{Root}
 use Rattle.model.specs.declared.Party.{Party}
 use Rattle.model.specs.declared.Mode.{Mode}
 use Rattle.model.specs.declared.StepAnswer.{StepAnswer}
 use Rattle.model.specs.Sizes.{lock_words}
 use Rattle.model.specs.Records.{idle}
-use Rattle.model.specs.Answers.{refusal_number, performs}
+use Rattle.model.specs.Answers.{refusal_number, performs, StepReply}
 use Rattle.model.specs.LockWords.{Claim, permits}
-use Rattle.model.specs.Outcome.{View, damage}
+use Rattle.model.specs.Outcome.{View}
 use Rattle.model.specs.LockRequests.{is_granted}
 use Rattle.model.specs.Memory.{Memory, party_at, view_of}
 use Rattle.model.specs.Calls.{Called, stepped, step_call}
@@ -128,17 +130,17 @@ pub data Standing (b : Book) (m : Memory) (q : ℕ) : Type 0 where
 
 -- A fair answer that is no refusal performs the step, unless a lock is wanted and not granted.
 module _ (v : View) (h : List Claim) where
-  by_answer : (w : Option Claim) (a : StepAnswer) → refusal_number a ≡ 0 → fairly v w a ≡ true → WantedHigher v.root h w
+  by_answer : (w : Option Claim) (a : StepReply) → refusal_number a ≡ 0 → fairly v w a ≡ true → WantedHigher v.root h w
       → (performs a ≡ true) ⊎ ((c : Claim) × (w ≡ some c) × (is_granted v c ≡ false) × Higher v.root c h)
   unfolding refusal_number fairly unasked asked performs
-  by_answer none StepAnswer.Waiting r f x = absurd (false≢true f)
-  by_answer (some c) StepAnswer.Waiting r f x = inr (c, refl, not-true (is_granted v c) f, x)
-  by_answer none StepAnswer.Moved r f x = inl refl
-  by_answer (some c) StepAnswer.Moved r f x = inl refl
-  by_answer none (StepAnswer.Done a s) r f x = inl refl
-  by_answer (some c) (StepAnswer.Done a s) r f x = inl refl
-  by_answer none (StepAnswer.Refused n) r f x = absurd (omega (arith, r, eqb-true n damage f))
-  by_answer (some c) (StepAnswer.Refused n) r f x = absurd (omega (arith, r, eqb-true n damage f))
+  by_answer none (Ok StepAnswer.Waiting) r f x = absurd (false≢true f)
+  by_answer (some c) (Ok StepAnswer.Waiting) r f x = inr (c, refl, not-true (is_granted v c) f, x)
+  by_answer none (Ok StepAnswer.Moved) r f x = inl refl
+  by_answer (some c) (Ok StepAnswer.Moved) r f x = inl refl
+  by_answer none (Ok (StepAnswer.Done a s)) r f x = inl refl
+  by_answer (some c) (Ok (StepAnswer.Done a s)) r f x = inl refl
+  by_answer none (Err n) r f x = absurd (cause_some n r)
+  by_answer (some c) (Err n) r f x = absurd (cause_some n r)
 
 module _ (kept : StepsKept) (m : Memory) (b : Book) (i : Inv m b) where
   module _ (q : ℕ) (in_row : q < m.root.parties) where
@@ -157,7 +159,7 @@ module _ (kept : StepsKept) (m : Memory) (b : Book) (i : Inv m b) where
         go : step_call m q ≡ stepped m q → under_way b q ≡ true
             → (performs (step_of (party_at m.parties q).step (view_of m q)).answer ≡ true)
             ⊎ ((c : Claim) × (wants m.root (party_at m.parties q) ≡ some c) × (is_granted (view_of m q) c ≡ false) × Higher m.root c (claims m.root (party_at m.parties q))) → Standing b m q
-        go performed entered (inl h) = moves (both-and entered (ap (λ (c : Called StepAnswer). performs c.answer) performed ∙ h))
+        go performed entered (inl h) = moves (both-and entered (ap (λ (c : Called StepReply). performs c.answer) performed ∙ h))
         go performed entered (inr h) = barred (and_fails (permits (get_or m.locks h.0.word 0) h.0.mode) (not (view_of m q).behind) h.2)
           where
             barred : (permits (get_or m.locks h.0.word 0) h.0.mode ≡ false) ⊎ (not (view_of m q).behind ≡ false) → Standing b m q

@@ -1,5 +1,5 @@
 -- "No page" changes nothing: an operation answered no page has performed no step 11 since its begin.
--- Main statements: Past (where an operation that has performed step 11 stands); call-clean (one call), run_clean (a list), no_page_kept_lem (from formatted memory).
+-- Main statements: Past (where an operation that has performed step 11 stands); call_clean (one call), run_clean (a list), no_page_kept_lem (from formatted memory).
 use mathlib.Core.Path.{◌≡◌, refl, sym, ap, ◌∙◌, subst}
 use mathlib.Core.Logic.{◌≢◌, ◌⊎◌, inl, inr}
 use mathlib.Core.Bool.{Bool, true, false, cond, not, ◌&&◌, and-false}
@@ -8,14 +8,14 @@ use Prim.Native.Nat.{ℕ, ◌≤◌, ◌<◌}
 use native.Mathlib.Omega.{arith}
 use lib.ListN.{set}
 use lib.Dec.{eqb}
+use Rattle.std.specs.Prelude.{Ok, Err}
+use Rattle.model.specs.declared.Refusal.{Refusal}
 use Rattle.model.specs.declared.Party.{Party}
 use Rattle.model.specs.declared.Operation.{Operation}
 use Rattle.model.specs.declared.StepAnswer.{StepAnswer}
-use Rattle.model.specs.declared.BeginAnswer.{BeginAnswer}
-use Rattle.model.specs.declared.WithdrawAnswer.{WithdrawAnswer}
 use Rattle.model.specs.Sizes.{within_limits}
 use Rattle.model.specs.Records.{idle, begun}
-use Rattle.model.specs.Answers.{operation_number, answer_number, answer_of, performs, setting_given}
+use Rattle.model.specs.Answers.{operation_number, answer_number, answer_of, performs, setting_given, StepReply, CallReply}
 use Rattle.model.specs.Outcome.{Outcome}
 use Rattle.model.specs.Memory.{Memory, party_at, view_of}
 use Rattle.model.specs.Calls.{Called, called, stepped, step_call, with_begun, begin_call, withdraw_call}
@@ -58,12 +58,12 @@ change_no_page n e = go (or_either (eqb n 1) (eqb n 3) e)
     go (inr h) = rw (eqb-true n 3 h) refl
 
 -- Only done ends with no page.
-idle_ends : (a : StepAnswer) → performs a ≡ false → ends_no_page a ≡ false
+idle_ends : (a : StepReply) → performs a ≡ false → ends_no_page a ≡ false
 unfolding performs ends_no_page
-idle_ends StepAnswer.Waiting h = refl
-idle_ends StepAnswer.Moved h = refl
-idle_ends (StepAnswer.Done a s) h = absurd (not-both true refl h)
-idle_ends (StepAnswer.Refused n) h = refl
+idle_ends (Ok StepAnswer.Waiting) h = refl
+idle_ends (Ok StepAnswer.Moved) h = refl
+idle_ends (Ok (StepAnswer.Done a s)) h = absurd (not-both true refl h)
+idle_ends (Err n) h = refl
 
 -- ---- One call
 
@@ -78,7 +78,7 @@ pub record CallClean (m : Memory) (w : ℕ → Bool) (c : Call) : Type 0 where
 module _ (m : Memory) (b : Book) (i : Inv m b) (w : ℕ → Bool) (ok : WroteOk m w) where
   -- ---- Begin
 
-  abbrev BeginClean : ℕ → Called BeginAnswer → Type 0
+  abbrev BeginClean : ℕ → Called CallReply → Type 0
   BeginClean q c = WroteOk c.memory (wrote_begin w q c.answer)
 
   begin_clean : (q : ℕ) (o : Operation) (k : ℕ) → BeginClean q (begin_call m q o k)
@@ -102,11 +102,11 @@ module _ (m : Memory) (b : Book) (i : Inv m b) (w : ℕ → Bool) (ok : WroteOk 
 
   -- ---- Step
 
-  abbrev StepClean : ℕ → Called StepAnswer → Type 0
+  abbrev StepClean : ℕ → Called StepReply → Type 0
   StepClean q c = (not (ends_no_page c.answer && wrote_step w q (party_at m.parties q).step c.answer q) ≡ true)
       × WroteOk c.memory (wrote_step w q (party_at m.parties q).step c.answer)
 
-  refused_clean : (q n : ℕ) → StepClean q (called (StepAnswer.Refused n) m)
+  refused_clean : (q : ℕ) (n : Refusal) → StepClean q (called (Err n) m)
   unfolding ends_no_page wrote_step is_writing performs
   refused_clean q n = (refl, ok)
 
@@ -153,7 +153,7 @@ module _ (m : Memory) (b : Book) (i : Inv m b) (w : ℕ → Bool) (ok : WroteOk 
         go (over s) = absurd (busy (ap (λ (y : Party). y.operation) s))
         go (late l c) = (l, c)
 
-    wrote_change : (a : StepAnswer) → wrote_step w q number a q ≡ true → (11 ≤ number) × (is_change p.answer ≡ true)
+    wrote_change : (a : StepReply) → wrote_step w q number a q ≡ true → (11 ≤ number) × (is_change p.answer ≡ true)
     unfolding wrote_step is_writing
     wrote_change a h = go (tell (performs a && eqb number 11))
       where
@@ -162,7 +162,7 @@ module _ (m : Memory) (b : Book) (i : Inv m b) (w : ℕ → Bool) (ok : WroteOk 
         go (fails t) = let y = wrote_before (rw t at h) in (omega (arith, y.0), y.1)
 
     -- The other parties.
-    elsewhere : (a : StepAnswer) (j : ℕ) → j ≢ q → wrote_step w q number a j ≡ true → w j ≡ true
+    elsewhere : (a : StepReply) (j : ℕ) → j ≢ q → wrote_step w q number a j ≡ true → w j ≡ true
     unfolding wrote_step is_writing changed_at
     elsewhere a j d h = go (tell (performs a && eqb number 11))
       where
@@ -189,7 +189,7 @@ module _ (m : Memory) (b : Book) (i : Inv m b) (w : ℕ → Bool) (ok : WroteOk 
 
     wrote_clean : is_change p.answer ≡ true → Later (view_of m q) o → StepClean q (step_call m q)
     unfolding stepped ends_no_page
-    wrote_clean c (stays h) = idle_clean q (ap (λ (y : Called StepAnswer). performs y.answer) call ∙ h)
+    wrote_clean c (stays h) = idle_clean q (ap (λ (y : Called StepReply). performs y.answer) call ∙ h)
     wrote_clean c (goes a l s) = subst (StepClean q) (sym call) (performed_clean (rw a refl) (λ _. late l (ap is_change s ∙ c)))
     wrote_clean c (ends s a r) = subst (StepClean q) (sym call) (performed_clean (rw (a, change_no_page p.answer c) refl) (λ _. over r))
 
@@ -204,8 +204,8 @@ module _ (m : Memory) (b : Book) (i : Inv m b) (w : ℕ → Bool) (ok : WroteOk 
   step_clean q = go (meets m b i q)
     where
       go : Met m b i q → StepClean q (step_call m q)
-      go (no_party _ _ _ e) = subst (StepClean q) (sym e) (refused_clean q 3)
-      go (nothing-begun _ _ _ _ e) = subst (StepClean q) (sym e) (refused_clean q 5)
+      go (no_party _ _ _ e) = subst (StepClean q) (sym e) (refused_clean q Refusal.Party)
+      go (nothing-begun _ _ _ _ e) = subst (StepClean q) (sym e) (refused_clean q Refusal.Idle)
       go (under_way_lem h e k x c) = under_way_clean q h e k x c
 
   -- ---- Withdraw
@@ -219,7 +219,7 @@ module _ (m : Memory) (b : Book) (i : Inv m b) (w : ℕ → Bool) (ok : WroteOk 
       each x j h (diff d) = subst Past (sym (x.others j d)) (ok j h)
 
       go : WithdrawTested m q → WroteOk (withdraw_call m q).memory w
-      go (turned_away n e) = subst (λ (c : Called WithdrawAnswer). WroteOk c.memory w) (sym e) ok
+      go (turned_away n e) = subst (λ (c : Called CallReply). WroteOk c.memory w) (sym e) ok
       go (let_through xs z d _ _ e) = λ j h. each (withdraws m q xs z d e) j h (cmp j q)
 
   pub call_clean : (c : Call) → CallClean m w c

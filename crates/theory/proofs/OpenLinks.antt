@@ -6,9 +6,10 @@ use mathlib.Core.Bool.{Bool, true, false, ◌&&◌, ◌||◌}
 use mathlib.Core.List.{List, []}
 use Prim.Native.Nat.{ℕ}
 use lib.Dec.{eqb}
+use Rattle.std.specs.Prelude.{Ok}
 use Rattle.model.specs.declared.Party.{Party}
 use Rattle.model.specs.declared.StepAnswer.{StepAnswer}
-use Rattle.model.specs.Answers.{is_moved}
+use Rattle.model.specs.Answers.{is_moved, StepReply}
 use Rattle.model.specs.Outcome.{View}
 use Rattle.theory.specs.Links.{Trace, trace_of, trace_nine}
 use Rattle.model.proofs.Laws.Lists.{cond_ind, not-both, and_both, or_either, left_or, right_or, eqb-true}
@@ -28,12 +29,12 @@ pub data OldLink (v : View) (p : Party) (t : Trace) : Type 0 where
 
 -- Step number n answers a and leaves the record p: what the record then says of links, at whatever time the step is
 -- made.
-pub record Marks (n : ℕ) (v : View) (a : StepAnswer) (p : Party) : Type 0 where
+pub record Marks (n : ℕ) (v : View) (a : StepReply) (p : Party) : Type 0 where
   pub scratch_link_ok : (t s o : ℕ) → scratch_open p.step ≡ true → ReadNow (trace_of t n v a p.step s o).into_scratch (trace_of t n v a p.step s o).gives
   pub old_link : (t s o : ℕ) → OldLink v p (trace_of t n v a p.step s o)
 
 -- A record with no link to follow.
-pub unmarked : (n : ℕ) (v : View) (a : StepAnswer) (p : Party) → scratch_open p.step ≡ false → old_open p ≡ false → Marks n v a p
+pub unmarked : (n : ℕ) (v : View) (a : StepReply) (p : Party) → scratch_open p.step ≡ false → old_open p ≡ false → Marks n v a p
 unmarked n v a p shut h = record { scratch_link_ok = λ t s o e. absurd (not-both (scratch_open p.step) e shut); old_link = λ t s o. closed h }
 
 -- ---- A step that moves on
@@ -44,7 +45,7 @@ GivesNone x = x.gives ≡ []
 
 module _ (t k : ℕ) (v : View) (n s o : ℕ) where
   abbrev trace_then : ℕ → ℕ → Trace
-  trace_then j i = trace_of t j v StepAnswer.Moved i s o
+  trace_then j i = trace_of t j v (Ok StepAnswer.Moved) i s o
 
   into_scratch_ok : reads_scratch k n ≡ true → ReadNow (trace_then k n).into_scratch (trace_then k n).gives
   unfolding trace_of trace_nine is_moved
@@ -87,7 +88,7 @@ module _ (t k : ℕ) (v : View) (n s o : ℕ) where
   old_marks p e (same_old i h g) = kept_old i h (no_gives g)
 
 -- The record that such a step leaves has the links that the step has.
-pub moves_mark : (k : ℕ) (v : View) (p : Party) → LinksThen k v p → Marks k v StepAnswer.Moved p
+pub moves_mark : (k : ℕ) (v : View) (p : Party) → LinksThen k v p → Marks k v (Ok StepAnswer.Moved) p
 moves_mark k v p l = record {
   scratch_link_ok = λ t s o h. into_scratch_ok t k v p.step s o (l.scratch_then h);
   old_link = λ t s o. old_marks t k v p.step s o p refl l.old_then;

@@ -1,7 +1,7 @@
 -- Nobody is overtaken at a lock: who waits stays in front of all who come later.
 -- Main statements: InFront (an entry of the ledger, and who may stand before it), kept by every call that does not end
--- its wait; waits-run (who waits by the events is in the ledger); nobody-overtaken, same-want, passed-once,
--- row-is-ledger, waits-again, rests-clear.
+-- its wait; waits_run (who waits by the events is in the ledger); nobody_overtaken, same_want, passed_once,
+-- row-is_ledger, waits-again, rests_clear.
 use mathlib.Core.Path.{◌≡◌, refl, sym, ap, ◌∙◌, subst}
 use mathlib.Core.Logic.{◌≢◌, ◌⊎◌, inl, inr}
 use mathlib.Core.Bool.{Bool, true, false, cond, not, ◌&&◌, ◌||◌, false≢true}
@@ -11,13 +11,13 @@ use Prim.Native.Nat.{ℕ, zero, suc, ◌+◌, ◌-◌, ◌≤◌, ◌<◌}
 use native.Mathlib.Omega.{arith}
 use lib.ListN.{length, get_or, get_or-eq_default, replicate, length-append, length-replicate}
 use lib.Dec.{eqb}
+use Rattle.std.specs.Prelude.{Ok, Err}
+use Rattle.model.proofs.Laws.Answers.{cause_some}
 use Rattle.model.specs.declared.Root.{Root}
 use Rattle.model.specs.declared.Party.{Party}
 use Rattle.model.specs.declared.StepAnswer.{StepAnswer}
-use Rattle.model.specs.declared.BeginAnswer.{BeginAnswer}
-use Rattle.model.specs.declared.WithdrawAnswer.{WithdrawAnswer}
 use Rattle.model.specs.Records.{idle}
-use Rattle.model.specs.Answers.{is_moved, performs, refusal_number}
+use Rattle.model.specs.Answers.{is_moved, performs, refusal_number, StepReply, CallReply}
 use Rattle.model.specs.LockWords.{Claim, table_one, permits}
 use Rattle.model.specs.LockRequests.{is_granted}
 use Rattle.model.specs.FreeList.{is_among}
@@ -184,16 +184,16 @@ module _ (z : Root) (m : Memory) (ws : List Hold) (a : Along z m ws) where
 
   -- ---- Who waits by the events is in the ledger
 
-  step_ledger : (p q : ℕ) (x : StepAnswer) → (step_call m q).answer ≡ x
+  step_ledger : (p q : ℕ) (x : StepReply) → (step_call m q).answer ≡ x
       → cond (eqb q p) (cond (ends_wait (to_step x)) false (waits_in ws p || answers_waiting (to_step x))) (waits_in ws p) ≡ waits_in (waits_after_step ws q (wanted_by z m q) x) p
   unfolding ends_wait answers_waiting performs waits_after_step
   step_ledger p q x e = go (cmp q p) x e
     where
-      other : (x : StepAnswer) → p ≢ q → waits_in (waits_after_step ws q (wanted_by z m q) x) p ≡ waits_in ws p
-      other StepAnswer.Waiting n = join_other ws p q (wanted_by z m q) n
-      other StepAnswer.Moved n = leave_other ws p q n
-      other (StepAnswer.Done y s) n = leave_other ws p q n
-      other (StepAnswer.Refused k) n = refl
+      other : (x : StepReply) → p ≢ q → waits_in (waits_after_step ws q (wanted_by z m q) x) p ≡ waits_in ws p
+      other (Ok StepAnswer.Waiting) n = join_other ws p q (wanted_by z m q) n
+      other (Ok StepAnswer.Moved) n = leave_other ws p q n
+      other (Ok (StepAnswer.Done y s)) n = leave_other ws p q n
+      other (Err k) n = refl
 
       gone : q ≡ p → waits_in (leaves ws q) p ≡ false
       gone s = subst (λ (j : ℕ). waits_in (leaves ws q) j ≡ false) s (leave_own ws q row_parts.once)
@@ -206,23 +206,23 @@ module _ (z : Root) (m : Memory) (ws : List Hold) (a : Along z m ws) where
       or_same true = refl
       or_same false = refl
 
-      own : (x : StepAnswer) → (step_call m q).answer ≡ x → q ≡ p
+      own : (x : StepReply) → (step_call m q).answer ≡ x → q ≡ p
           → cond (ends_wait (to_step x)) false (waits_in ws p || answers_waiting (to_step x)) ≡ waits_in (waits_after_step ws q (wanted_by z m q) x) p
-      own StepAnswer.Waiting e s =
+      own (Ok StepAnswer.Waiting) e s =
           let lock = waits_for_lock m q e in
           or-true (waits_in ws p)
           ∙ sym (subst (λ (j : ℕ). waits_in (joins ws q (wanted_by z m q)) j ≡ true) s
           (subst (λ (o : Option Claim). waits_in (joins ws q o) q ≡ true) (sym (want= q ∙ lock.wanted)) (join_own ws q lock.lock)))
-      own StepAnswer.Moved e s = sym (gone s)
-      own (StepAnswer.Done y t) e s = sym (gone s)
-      own (StepAnswer.Refused k) e s = or_same (waits_in ws p)
+      own (Ok StepAnswer.Moved) e s = sym (gone s)
+      own (Ok (StepAnswer.Done y t)) e s = sym (gone s)
+      own (Err k) e s = or_same (waits_in ws p)
 
-      go : Cmp q p → (x : StepAnswer) → (step_call m q).answer ≡ x
+      go : Cmp q p → (x : StepReply) → (step_call m q).answer ≡ x
           → cond (eqb q p) (cond (ends_wait (to_step x)) false (waits_in ws p || answers_waiting (to_step x))) (waits_in ws p) ≡ waits_in (waits_after_step ws q (wanted_by z m q) x) p
       go (same s) x e = cond-true (eqb q p) _ _ (eqb_same q p s) ∙ own x e s
       go (diff n) x e = cond-false (eqb q p) _ _ (eqb-diff q p n) ∙ sym (other x (λ s. n (sym s)))
 
-  withdraw_ledger : (p q : ℕ) (x : WithdrawAnswer)
+  withdraw_ledger : (p q : ℕ) (x : CallReply)
       → cond (eqb q p) (cond (ends_wait (to_withdraw x)) false (waits_in ws p || answers_waiting (to_withdraw x))) (waits_in ws p) ≡ waits_in (waits_after_withdraw ws q x) p
   unfolding ends_wait answers_waiting waits_after_withdraw
   withdraw_ledger p q x = go (cmp q p) x
@@ -231,14 +231,14 @@ module _ (z : Root) (m : Memory) (ws : List Hold) (a : Along z m ws) where
       or_same true = refl
       or_same false = refl
 
-      go : Cmp q p → (x : WithdrawAnswer)
+      go : Cmp q p → (x : CallReply)
           → cond (eqb q p) (cond (ends_wait (to_withdraw x)) false (waits_in ws p || answers_waiting (to_withdraw x))) (waits_in ws p) ≡ waits_in (waits_after_withdraw ws q x) p
-      go (same s) WithdrawAnswer.Withdrawn = cond-true (eqb q p) _ _ (eqb_same q p s) ∙ sym (subst (λ (j : ℕ). waits_in (leaves ws q) j ≡ false) s (leave_own ws q row_parts.once))
-      go (same s) (WithdrawAnswer.Refused n) = cond-true (eqb q p) _ _ (eqb_same q p s) ∙ or_same (waits_in ws p)
-      go (diff d) WithdrawAnswer.Withdrawn = cond-false (eqb q p) _ _ (eqb-diff q p d) ∙ sym (leave_other ws p q (λ s. d (sym s)))
-      go (diff d) (WithdrawAnswer.Refused n) = cond-false (eqb q p) _ _ (eqb-diff q p d)
+      go (same s) (Ok _) = cond-true (eqb q p) _ _ (eqb_same q p s) ∙ sym (subst (λ (j : ℕ). waits_in (leaves ws q) j ≡ false) s (leave_own ws q row_parts.once))
+      go (same s) (Err n) = cond-true (eqb q p) _ _ (eqb_same q p s) ∙ or_same (waits_in ws p)
+      go (diff d) (Ok _) = cond-false (eqb q p) _ _ (eqb-diff q p d) ∙ sym (leave_other ws p q (λ s. d (sym s)))
+      go (diff d) (Err n) = cond-false (eqb q p) _ _ (eqb-diff q p d)
 
-  begin_ledger : (p q : ℕ) (x : BeginAnswer) → cond (eqb q p) (cond (ends_wait (to_begin x)) false (waits_in ws p || answers_waiting (to_begin x))) (waits_in ws p) ≡ waits_in ws p
+  begin_ledger : (p q : ℕ) (x : CallReply) → cond (eqb q p) (cond (ends_wait (to_begin x)) false (waits_in ws p || answers_waiting (to_begin x))) (waits_in ws p) ≡ waits_in ws p
   unfolding ends_wait answers_waiting
   begin_ledger p q x = go (eqb q p) (waits_in ws p)
     where
@@ -263,19 +263,19 @@ module _ (z : Root) (m : Memory) (ws : List Hold) (a : Along z m ws) where
       apart : (eqb q p && true) ≡ false → p ≢ q
       apart t s = not-both (eqb q p && true) (both-and (eqb_same q p (sym s)) refl) t
 
-      go : (y : StepAnswer) → (eqb q p && performs y) ≡ false → InFront may p c (waits_after_step ws q (wanted_by z m q) y)
-      go StepAnswer.Waiting t = front_join may p c ws q (wanted_by z m q) h
-      go StepAnswer.Moved t = front_leave may p c ws q (apart t) h
-      go (StepAnswer.Done y s) t = front_leave may p c ws q (apart t) h
-      go (StepAnswer.Refused n) t = h
+      go : (y : StepReply) → (eqb q p && performs y) ≡ false → InFront may p c (waits_after_step ws q (wanted_by z m q) y)
+      go (Ok StepAnswer.Waiting) t = front_join may p c ws q (wanted_by z m q) h
+      go (Ok StepAnswer.Moved) t = front_leave may p c ws q (apart t) h
+      go (Ok (StepAnswer.Done y s)) t = front_leave may p c ws q (apart t) h
+      go (Err n) t = h
   front_call may p c h (withdraw_for q) e = go (withdraw_call m q).answer e
     where
       apart : (eqb q p && true) ≡ false → p ≢ q
       apart t s = not-both (eqb q p && true) (both-and (eqb_same q p (sym s)) refl) t
 
-      go : (y : WithdrawAnswer) → (eqb q p && ends_wait (to_withdraw y)) ≡ false → InFront may p c (waits_after_withdraw ws q y)
-      go WithdrawAnswer.Withdrawn t = front_leave may p c ws q (apart t) h
-      go (WithdrawAnswer.Refused n) t = h
+      go : (y : CallReply) → (eqb q p && ends_wait (to_withdraw y)) ≡ false → InFront may p c (waits_after_withdraw ws q y)
+      go (Ok _) t = front_leave may p c ws q (apart t) h
+      go (Err n) t = h
 
   -- ---- One who stands behind it waits
 
@@ -287,7 +287,7 @@ module _ (z : Root) (m : Memory) (ws : List Hold) (a : Along z m ws) where
   wants_under_way q d e (nothing-begun _ s _ _ _) = absurd (false≢true (ap is_some (sym (ap (wants m.root) s) ∙ sym (want= q) ∙ e)))
   wants_under_way q d e (under_way_lem _ _ k _ _) = k.step_fits
 
-  behind_waits : (q : ℕ) (d : Claim) → wanted_by z m q ≡ some d → waits_before ws q d ≡ true → (step_call m q).answer ≡ StepAnswer.Waiting
+  behind_waits : (q : ℕ) (d : Claim) → wanted_by z m q ≡ some d → waits_before ws q d ≡ true → (step_call m q).answer ≡ Ok StepAnswer.Waiting
   unfolding stepped is_granted fairly asked refusal_number has_step
   behind_waits q d e h = go (meets m a.book a.inv q)
     where
@@ -303,18 +303,18 @@ module _ (z : Root) (m : Memory) (ws : List Hold) (a : Along z m ws) where
       barred : is_granted (view_of m q) d ≡ false
       barred = right_fails (permits (get_or m.locks d.word 0) d.mode) (ap not stands)
 
-      by : (x : StepAnswer) → refusal_number x ≡ 0 → asked false x ≡ true → x ≡ StepAnswer.Waiting
-      by StepAnswer.Waiting r f = refl
-      by StepAnswer.Moved r f = absurd (false≢true f)
-      by (StepAnswer.Done y s) r f = absurd (false≢true f)
-      by (StepAnswer.Refused n) r f = absurd (omega (arith, r, eqb-true n 6 f))
+      by : (x : StepReply) → refusal_number x ≡ 0 → asked false x ≡ true → x ≡ Ok StepAnswer.Waiting
+      by (Ok StepAnswer.Waiting) r f = refl
+      by (Ok StepAnswer.Moved) r f = absurd (false≢true f)
+      by (Ok (StepAnswer.Done y s)) r f = absurd (false≢true f)
+      by (Err n) r f = absurd (cause_some n r)
 
-      go : Met m a.book a.inv q → (step_call m q).answer ≡ StepAnswer.Waiting
+      go : Met m a.book a.inv q → (step_call m q).answer ≡ Ok StepAnswer.Waiting
       go (no_party l _ _ _) =
           absurd (false≢true (ap (λ (u : Party). has_step u.operation u.step) (sym (get_or-eq_default m.parties idle (omega (arith, l, a.inv.parties_many)))) ∙ has))
       go (nothing-begun l s _ _ c) = absurd (false≢true (ap (λ (u : Party). has_step u.operation u.step) (sym s) ∙ has))
       go (under_way_lem l x k f c) =
-          ap (λ (y : Called StepAnswer). y.answer) c
+          ap (λ (y : Called StepReply). y.answer) c
           ∙ by (step_of (party_at m.parties q).step (view_of m q)).answer (steps_kept m a.book a.inv q l has).allowed
           (subst (λ (t : Bool). asked t (step_of (party_at m.parties q).step (view_of m q)).answer ≡ true) barred
           (subst (λ (o : Option Claim). fairly (view_of m q) o (step_of (party_at m.parties q).step (view_of m q)).answer ≡ true) wanted (step_fair (view_of m q)).fair))
@@ -354,7 +354,7 @@ module _ (z : Root) where
   no_pass p q c m ws a n h (withdraw_for j) = refl
   no_pass p q c m ws a n h (step_for j) = go (cmp j q)
     where
-      waiting_moved : (x : StepAnswer) → x ≡ StepAnswer.Waiting → is_moved x ≡ false
+      waiting_moved : (x : StepReply) → x ≡ Ok StepAnswer.Waiting → is_moved x ≡ false
       waiting_moved x e = ap is_moved e
 
       by : (o : Option Claim) → wanted_by z m q ≡ o → (is_moved (step_call m q).answer && clashes c o) ≡ false
@@ -397,11 +397,11 @@ module _ (z : Root) where
   pass_leaves q c m ws a (withdraw_for j) h e = absurd (false≢true h)
   pass_leaves q c m ws a (step_for j) h e = go (step_call m j).answer (and_both (is_moved (step_call m j).answer) (clashes c (wanted_by z m j)) h).0
     where
-      go : (y : StepAnswer) → is_moved y ≡ true → waits_in (waits_after_step ws j (wanted_by z m j) y) q ≡ false
-      go StepAnswer.Waiting t = absurd (false≢true t)
-      go StepAnswer.Moved t = subst (λ (i : ℕ). waits_in (leaves ws j) i ≡ false) e (leave_own ws j (row_parts z m ws a).once)
-      go (StepAnswer.Done y u) t = absurd (false≢true t)
-      go (StepAnswer.Refused n) t = absurd (false≢true t)
+      go : (y : StepReply) → is_moved y ≡ true → waits_in (waits_after_step ws j (wanted_by z m j) y) q ≡ false
+      go (Ok StepAnswer.Waiting) t = absurd (false≢true t)
+      go (Ok StepAnswer.Moved) t = subst (λ (i : ℕ). waits_in (leaves ws j) i ≡ false) e (leave_own ws j (row_parts z m ws a).once)
+      go (Ok (StepAnswer.Done y u)) t = absurd (false≢true t)
+      go (Err n) t = absurd (false≢true t)
 
   abbrev Any : ℕ → Type 0
   Any j = Unit {0}
@@ -442,11 +442,11 @@ module _ (z : Root) where
   pass_ends p c m (withdraw_for j) e = refl
   pass_ends p c m (step_for j) e = go (eqb j p) (step_call m j).answer e
     where
-      go : (t : Bool) (y : StepAnswer) → (t && performs y) ≡ false → (is_moved y && clashes c (wanted_by z m j) && t) ≡ false
-      go true StepAnswer.Waiting h = refl
-      go true StepAnswer.Moved h = absurd (false≢true (sym h))
-      go true (StepAnswer.Done y u) h = absurd (false≢true (sym h))
-      go true (StepAnswer.Refused n) h = refl
+      go : (t : Bool) (y : StepReply) → (t && performs y) ≡ false → (is_moved y && clashes c (wanted_by z m j) && t) ≡ false
+      go true (Ok StepAnswer.Waiting) h = refl
+      go true (Ok StepAnswer.Moved) h = absurd (false≢true (sym h))
+      go true (Ok (StepAnswer.Done y u)) h = absurd (false≢true (sym h))
+      go true (Err n) h = refl
       go false y h = right_fails (is_moved y && clashes c (wanted_by z m j)) refl
 
   passes_self : (p : ℕ) (c : Claim) (m : Memory) (ds : List Call) → wait_stays p (events m ds) ≡ true → passes_by z c p m ds ≡ 0
@@ -529,8 +529,8 @@ module _ (z : Root) (c : Claim) where
   pass_there m ws a (step_for j) h = go (meets m a.book a.inv j) (and_both (is_moved (step_call m j).answer) (clashes c (wanted_by z m j)) h).0
     where
       go : Met m a.book a.inv j → is_moved (step_call m j).answer ≡ true → j < z.parties
-      go (no_party _ _ _ e) t = absurd (false≢true (sym (ap (λ (y : Called StepAnswer). is_moved y.answer) e) ∙ t))
-      go (nothing-begun _ _ _ _ e) t = absurd (false≢true (sym (ap (λ (y : Called StepAnswer). is_moved y.answer) e) ∙ t))
+      go (no_party _ _ _ e) t = absurd (false≢true (sym (ap (λ (y : Called StepReply). is_moved y.answer) e) ∙ t))
+      go (nothing-begun _ _ _ _ e) t = absurd (false≢true (sym (ap (λ (y : Called StepReply). is_moved y.answer) e) ∙ t))
       go (under_way_lem l _ _ _ _) t = omega (arith, l, a.limits.parties=)
 
   passes_sum : (m : Memory) (ws : List Hold) → Along z m ws → (ds : List Call) → passes_all z c m ds ≡ sum_below z.parties (λ q. passes_by z c q m ds)
@@ -617,7 +617,7 @@ module _ (s : Start) (cs : List Call) where
   -- NOBODY IS OVERTAKEN.
   pub nobody_overtaken : (ds : List Call) (p q : ℕ) (c d : Claim) → NobodyOvertaken s cs ds p q c d
   nobody_overtaken ds p q c d = record {
-    waits_too = λ w idle_q stays. subst (λ (u : Memory). wanted_by z u q ≡ some d → d.word ≡ c.word → table_one d.mode c.mode ≡ false → (step_call u q).answer ≡ StepAnswer.Waiting)
+    waits_too = λ w idle_q stays. subst (λ (u : Memory). wanted_by z u q ≡ some d → d.word ≡ c.word → table_one d.mode c.mode ≡ false → (step_call u q).answer ≡ Ok StepAnswer.Waiting)
         (sym (final_append (start s) cs ds)) (λ e k t. behind_waits z _ _ (along_run z m ws along ds) q d e (before_true p q c d _ (apart w idle_q) k t (kept w idle_q stays)));
   }
     where

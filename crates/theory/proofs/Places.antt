@@ -1,7 +1,7 @@
 -- No overflow page is ever lost: each is in exactly one of the places that the memory alone tells, and no other page
 -- is in any.
--- Main statements: free-listed, chain-listed, hand-counts (each place is the list of an owner, or of a party's four);
--- pages-placed (under the invariant), reached_placed (after every list of calls from formatted memory).
+-- Main statements: free_listed, chain_listed, hand_counts (each place is the list of an owner, or of a party's four);
+-- pages_placed (under the invariant), reached_placed (after every list of calls from formatted memory).
 use mathlib.Core.Path.{◌≡◌, refl, sym, ap, ◌∙◌, subst}
 use mathlib.Core.Logic.{◌≢◌}
 use mathlib.Core.Bool.{Bool, true, false, cond, ◌||◌}

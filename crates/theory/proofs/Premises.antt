@@ -1,7 +1,7 @@
 -- What stands left of an arrow in the demands is met.
--- Main statements: begin-met (at rest, every party's begin is accepted); withdraw-met (and its withdraw then), so
--- restored-met (all is then what it was before begin); rest_met (nobody is under way before the first call; nor after
--- an operation run alone, by RunSingly); begin-leaves, withdraw-leaves, step-leaves (the map); waits_met, stays_met, so
+-- Main statements: begin_met (at rest, every party's begin is accepted); withdraw_met (and its withdraw then), so
+-- restored_met (all is then what it was before begin); rest_met (nobody is under way before the first call; nor after
+-- an operation run alone, by RunSingly); begin_leaves, withdraw_leaves, step-leaves (the map); waits_met, stays_met, so
 -- overtaken_met, want_met, passed_met, ledger_met, again_met (a party that waits). Formatted memory is a start
 -- (formatted-start of TakenUp); that a list of operations is for parties that there are, and that memories differ on
 -- shut pages, is in Refutations.
@@ -12,15 +12,14 @@ use mathlib.Core.List.{List, [], ◌∷◌, ◌++◌}
 use mathlib.Core.Option.{some}
 use Prim.Native.Nat.{ℕ, ◌+◌, ◌≤◌, ◌<◌}
 use native.Mathlib.Omega.{arith}
+use Rattle.std.specs.Prelude.{Ok, Err}
+use Rattle.model.specs.declared.Refusal.{Refusal}
 use Rattle.model.specs.declared.Operation.{Operation}
-use Rattle.model.specs.declared.BeginAnswer.{BeginAnswer}
-use Rattle.model.specs.declared.WithdrawAnswer.{WithdrawAnswer}
 use Rattle.model.specs.declared.StepAnswer.TheVariants as StepAnswer
 use Rattle.model.specs.Sizes.{within_limits}
 use Rattle.model.specs.Records.{begun}
-use Rattle.model.specs.Answers.{operation_number, setting_given, performs}
+use Rattle.model.specs.Answers.{operation_number, setting_given, performs, CallReply}
 use Rattle.model.specs.Memory.{Memory, party_at}
-use Rattle.model.specs.Refusals.{decided_refusal}
 use Rattle.model.specs.Withdraw.{is_decided}
 use Rattle.model.specs.WaitingRow.{all_zero}
 use Rattle.model.specs.Holds.{wanted_by}
@@ -76,12 +75,12 @@ module _ (s : Start) (cs : List Call) (rest : AtRest (book_reached s cs)) (x : W
   in_row : x.party < (Reached s cs).root.parties
   in_row = omega (arith, (reached_limits s cs).parties=)
 
-  pub begin_met : begin_call (Reached s cs) x.party x.operation x.key ≡ called BeginAnswer.Begun (with_begun (Reached s cs) x.party x.operation x.key)
+  pub begin_met : begin_call (Reached s cs) x.party x.operation x.key ≡ called (Ok tt) (with_begun (Reached s cs) x.party x.operation x.key)
   begin_met = begins m (book_reached s cs) (reached_inv s cs) rest x.party in_row x.operation x.key
 
   begun_memory : at_withdraw s cs x 0 ≡ with_begun (Reached s cs) x.party x.operation x.key
   unfolding steps_of final_memory after_call
-  begun_memory = final_append (start s) cs (calls_begun x 0) ∙ ap (λ (c : Called BeginAnswer). c.memory) begin_met
+  begun_memory = final_append (start s) cs (calls_begun x 0) ∙ ap (λ (c : Called CallReply). c.memory) begin_met
 
   -- It is then under way, and may be withdrawn.
   under_way_then : under_way (book_reached s (cs ++ calls_begun x 0)) x.party ≡ true
@@ -89,7 +88,7 @@ module _ (s : Start) (cs : List Call) (rest : AtRest (book_reached s cs)) (x : W
   under_way_then =
       ap (λ (es : List Event). under_way (book_at_end (book_start s) es) x.party) (events_append (start s) cs (calls_begun x 0))
       ∙ ap (λ (b : Book). under_way b x.party) (book_append (book_start s) (events (start s) cs) (events m (calls_begun x 0)))
-      ∙ ap (λ (c : Called BeginAnswer). under_way (after_begin (book_reached s cs) x.party x.operation x.key c.answer) x.party) begin_met
+      ∙ ap (λ (c : Called CallReply). under_way (after_begin (book_reached s cs) x.party x.operation x.key c.answer) x.party) begin_met
       ∙ rw (eqb_same x.party x.party refl) refl
 
   undecided : is_decided (record_there s cs x 0) ≡ false
@@ -99,11 +98,11 @@ module _ (s : Start) (cs : List Call) (rest : AtRest (book_reached s cs)) (x : W
       ∙ ap is_decided (row_same m.parties x.party (begun (operation_number x.operation) x.key (setting_given x.operation)) (omega (arith, (reached_inv s cs).parties_many, in_row)))
       ∙ begun_undecided x.operation x.key (setting_given x.operation)
 
-  pub withdraw_met : (withdraw_call (at_withdraw s cs x 0) x.party).answer ≡ WithdrawAnswer.Withdrawn
-  withdraw_met = (restored s cs x 0).accepted under_way_then ∙ ap (λ b. cond b (WithdrawAnswer.Refused decided_refusal) WithdrawAnswer.Withdrawn) undecided
+  pub withdraw_met : (withdraw_call (at_withdraw s cs x 0) x.party).answer ≡ Ok tt
+  withdraw_met = (restored s cs x 0).accepted under_way_then ∙ ap (λ b. cond b (Err Refusal.Decided) (Ok tt)) undecided
 
   pub restored_met : Reached s (cs ++ calls_withdrawn x 0) ≡ Reached s cs
-  restored_met = (restored s cs x 0).restored (ap (λ (c : Called BeginAnswer). c.answer) begin_met) withdraw_met
+  restored_met = (restored s cs x 0).restored (ap (λ (c : Called CallReply). c.answer) begin_met) withdraw_met
 
 -- ---- Calls that leave the map
 
@@ -144,7 +143,7 @@ stays_met : wait_stays 1 (events (Reached three up_to) release) ≡ true
 unfolding opened formatted-start
 stays_met = refl
 
-overtaken_met : NobodyOvertaken three up_to release 1 2 chain chain → (step_call (Reached three (up_to ++ release)) 2).answer ≡ StepAnswer.Waiting
+overtaken_met : NobodyOvertaken three up_to release 1 2 chain chain → (step_call (Reached three (up_to ++ release)) 2).answer ≡ Ok StepAnswer.Waiting
 unfolding opened formatted-start
 overtaken_met n = n.waits_too waits_met refl stays_met refl refl refl
 

@@ -2,7 +2,7 @@
 -- accepted withdraw leaves each lent word what it was before begin; it is accepted until the decisive step is taken.
 -- One induction over the steps: what a withdraw leaves after a step is what it leaves before it, as long as the
 -- decisive step is not taken (crate model, proofs/Withdrawing).
--- Main statements: Revocable (where a party stands after its begin), step-revocable, steps_revocable; restored.
+-- Main statements: Revocable (where a party stands after its begin), step_revocable, steps_revocable; restored.
 use mathlib.Core.Path.{◌≡◌, refl, sym, ap, ◌∙◌, subst}
 use mathlib.Core.Logic.{◌≢◌, ◌⊎◌, inl, inr}
 use mathlib.Core.Bool.{Bool, true, false, cond, ◌||◌, and-false, false≢true}
@@ -11,16 +11,16 @@ use Prim.Native.Nat.{ℕ, zero, suc, ◌≤◌, ◌<◌}
 use native.Mathlib.Omega.{arith}
 use lib.ListN.{get_or-eq_default}
 use lib.Dec.{eqb}
+use Rattle.std.specs.Prelude.{Ok, Err}
+use Rattle.model.proofs.Laws.Answers.{not_refused}
+use Rattle.model.specs.declared.Refusal.{Refusal}
 use Rattle.model.specs.WaitingRow.{row_without}
 use Rattle.model.specs.declared.Party.{Party}
 use Rattle.model.specs.declared.Operation.{Operation}
-use Rattle.model.specs.declared.StepAnswer.{StepAnswer}
-use Rattle.model.specs.declared.BeginAnswer.{BeginAnswer}
-use Rattle.model.specs.declared.WithdrawAnswer.{WithdrawAnswer}
 use Rattle.model.specs.Records.{idle}
 use Rattle.model.specs.Entries.{has_key}
 use Rattle.model.specs.Pages.{page_of, link_of, entries_of, linked_page, page_sound}
-use Rattle.model.specs.Answers.{performs}
+use Rattle.model.specs.Answers.{performs, StepReply, CallReply}
 use Rattle.model.specs.Outcome.{View, Outcome, guarded}
 use Rattle.model.specs.LockRequests.{held_all, chain_lock}
 use Rattle.model.specs.ScratchPages.{scratch_of}
@@ -29,7 +29,7 @@ use Rattle.model.specs.Withdraw.{is_decided}
 use Rattle.model.specs.Calls.{Called, called, stepped, step_call, begin_call, withdraw_call}
 use Rattle.model.specs.Runs.{Call, begin_for, step_for, withdraw_for, after_call, final_memory}
 use Rattle.model.specs.Book.{Book, Entered, book_after}
-use Rattle.model.specs.Refusals.{lengths_fit, decided_refusal}
+use Rattle.model.specs.Refusals.{lengths_fit}
 use Rattle.model.specs.Sizes.{within_limits}
 use Rattle.model.specs.Progress.{under_way}
 use Rattle.model.specs.Steps.Find.{answered, looked_on, step09}
@@ -49,9 +49,9 @@ use Rattle.model.proofs.Withdrawing.Undone.{undone_built, decided_late, decided_
 use Rattle.model.proofs.Withdrawing.Memory.{undone_memory, begun_undone, StepUndone, decided, same_left, step_undone, row_undone, row-only_undone}
 use Rattle.theory.proofs.Reached.{reached_inv, final_append}
 use Rattle.theory.proofs.LockTrades.{step_trades}
-use Rattle.theory.proofs.Alters.{begun-not_refused, nothing_altered}
+use Rattle.theory.proofs.Alters.{nothing_altered}
 use Rattle.theory.proofs.UnderWay.{unentered_under, Met, no_party, nothing-begun, under_way_lem, meets}
-use Rattle.theory.proofs.Withdraws.{WithdrawTested, turned_away, let_through, withdraw_tested, withdrawn-not_refused, WithdrawMet, stranger, unbegun, too_late, taken_back, withdraw_meets}
+use Rattle.theory.proofs.Withdraws.{WithdrawTested, turned_away, let_through, withdraw_tested, WithdrawMet, stranger, unbegun, too_late, taken_back, withdraw_meets}
 use Rattle.theory.proofs.Later.{Later, stays, goes, ends, later_at}
 
 -- Where party q stands in memory m after its begin, which met the memory m₀: its operation is over, the decisive step
@@ -122,7 +122,7 @@ module _ (m₀ m : Memory) (b : Book) (i : Inv m b) (q : ℕ) where
     record_then : party_at (step_call m q).memory.parties q ≡ out.after.party
     unfolding stepped
     record_then =
-        ap (λ (c : Called StepAnswer). party_at c.memory.parties q) call
+        ap (λ (c : Called StepReply). party_at c.memory.parties q) call
         ∙ rw (step_trades number (view_of m q) refl k.step_fits).number= (row_same m.parties q out.after.party (omega (arith, i.parties_many)))
 
     -- At or behind the decisive step then, whatever the operation.
@@ -142,8 +142,8 @@ module _ (m₀ m : Memory) (b : Book) (i : Inv m b) (q : ℕ) where
       where
         go : Later (view_of m q) out → Revocable m₀ (step_call m q).memory q
         go (stays n) =
-            subst (λ (t : Memory). Revocable m₀ t q) (sym (nothing_altered m q (ap (λ (c : Called StepAnswer). performs c.answer) call ∙ n)))
-            (stays-row _ (row_undone turn (step_call m q).answer (sym (ap (λ (c : Called StepAnswer). c.answer) call))) x)
+            subst (λ (t : Memory). Revocable m₀ t q) (sym (nothing_altered m q (ap (λ (c : Called StepReply). performs c.answer) call ∙ n)))
+            (stays-row _ (row_undone turn (step_call m q).answer (sym (ap (λ (c : Called StepReply). c.answer) call))) x)
         go (goes _ h _) = then_past (inl h)
         go (ends _ _ s) = over (record_then ∙ s)
 
@@ -158,7 +158,7 @@ module _ (m₀ m : Memory) (b : Book) (i : Inv m b) (q : ℕ) where
     before_eleven : number < 11 → number ≢ 9 → Revocable m₀ m q → Revocable m₀ (step_call m q).memory q
     before_eleven l n (over s) = absurd (operation_some e.operation (party_at m.parties q).operation k.same_operation (ap (λ (p : Party). p.operation) s))
     before_eleven l n (past d) = absurd (not-both (is_decided (party_at m.parties q)) d (early_undecided (party_at m.parties q) (omega arith) n))
-    before_eleven l n (leads_back u) = subst (λ (c : Called StepAnswer). Revocable m₀ c.memory q) (sym call) (go (step_undone turn l n))
+    before_eleven l n (leads_back u) = subst (λ (c : Called StepReply). Revocable m₀ c.memory q) (sym call) (go (step_undone turn l n))
       where
         go : StepUndone m (stepped m q).memory q → Revocable m₀ (stepped m q).memory q
         go (decided d) = past d
@@ -176,8 +176,8 @@ module _ (m₀ m : Memory) (b : Book) (i : Inv m b) (q : ℕ) where
   step_revocable x = go (meets m b i q)
     where
       go : Met m b i q → Revocable m₀ (step_call m q).memory q
-      go (no_party _ _ _ c) = stays_put (ap (λ (y : Called StepAnswer). y.memory) c) x
-      go (nothing-begun _ _ _ _ c) = stays_put (ap (λ (y : Called StepAnswer). y.memory) c) x
+      go (no_party _ _ _ c) = stays_put (ap (λ (y : Called StepReply). y.memory) c) x
+      go (nothing-begun _ _ _ _ c) = stays_put (ap (λ (y : Called StepReply). y.memory) c) x
       go (under_way_lem h e k f c) = steps_on h e k f c x
 
 -- ---- Steps one after the other
@@ -190,7 +190,7 @@ steps_revocable (suc n) m₀ m b i q x = steps_revocable n m₀ (step_call m q).
 -- ---- The begin
 
 -- The memory that an accepted begin leaves leads back to the one that it met.
-begin_revocable : (m : Memory) (b : Book) → Inv m b → (q : ℕ) (o : Operation) (k : ℕ) → (begin_call m q o k).answer ≡ BeginAnswer.Begun → Revocable m (begin_call m q o k).memory q
+begin_revocable : (m : Memory) (b : Book) → Inv m b → (q : ℕ) (o : Operation) (k : ℕ) → (begin_call m q o k).answer ≡ Ok tt → Revocable m (begin_call m q o k).memory q
 begin_revocable m b i q o k h = go (ord q m.root.parties)
   where
     limits : within_limits m.root ≡ true
@@ -199,18 +199,18 @@ begin_revocable m b i q o k h = go (ord q m.root.parties)
     lengths : lengths_fit m.root m ≡ true
     lengths = lengths_fit_ok m b i
 
-    refused : (n : ℕ) → begin_call m q o k ≡ called (BeginAnswer.Refused n) m → Revocable m (begin_call m q o k).memory q
-    refused n e = absurd (begun-not_refused n (sym h ∙ ap (λ (c : Called BeginAnswer). c.answer) e))
+    refused : (n : Refusal) → begin_call m q o k ≡ called (Err n) m → Revocable m (begin_call m q o k).memory q
+    refused n e = absurd (not_refused tt n (sym h ∙ ap (λ (c : Called CallReply). c.answer) e))
 
     there : q < m.root.parties → PartyOk (scene_of m i.ghost b) q (party_at m.parties q) → Revocable m (begin_call m q o k).memory q
     there l (resting e _ _ z) =
         leads_back
-        (ap (λ (c : Called BeginAnswer). undone_memory c.memory q) ((begin_order m q o k).none limits lengths l (ap (λ (p : Party). p.operation) e))
+        (ap (λ (c : Called CallReply). undone_memory c.memory q) ((begin_order m q o k).none limits lengths l (ap (λ (p : Party). p.operation) e))
         ∙ begun_undone m b i q o k l e z)
-    there l (working e c _) = refused 4 ((begin_order m q o k).busy limits lengths l (operation_some e.operation (party_at m.parties q).operation c.same_operation))
+    there l (working e c _) = refused Refusal.Busy ((begin_order m q o k).busy limits lengths l (operation_some e.operation (party_at m.parties q).operation c.same_operation))
 
     go : Ord q m.root.parties → Revocable m (begin_call m q o k).memory q
-    go (ge l _) = refused 3 ((begin_order m q o k).party limits lengths l)
+    go (ge l _) = refused Refusal.Party ((begin_order m q o k).party limits lengths l)
     go (lt l _) = there l (i.parties_ok q l)
 
 -- ---- After every list of calls
@@ -229,7 +229,7 @@ module _ (s : Start) (cs : List Call) (x : Wanted) (n : ℕ) where
   there_is = final_append (start s) cs (calls_begun x n)
 
   -- Where its begin was accepted.
-  revocable : (begin_call m₀ q x.operation x.key).answer ≡ BeginAnswer.Begun → Revocable m₀ there q
+  revocable : (begin_call m₀ q x.operation x.key).answer ≡ Ok tt → Revocable m₀ there q
   unfolding final_memory after_call book_after
   revocable h =
       let i = reached_inv s cs in
@@ -238,14 +238,14 @@ module _ (s : Start) (cs : List Call) (x : Wanted) (n : ℕ) where
       (begin_revocable m₀ b i q x.operation x.key h)
 
   -- An accepted withdraw finds the decisive step not taken, and leaves the memory before begin.
-  back_then : Revocable m₀ there q → WithdrawTested there q → (withdraw_call there q).answer ≡ WithdrawAnswer.Withdrawn → (withdraw_call there q).memory ≡ m₀
+  back_then : Revocable m₀ there q → WithdrawTested there q → (withdraw_call there q).answer ≡ Ok tt → (withdraw_call there q).memory ≡ m₀
   unfolding has_step
-  back_then x (turned_away n c) w = absurd (withdrawn-not_refused n (sym w ∙ ap (λ (y : Called WithdrawAnswer). y.answer) c))
+  back_then x (turned_away n c) w = absurd (not_refused tt n (sym w ∙ ap (λ (y : Called CallReply). y.answer) c))
   back_then (over e) (let_through xs z _ _ _ _) w =
       absurd (false≢true (subst (λ (p : Party). has_step p.operation p.step ≡ true) e (withdraw_ready there q z).step_fits))
   back_then (past d) (let_through xs z _ _ _ _) w = absurd (not-both (is_decided (party_at there.parties q)) d (undecided there q z))
   back_then (leads_back u) (let_through xs z built _ _ c) w =
-      ap (λ (y : Called WithdrawAnswer). y.memory) c ∙ ap (λ (v : View). with_waiting (row_without q there.waiting) (after_step there v)) (sym (undone_built (view_of there q) xs built)) ∙ u
+      ap (λ (y : Called CallReply). y.memory) c ∙ ap (λ (v : View). with_waiting (row_without q there.waiting) (after_step there v)) (sym (undone_built (view_of there q) xs built)) ∙ u
 
   withdrawn_memory : Reached s (cs ++ calls_withdrawn x n) ≡ (withdraw_call there q).memory
   unfolding final_memory after_call
@@ -254,7 +254,7 @@ module _ (s : Start) (cs : List Call) (x : Wanted) (n : ℕ) where
   pub restored : Restored s cs x n
   restored = record {
     restored = λ h w.
-        withdrawn_memory ∙ back_then (revocable h) (withdraw_tested there q) (subst (λ (m : Memory). (withdraw_call m q).answer ≡ WithdrawAnswer.Withdrawn) there_is w);
+        withdrawn_memory ∙ back_then (revocable h) (withdraw_tested there q) (subst (λ (m : Memory). (withdraw_call m q).answer ≡ Ok tt) there_is w);
     accepted = λ u. go u (withdraw_meets (at_withdraw s cs x n) (book_reached s (cs ++ calls_begun x n)) (reached_inv s (cs ++ calls_begun x n)) q);
   }
     where
@@ -265,8 +265,8 @@ module _ (s : Start) (cs : List Call) (x : Wanted) (n : ℕ) where
       b = book_reached s (cs ++ calls_begun x n)
 
       go : under_way b q ≡ true → WithdrawMet m b (reached_inv s (cs ++ calls_begun x n)) q
-          → (withdraw_call m q).answer ≡ cond (is_decided (record_there s cs x n)) (WithdrawAnswer.Refused decided_refusal) WithdrawAnswer.Withdrawn
+          → (withdraw_call m q).answer ≡ cond (is_decided (record_there s cs x n)) (Err Refusal.Decided) (Ok tt)
       go u (stranger _ none _) = absurd (not-both (under_way b q) u (unentered_under b q none))
       go u (unbegun _ none _) = absurd (not-both (under_way b q) u (unentered_under b q none))
-      go u (too_late _ _ _ d c) = ap (λ (y : Called WithdrawAnswer). y.answer) c ∙ rw d refl
+      go u (too_late _ _ _ d c) = ap (λ (y : Called CallReply). y.answer) c ∙ rw d refl
       go u (taken_back _ _ _ _ d a) = a ∙ rw d refl

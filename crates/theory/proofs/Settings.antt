@@ -9,9 +9,9 @@ use mathlib.Core.Option.{Option, none, some}
 use Prim.Native.Nat.{ℕ, ◌+◌}
 use native.Mathlib.Omega.{arith}
 use lib.Dec.{eqb}
+use Rattle.std.specs.Prelude.{Ok, Err}
 use Rattle.model.specs.declared.Operation.{Operation}
 use Rattle.model.specs.declared.OperationAnswer.{OperationAnswer}
-use Rattle.model.specs.declared.BeginAnswer.TheVariants as BeginAnswer
 use Rattle.model.specs.Answers.{answer_number, found_or_absent, same_answer}
 use Rattle.model.specs.Runs.{Call, begin_for, step_for, withdraw_for, Reply, to_begin, to_step, to_withdraw, Event, events}
 use Rattle.model.specs.Book.{Value}
@@ -174,8 +174,8 @@ module _ (n : ℕ) (es : List Event) (o p : Operated) (same_call : o.begun ≡ p
 
   entering_once : (c : Call) (r : Reply) → Memᴰ o (entering n c r es (operations_from (n + 1) es)) → Memᴰ p (entering n c r es (operations_from (n + 1) es)) → o ≡ p
   unfolding entering
-  entering_once (begin_for q x k) (to_begin BeginAnswer.Begun) s t = first_once _ refl (Memᴰ.cases_cons s) (Memᴰ.cases_cons t)
-  entering_once (begin_for q x k) (to_begin (BeginAnswer.Refused z)) s t = later s t
+  entering_once (begin_for q x k) (to_begin (Ok _)) s t = first_once _ refl (Memᴰ.cases_cons s) (Memᴰ.cases_cons t)
+  entering_once (begin_for q x k) (to_begin (Err z)) s t = later s t
   entering_once (begin_for q x k) (to_step a) s t = later s t
   entering_once (begin_for q x k) (to_withdraw a) s t = later s t
   entering_once (step_for q) r s t = later s t

@@ -3,12 +3,10 @@
 use mathlib.Core.Path.{◌≡◌, refl, sym, ap, ◌∙◌}
 use mathlib.Core.List.{List, [], ◌∷◌}
 use Prim.Native.Nat.{ℕ}
-use native.Mathlib.Omega.{arith}
+use Rattle.model.proofs.Laws.Answers.{Caused, no_cause, caused_by, caused}
+use Rattle.model.specs.Answers.{StepReply, CallReply}
 use Rattle.model.specs.declared.Root.{Root}
 use Rattle.model.specs.declared.Operation.{Operation}
-use Rattle.model.specs.declared.StepAnswer.{StepAnswer}
-use Rattle.model.specs.declared.BeginAnswer.{BeginAnswer}
-use Rattle.model.specs.declared.WithdrawAnswer.{WithdrawAnswer}
 use Rattle.model.specs.Records.{root_of_sizes}
 use Rattle.model.specs.Outcome.{View, Outcome}
 use Rattle.model.specs.Memory.{Memory, party_at, view_of, formatted, formatted_root}
@@ -18,7 +16,6 @@ use Rattle.model.specs.Calls.{Called, with_begun, begin_call, stepped, step_call
 use Rattle.model.specs.Runs.{Call, begin_for, step_for, withdraw_for, after_call, final_memory}
 use Rattle.theory.specs.Demands.{Start, sizes_of, start, Reached, SizesStay}
 use Rattle.model.specs.Steps.Dispatch.{step_of}
-use Rattle.model.proofs.Laws.Lists.{Cmp, same, diff, cmp}
 use Rattle.model.proofs.Invariant.Frame.{SameLimits}
 use Rattle.model.proofs.Effects.OwnRecord.{same_limits}
 use Rattle.model.proofs.Theorems.RefusalOrder.{begin_refused_ok, begin_accepted, step_refused_ok, step-accepted}
@@ -49,32 +46,32 @@ sizes_same r t l = λ i. root_of_sizes (l.originals= i) (l.capacity= i) (l.prima
 
 step_limits : (m : Memory) (q : ℕ) → SameLimits m.root (step_call m q).memory.root
 unfolding stepped
-step_limits m q = go (cmp (first_cause (step_rows m q)) 0)
+step_limits m q = go (caused (first_cause (step_rows m q)))
   where
     traced : (o : Outcome) → Traced (party_at m.parties q).step (view_of m q) o → SameLimits m.root o.after.root
     traced o (stays _ e) = limits_is m.root o.after.root (ap (λ (v : View). v.root) e)
     traced o (goes _ l _) = l.sizes
 
-    go : Cmp (first_cause (step_rows m q)) 0 → SameLimits m.root (step_call m q).memory.root
-    go (same e) =
+    go : Caused (first_cause (step_rows m q)) → SameLimits m.root (step_call m q).memory.root
+    go (no_cause e) =
         rw (step-accepted m q e) (traced (step_of (party_at m.parties q).step (view_of m q)) (step_traced (view_of m q) (ready m q e)))
-    go (diff d) =
-        limits_is m.root (step_call m q).memory.root (ap (λ (c : Called StepAnswer). c.memory.root) (step_refused_ok m (first_cause (step_rows m q)) (omega arith) q refl))
+    go (caused_by c y) =
+        limits_is m.root (step_call m q).memory.root (ap (λ (c : Called StepReply). c.memory.root) (step_refused_ok m c q y))
 
 begin_limits : (m : Memory) (q : ℕ) (o : Operation) (k : ℕ) → SameLimits m.root (begin_call m q o k).memory.root
 unfolding with_begun
-begin_limits m q o k = limits_is m.root (begin_call m q o k).memory.root (go (cmp (first_cause (begin_rows m q)) 0))
+begin_limits m q o k = limits_is m.root (begin_call m q o k).memory.root (go (caused (first_cause (begin_rows m q))))
   where
-    go : Cmp (first_cause (begin_rows m q)) 0 → (begin_call m q o k).memory.root ≡ m.root
-    go (same e) = ap (λ (c : Called BeginAnswer). c.memory.root) (begin_accepted m q o k e)
-    go (diff d) = ap (λ (c : Called BeginAnswer). c.memory.root) (begin_refused_ok m (first_cause (begin_rows m q)) (omega arith) q o k refl)
+    go : Caused (first_cause (begin_rows m q)) → (begin_call m q o k).memory.root ≡ m.root
+    go (no_cause e) = ap (λ (c : Called CallReply). c.memory.root) (begin_accepted m q o k e)
+    go (caused_by c y) = ap (λ (c : Called CallReply). c.memory.root) (begin_refused_ok m c q o k y)
 
 -- A withdraw changes of the root its free list alone.
 withdraw_limits : (m : Memory) (q : ℕ) → SameLimits m.root (withdraw_call m q).memory.root
 withdraw_limits m q = go (withdraw_tested m q)
   where
     go : WithdrawTested m q → SameLimits m.root (withdraw_call m q).memory.root
-    go (turned_away n e) = limits_is m.root (withdraw_call m q).memory.root (ap (λ (c : Called WithdrawAnswer). c.memory.root) e)
+    go (turned_away n e) = limits_is m.root (withdraw_call m q).memory.root (ap (λ (c : Called CallReply). c.memory.root) e)
     go (let_through xs _ _ _ _ e) = rw e (record { originals= = refl; capacity= = refl; primaries= = refl; overflow= = refl; parties= = refl })
 
 pub call_limits : (m : Memory) (c : Call) → SameLimits m.root (after_call m c).root

@@ -1,10 +1,11 @@
 -- Every step of a party under way, where an operation is led on at most `most` times, leaves fewer calls than it had.
--- Main statement: step-nearer.
+-- Main statement: step_nearer.
 use Prim.Native.Nat.{ℕ, ◌≤◌}
 use native.Mathlib.Omega.{arith}
+use Rattle.model.specs.declared.Refusal.{Refusal}
 use Rattle.model.specs.Addresses.{span}
 use Rattle.model.specs.Pages.{page_of, level_of, primary_page}
-use Rattle.model.specs.Outcome.{View, Outcome, damage}
+use Rattle.model.specs.Outcome.{View, Outcome}
 use Rattle.model.specs.Steps.Locate.{step01, step02, step03, step04, step05}
 use Rattle.model.specs.Steps.Chase.{step07, step08}
 use Rattle.model.specs.Steps.Write.{step11, step12}
@@ -53,4 +54,4 @@ module _ (most : ℕ) (m : Memory) (b : Book) (q : ℕ) (room : m.root.primaries
 
   pub step_nearer : (k : ℕ) → NearerAt k (step_of k)
   unfolding step_of
-  step_nearer k = numbered_at NearerAt no_step (λ n t. refused_nearer most (view_of m q) damage) step_table all_nearer k
+  step_nearer k = numbered_at NearerAt no_step (λ n t. refused_nearer most (view_of m q) Refusal.Damage) step_table all_nearer k

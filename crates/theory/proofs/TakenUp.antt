@@ -1,6 +1,6 @@
 -- Take-up over whole lists of calls: what the index leaves at rest is taken up, with the book's map, and nothing else
 -- that it leaves is; formatted memory is taken up, with no records.
--- Main statements: taken-rightly and taken-answer (what take-up says where the invariant holds), always_taken_lem,
+-- Main statements: taken_rightly_ok and taken_answer (what take-up says where the invariant holds), always_taken_lem,
 -- taken_right; reached_saved, reached_records; taken_start (memory that was taken up may start a run);
 -- formatted-start, formatted_empty, formatted_book, formatted_file, formatted-holds.
 use mathlib.Core.Path.{◌≡◌, refl, sym, ap, ◌∙◌, subst}
@@ -11,6 +11,10 @@ use Prim.Native.Nat.{ℕ, zero, suc, ◌<◌}
 use native.Mathlib.Omega.{arith}
 use lib.ListN.{get_or, replicate, length-replicate}
 use lib.Dec.{eqb}
+use Rattle.std.specs.Prelude.{Ok, Err}
+use Rattle.model.proofs.Laws.Answers.{not_refused}
+use Rattle.model.specs.declared.Refusal.{Refusal}
+use Rattle.model.specs.Answers.{CallReply}
 use Rattle.model.specs.declared.Root.{Root}
 use Rattle.model.specs.declared.Entry.{Entry}
 use Rattle.model.specs.Addresses.{span, chain_count}
@@ -23,7 +27,6 @@ use Rattle.model.specs.Sizes.{within_limits}
 use Rattle.model.specs.Refusals.{lengths_fit}
 use Rattle.model.specs.Calls.{Called, called}
 use Rattle.model.specs.TakeUp.{is_saved, records_saved, open_book, saved_book, take_up_call}
-use Rattle.model.specs.declared.TakeUpAnswer.{TakeUpAnswer}
 use Rattle.theory.specs.Demands.{Sizes, sizes_given, Start, start, sizes_of, Reached, book_reached, book_start, AtRest, file_reached}
 use Rattle.theory.specs.PlainMap.{empty_map}
 use Rattle.theory.specs.Sequential.{records_at, start_file, file_of}
@@ -92,12 +95,12 @@ module _ (m : Memory) (b : Book) (i : Inv m b) where
       go (fails e) f = rw e (rests_saved m b i (none-entered e))
 
   -- What a call of take-up then answers, and that it leaves all memory.
-  pub taken_answer : take_up_call m ≡ called (cond (some_below m.root.parties (under_way b)) (TakeUpAnswer.Refused 8) TakeUpAnswer.TakenUp) m
+  pub taken_answer : take_up_call m ≡ called (cond (some_below m.root.parties (under_way b)) (Err Refusal.Unsaved) (Ok tt)) m
   unfolding taken_rightly
   taken_answer = go (tell (some_below m.root.parties (under_way b))) (tell (is_saved m))
     where
       go : Told (some_below m.root.parties (under_way b)) → Told (is_saved m)
-          → take_up_call m ≡ called (cond (some_below m.root.parties (under_way b)) (TakeUpAnswer.Refused 8) TakeUpAnswer.TakenUp) m
+          → take_up_call m ≡ called (cond (some_below m.root.parties (under_way b)) (Err Refusal.Unsaved) (Ok tt)) m
       go (holds e) (fails f) = rw e ((take_up_order m).unsaved (within_limits_lem m.root i.limits) (lengths_fit_ok m b i) f)
       go (holds e) (holds f) = absurd (false≢true (sym (ap not f) ∙ rw e at taken_rightly_ok))
       go (fails e) (holds f) = rw e ((take_up_order m).none (within_limits_lem m.root i.limits) (lengths_fit_ok m b i) f)
@@ -118,27 +121,25 @@ taken_right s cs = always_taken_lem steps_kept (start s) (book_start s) (started
 
 -- ---- Memory that was taken up
 
-module _ (m : Memory) (is : (take_up_call m).answer ≡ TakeUpAnswer.TakenUp) where
+module _ (m : Memory) (is : (take_up_call m).answer ≡ Ok tt) where
   -- An answer is not taken up and refused at once.
-  refused_up : {X : Type 0} (k : ℕ) → take_up_call m ≡ called (TakeUpAnswer.Refused k) m → X
-  refused_up k e =
-      let same : TakeUpAnswer.TakenUp ≡ TakeUpAnswer.Refused k = sym is ∙ ap (λ (c : Called TakeUpAnswer). c.answer) e in
-      absurd (let y : ◌≡◌ {A = ℕ} 0 1 = cc in omega arith)
+  refused_up : {X : Type 0} (k : Refusal) → take_up_call m ≡ called (Err k) m → X
+  refused_up k e = absurd (not_refused tt k (sym is ∙ ap (λ (c : Called CallReply). c.answer) e))
 
   abbrev pub Passed : Type 0
   Passed = (within_limits m.root ≡ true) × (lengths_fit m.root m ≡ true) × (is_saved m ≡ true)
 
   -- Taken up was not a refusal: every test passed.
   passes : (s l t : Bool) → within_limits m.root ≡ s → lengths_fit m.root m ≡ l → is_saved m ≡ t → Passed
-  passes false l t e f g = refused_up 2 ((take_up_order m).sizes e)
-  passes true false t e f g = refused_up 1 ((take_up_order m).lengths e f)
-  passes true true false e f g = refused_up 8 ((take_up_order m).unsaved e f g)
+  passes false l t e f g = refused_up Refusal.Size ((take_up_order m).sizes e)
+  passes true false t e f g = refused_up Refusal.Length ((take_up_order m).lengths e f)
+  passes true true false e f g = refused_up Refusal.Unsaved ((take_up_order m).unsaved e f g)
   passes true true true e f g = (e, f, g)
 
   pub passed : Passed
   passed = passes (within_limits m.root) (lengths_fit m.root m) (is_saved m) refl refl refl
 
-unfoldable pub taken_start : (m : Memory) → (take_up_call m).answer ≡ TakeUpAnswer.TakenUp → Start
+unfoldable pub taken_start : (m : Memory) → (take_up_call m).answer ≡ Ok tt → Start
 taken_start m is = let p = passed m is in record { memory = m; sizes_fit = p.0; lengths_fit_ok = p.1; saved = p.2 }
 
 -- ---- Formatted memory

@@ -9,6 +9,7 @@ use mathlib.Core.List.{List}
 use Prim.Native.Nat.{ℕ}
 use native.Mathlib.Omega.{arith}
 use lib.Dec.{eqb}
+use Rattle.std.specs.Prelude.{Ok}
 use Rattle.model.specs.declared.OperationAnswer.{OperationAnswer}
 use Rattle.model.specs.declared.Restructuring.{Restructuring}
 use Rattle.model.specs.declared.StepAnswer.TheVariants as StepAnswer
@@ -57,7 +58,7 @@ module _ (v : View) (k : ℕ) (ready : Ready v) where
         spares = spares_written v ready u.pages l.spares (scratch_page u.root u.number) zero_page
             (scratch_writable v ready (scratch_page u.root u.number) (omega (arith, l.number=, l.sizes.primaries=, l.sizes.overflow=))) length-zero_page;
       })
-      (unmarked k v (StepAnswer.Done a s) idle refl refl)
+      (unmarked k v (Ok (StepAnswer.Done a s)) idle refl refl)
 
   by_exit : v.party.step ≡ k → (o : Outcome) → Exit v k o → Traced k v o
   unfolding performs

@@ -1,11 +1,12 @@
 -- Who is under way by the calls made (the book's entries), and what the records and a call of step then say, under the invariant.
--- Main statements: entered_under, unentered_under; idle-unentered (nobody is under way where every record is the zero record); Met and meets (what a call of step meets).
+-- Main statements: entered_under, unentered_under; idle_unentered (nobody is under way where every record is the zero record); Met and meets (what a call of step meets).
 use mathlib.Core.Path.{◌≡◌, refl, ap}
 use mathlib.Core.Bool.{true, false}
 use mathlib.Core.Option.{none, some}
 use Prim.Native.Nat.{ℕ, ◌≤◌, ◌<◌}
+use Rattle.std.specs.Prelude.{Err}
+use Rattle.model.specs.declared.Refusal.{Refusal}
 use Rattle.model.specs.declared.Party.{Party}
-use Rattle.model.specs.declared.StepAnswer.TheVariants as StepAnswer
 use Rattle.model.specs.Records.{idle}
 use Rattle.model.specs.Memory.{Memory, party_at}
 use Rattle.model.specs.Calls.{called, stepped, step_call}
@@ -34,9 +35,9 @@ inv_fits m b i = record { some_original = i.limits.some_original; next_fits = i.
 
 -- What a call of step for party q meets: there is no such party, it has nothing under way, or its operation's next step is performed.
 pub data Met (m : Memory) (b : Book) (i : Inv m b) (q : ℕ) : Type 0 where
-  no_party : m.root.parties ≤ q → b.entries q ≡ none → NoPages (scene_of m i.ghost b) q → step_call m q ≡ called (StepAnswer.Refused 3) m → Met m b i q
+  no_party : m.root.parties ≤ q → b.entries q ≡ none → NoPages (scene_of m i.ghost b) q → step_call m q ≡ called (Err Refusal.Party) m → Met m b i q
   nothing-begun : q < m.root.parties → party_at m.parties q ≡ idle → b.entries q ≡ none → NoPages (scene_of m i.ghost b) q
-      → step_call m q ≡ called (StepAnswer.Refused 5) m → Met m b i q
+      → step_call m q ≡ called (Err Refusal.Idle) m → Met m b i q
   under_way_lem : q < m.root.parties → (e : Entered) → Busy (scene_of m i.ghost b) q (party_at m.parties q) e
       → facts_at (party_at m.parties q).step (scene_of m i.ghost b) q (party_at m.parties q) e → step_call m q ≡ stepped m q → Met m b i q
 

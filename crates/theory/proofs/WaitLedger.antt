@@ -1,22 +1,21 @@
 -- Every call keeps the waiting row and the ledger of waits in step.
--- Main statement: call-waits.
+-- Main statement: call_waits.
 use mathlib.Core.Path.{◌≡◌, refl, sym, ap, ◌∙◌, subst}
 use mathlib.Core.Bool.{true, false≢true}
 use mathlib.Core.List.{List}
 use mathlib.Core.Option.{Option, none, some}
 use Prim.Native.Nat.{ℕ, ◌<◌}
-use native.Mathlib.Omega.{arith}
 use lib.ListN.{set}
 use lib.Seq.{set-get_or}
+use Rattle.std.specs.Prelude.{Ok, Err}
+use Rattle.model.proofs.Laws.Answers.{cause_some, not_refused}
 use Rattle.model.specs.declared.Root.{Root}
 use Rattle.model.specs.declared.Party.{Party}
 use Rattle.model.specs.declared.Operation.{Operation}
 use Rattle.model.specs.declared.StepAnswer.{StepAnswer}
-use Rattle.model.specs.declared.BeginAnswer.{BeginAnswer}
-use Rattle.model.specs.declared.WithdrawAnswer.{WithdrawAnswer}
 use Rattle.model.specs.Sizes.{within_limits}
 use Rattle.model.specs.Records.{idle, begun}
-use Rattle.model.specs.Answers.{operation_number, setting_given, refusal_number}
+use Rattle.model.specs.Answers.{operation_number, setting_given, refusal_number, StepReply, CallReply}
 use Rattle.model.specs.LockWords.{Claim}
 use Rattle.model.specs.Outcome.{View, Outcome}
 use Rattle.model.specs.Memory.{Memory, party_at, view_of, after_step, with_waiting}
@@ -34,11 +33,11 @@ use Rattle.model.proofs.Invariant.Frame.{SameLimits}
 use Rattle.model.proofs.Effects.Kept.{row_other}
 use Rattle.model.proofs.Steps.Withdraw.{withdraw_kept}
 use Rattle.model.proofs.Theorems.RefusalOrder.{begin_order, withdraw_accepted}
-use Rattle.model.proofs.Theorems.Answering.{asked_wanted, waiting_asks, done-asks-none, refused_damage}
+use Rattle.model.proofs.Theorems.Answering.{asked_wanted, waiting_asks, done-asks-none}
 use Rattle.model.proofs.Theorems.Calls.{StepsKept, within_limits_lem, lengths_fit_ok, operation_some}
 use Rattle.theory.proofs.SizesStay.{sized_root_lem}
 use Rattle.theory.proofs.UnderWay.{Met, no_party, nothing-begun, under_way_lem, meets}
-use Rattle.theory.proofs.Withdraws.{WithdrawTested, turned_away, let_through, withdraw_tested, withdrawn-not_refused, WithdrawMet, stranger, unbegun, too_late, taken_back, withdraw_meets}
+use Rattle.theory.proofs.Withdraws.{WithdrawTested, turned_away, let_through, withdraw_tested, WithdrawMet, stranger, unbegun, too_late, taken_back, withdraw_meets}
 
 -- ---- One call
 
@@ -61,31 +60,28 @@ module _ (kept : StepsKept) (z : Root) (m : Memory) (b : Book) (i : Inv m b) (l 
     abbrev out : Outcome
     out = step_of (party_at m.parties q).step (view_of m q)
 
-    step_waits : (a : StepAnswer) → out.answer ≡ a
+    step_waits : (a : StepReply) → out.answer ≡ a
         → WaitsOk out.after.root (set m.parties out.after.number out.after.party) (row_after q m.waiting a) (waits_after_step ws q (wanted_by z m q) a)
     unfolding row_after waits_after_step refusal_number
-    step_waits StepAnswer.Waiting e =
+    step_waits (Ok StepAnswer.Waiting) e =
         let some_one = is-some (requests m.root (party_at m.parties q)) (waiting_asks (view_of m q) has e) in
         let wanted : wanted_by z m q ≡ some some_one.0 = want= q ∙ sym (asked_wanted (view_of m q) has) ∙ some_one.1 in
         subst (λ (v : View). WaitsOk v.root (set m.parties v.number v.party) (row_with q m.waiting) (joins ws q (wanted_by z m q))) (sym ((kept m b i q in_row has).stays e))
         (subst (λ (ps : List Party). WaitsOk m.root ps (row_with q m.waiting) (joins ws q (wanted_by z m q))) (sym (set-get_or m.parties q idle))
         (subst (λ (o : Option Claim). WaitsOk m.root m.parties (row_with q m.waiting) (joins ws q o)) (sym wanted)
         (waits-join m.root m.parties m.waiting i.row_ok ws ok q some_one.0 in_row some_one.1)))
-    step_waits StepAnswer.Moved e = waits_leave m.root m.parties m.waiting i.row_ok ws ok q _ _ (kept m b i q in_row has).asks
-    step_waits (StepAnswer.Done a s) e =
+    step_waits (Ok StepAnswer.Moved) e = waits_leave m.root m.parties m.waiting i.row_ok ws ok q _ _ (kept m b i q in_row has).asks
+    step_waits (Ok (StepAnswer.Done a s)) e =
         let n = done-asks-none (view_of m q) has a s e in
         subst (WaitsOk _ _ m.waiting) (sym (leaves_absent ws q (waits_absent m.root m.parties m.waiting i.row_ok ws ok q n)))
         (waits_stay m.root m.parties m.waiting i.row_ok ws ok q _ _ (kept m b i q in_row has).asks n)
-    step_waits (StepAnswer.Refused n) e =
-        let y : refusal_number (StepAnswer.Refused n) ≡ 0 = ap refusal_number (sym e) ∙ (kept m b i q in_row has).allowed in
-        let six = refused_damage (view_of m q) has n e in
-        absurd (omega (arith, y, six))
+    step_waits (Err n) e = absurd (cause_some n (ap refusal_number (sym e) ∙ (kept m b i q in_row has).allowed))
 
   step_call_lem : (q : ℕ) → AfterOk (step_call m q).memory (waits_after_step ws q (wanted_by z m q) (step_call m q).answer)
   unfolding waits_after_step stepped
   step_call_lem q = go (meets m b i q)
     where
-      abbrev_goal : Called StepAnswer → Type 0
+      abbrev_goal : Called StepReply → Type 0
       abbrev_goal c = AfterOk c.memory (waits_after_step ws q (wanted_by z m q) c.answer)
 
       go : Met m b i q → AfterOk (step_call m q).memory (waits_after_step ws q (wanted_by z m q) (step_call m q).answer)
@@ -105,7 +101,7 @@ module _ (kept : StepsKept) (z : Root) (m : Memory) (b : Book) (i : Inv m b) (l 
       p_then : Party
       p_then = begun (operation_number o) k (setting_given o)
 
-      goal : Called BeginAnswer → Type 0
+      goal : Called CallReply → Type 0
       goal c = AfterOk c.memory ws
 
       go : Met m b i q → AfterOk (begin_call m q o k).memory ws
@@ -124,18 +120,18 @@ module _ (kept : StepsKept) (z : Root) (m : Memory) (b : Book) (i : Inv m b) (l 
   unfolding waits_after_withdraw withdrawn_from row_left
   withdraw_call_ok q = go (withdraw_meets m b i q) (withdraw_tested m q)
     where
-      goal : Called WithdrawAnswer → Type 0
+      goal : Called CallReply → Type 0
       goal c = AfterOk c.memory (waits_after_withdraw ws q c.answer)
 
       go : WithdrawMet m b i q → WithdrawTested m q → AfterOk (withdraw_call m q).memory (waits_after_withdraw ws q (withdraw_call m q).answer)
       go (stranger _ _ e) y = subst goal (sym e) ok
       go (unbegun _ _ e) y = subst goal (sym e) ok
       go (too_late _ _ _ _ e) y = subst goal (sym e) ok
-      go (taken_back h e k t d a) (turned_away n c) = absurd (withdrawn-not_refused n (sym a ∙ ap (λ (x : Called WithdrawAnswer). x.answer) c))
+      go (taken_back h e k t d a) (turned_away n c) = absurd (not_refused tt n (sym a ∙ ap (λ (x : Called CallReply). x.answer) c))
       go (taken_back h e k t d a) (let_through xs clear _ _ _ _) =
           let w = withdraw_kept t d in
-          let call : withdraw_call m q ≡ called WithdrawAnswer.Withdrawn (with_waiting (row_without q m.waiting) (after_step m (withdrawn (view_of m q)).after))
-          = withdraw_accepted m q clear ∙ ap (λ (x : WithdrawAnswer). called x (with_waiting (row_left q m.waiting x) (after_step m (withdrawn (view_of m q)).after))) w.accepted in
+          let call : withdraw_call m q ≡ called (Ok tt) (with_waiting (row_without q m.waiting) (after_step m (withdrawn (view_of m q)).after))
+          = withdraw_accepted m q clear ∙ ap (λ (x : CallReply). called x (with_waiting (row_left q m.waiting x) (after_step m (withdrawn (view_of m q)).after))) w.accepted in
           subst goal (sym call) (waits_leave m.root m.parties m.waiting i.row_ok ws ok q _ _ w.asks)
 
   pub call_waits : (c : Call) → WaitsOk (after_call m c).root (after_call m c).parties (after_call m c).waiting (waits_after z ws m c)

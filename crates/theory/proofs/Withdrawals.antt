@@ -6,11 +6,11 @@ use mathlib.Core.Bool.{Bool, true, false, false≢true}
 use mathlib.Core.List.{List, [], ◌∷◌, ◌++◌}
 use Prim.Native.Nat.{ℕ}
 use native.Mathlib.Omega.{arith}
+use Rattle.std.specs.Prelude.{Ok, Err}
+use Rattle.model.specs.declared.Refusal.{Refusal}
 use Rattle.model.specs.declared.Party.{Party}
 use Rattle.model.specs.declared.StepAnswer.{StepAnswer}
-use Rattle.model.specs.declared.BeginAnswer.{BeginAnswer}
-use Rattle.model.specs.declared.WithdrawAnswer.{WithdrawAnswer}
-use Rattle.model.specs.Answers.{performs}
+use Rattle.model.specs.Answers.{performs, StepReply, CallReply}
 use Rattle.model.specs.Withdraw.{is_decided}
 use Rattle.model.specs.Memory.{Memory, party_at}
 use Rattle.model.specs.Calls.{Called, withdraw_call}
@@ -35,18 +35,18 @@ use Rattle.theory.proofs.Withdraws.{WithdrawMet, stranger, unbegun, too_late, ta
 -- ---- The book's map
 
 -- A step that is not an 11 performed leaves it.
-reply_kept : (b : Book) (q number : ℕ) (a : StepAnswer) → is_writing number a ≡ false → (after_reply b q number a).contents ≡ b.contents
+reply_kept : (b : Book) (q number : ℕ) (a : StepReply) → is_writing number a ≡ false → (after_reply b q number a).contents ≡ b.contents
 unfolding after_reply is_writing performs
-reply_kept b q number StepAnswer.Waiting h = refl
-reply_kept b q number (StepAnswer.Refused n) h = refl
-reply_kept b q number StepAnswer.Moved h = noted_contents b q (b.entries q) number (eqb-false number 11 h)
-reply_kept b q number (StepAnswer.Done a s) h = noted_contents b q (b.entries q) number (eqb-false number 11 h)
+reply_kept b q number (Ok StepAnswer.Waiting) h = refl
+reply_kept b q number (Err n) h = refl
+reply_kept b q number (Ok StepAnswer.Moved) h = noted_contents b q (b.entries q) number (eqb-false number 11 h)
+reply_kept b q number (Ok (StepAnswer.Done a s)) h = noted_contents b q (b.entries q) number (eqb-false number 11 h)
 
 -- So does every other call.
 pub contents_kept : (b : Book) (c : Call) (number : ℕ) (r : Reply) → writes_map c number r ≡ false → (book_after b c number r).contents ≡ b.contents
 unfolding book_after after_begin enter after_withdraw writes_map
-contents_kept b (begin_for q o k) number (to_begin BeginAnswer.Begun) h = refl
-contents_kept b (begin_for q o k) number (to_begin (BeginAnswer.Refused n)) h = refl
+contents_kept b (begin_for q o k) number (to_begin (Ok _)) h = refl
+contents_kept b (begin_for q o k) number (to_begin (Err n)) h = refl
 contents_kept b (begin_for q o k) number (to_step a) h = refl
 contents_kept b (begin_for q o k) number (to_withdraw a) h = refl
 contents_kept b (step_for q) number (to_begin a) h = refl
@@ -54,8 +54,8 @@ contents_kept b (step_for q) number (to_step a) h = reply_kept b q number a h
 contents_kept b (step_for q) number (to_withdraw a) h = refl
 contents_kept b (withdraw_for q) number (to_begin a) h = refl
 contents_kept b (withdraw_for q) number (to_step a) h = refl
-contents_kept b (withdraw_for q) number (to_withdraw WithdrawAnswer.Withdrawn) h = refl
-contents_kept b (withdraw_for q) number (to_withdraw (WithdrawAnswer.Refused n)) h = refl
+contents_kept b (withdraw_for q) number (to_withdraw (Ok _)) h = refl
+contents_kept b (withdraw_for q) number (to_withdraw (Err n)) h = refl
 
 -- The book after an event more.
 book_last : (b : Book) (es : List Event) (e : Event) → book_at_end b (es ++ (e ∷ [])) ≡ book_after (book_at_end b es) e.call e.number e.reply
@@ -99,13 +99,13 @@ module _ (m : Memory) (b : Book) (i : Inv m b) (w : ℕ → Bool) (ok : WroteOk 
   unfolding unwritten
   withdrawn_clean q = go (withdraw_meets m b i q)
     where
-      refused : (n : ℕ) → (withdraw_call m q).answer ≡ WithdrawAnswer.Refused n → unwritten w (withdraw_for q) (to_withdraw (withdraw_call m q).answer) ≡ true
+      refused : (n : Refusal) → (withdraw_call m q).answer ≡ Err n → unwritten w (withdraw_for q) (to_withdraw (withdraw_call m q).answer) ≡ true
       refused n e = rw e refl
 
       go : WithdrawMet m b i q → unwritten w (withdraw_for q) (to_withdraw (withdraw_call m q).answer) ≡ true
-      go (stranger h n e) = refused 3 (ap (λ (c : Called WithdrawAnswer). c.answer) e)
-      go (unbegun h n e) = refused 5 (ap (λ (c : Called WithdrawAnswer). c.answer) e)
-      go (too_late h e k d c) = refused 7 (ap (λ (c : Called WithdrawAnswer). c.answer) c)
+      go (stranger h n e) = refused Refusal.Party (ap (λ (c : Called CallReply). c.answer) e)
+      go (unbegun h n e) = refused Refusal.Idle (ap (λ (c : Called CallReply). c.answer) e)
+      go (too_late h e k d c) = refused Refusal.Decided (ap (λ (c : Called CallReply). c.answer) c)
       go (taken_back h e k t d a) = rw (a, not_written q e k d) refl
 
   call_unwritten : (c : Call) → unwritten w c (reply_to m c) ≡ true

@@ -4,13 +4,12 @@
 -- once it is withdrawn.
 -- Main definitions: Counted; most_calls (the figures), most_rehashes and most_by_sizes (the same by the sizes);
 -- calls_bounded (over a whole list); CallsRight.
-use Rattle.std.specs.Prelude.{◌≡◌, Bool, true, false, cond, ◌&&◌, List, [], ◌∷◌, ℕ, zero, suc, ◌+◌, ◌*◌, leb, ltb}
+use Rattle.std.specs.Prelude.{◌≡◌, Bool, true, false, cond, ◌&&◌, List, [], ◌∷◌, ℕ, zero, suc, ◌+◌, ◌*◌, leb, ltb, Ok, Err}
 use Rattle.std.proofs.Math.Option.{Option, none, some}
+use Rattle.model.specs.Answers.{StepReply, CallReply}
 use Rattle.model.specs.declared.Root.{Root}
 use Rattle.model.specs.declared.Operation.{Operation}
 use Rattle.model.specs.declared.StepAnswer.{StepAnswer}
-use Rattle.model.specs.declared.BeginAnswer.{BeginAnswer}
-use Rattle.model.specs.declared.WithdrawAnswer.{WithdrawAnswer}
 use Rattle.model.specs.Addresses.{span}
 use Rattle.model.specs.Runs.{Call, begin_for, step_for, withdraw_for, Reply, to_begin, to_step, to_withdraw, Event, events}
 use Rattle.model.specs.Book.{changed_at}
@@ -55,37 +54,37 @@ abbrev pub counted : ℕ → ℕ → Counted
 counted l n = record { limit = l; taken = n }
 
 -- A begin accepted while an operation is under way is wrong.
-unfoldable pub begin_bounded : Option Counted → BeginAnswer → Bool
+unfoldable pub begin_bounded : Option Counted → CallReply → Bool
 begin_bounded none a = true
-begin_bounded (some x) BeginAnswer.Begun = false
-begin_bounded (some x) (BeginAnswer.Refused n) = true
+begin_bounded (some x) (Ok _) = false
+begin_bounded (some x) (Err c) = true
 
 -- Moved leaves a call to take; done may be the last. Neither is right where nothing is under way.
-unfoldable pub step_bounded : Option Counted → StepAnswer → Bool
-step_bounded none StepAnswer.Waiting = true
-step_bounded none StepAnswer.Moved = false
-step_bounded none (StepAnswer.Done a s) = false
-step_bounded none (StepAnswer.Refused n) = true
-step_bounded (some x) StepAnswer.Waiting = true
-step_bounded (some x) StepAnswer.Moved = ltb (x.taken + 1) x.limit
-step_bounded (some x) (StepAnswer.Done a s) = leb (x.taken + 1) x.limit
-step_bounded (some x) (StepAnswer.Refused n) = true
+unfoldable pub step_bounded : Option Counted → StepReply → Bool
+step_bounded none (Ok StepAnswer.Waiting) = true
+step_bounded none (Ok StepAnswer.Moved) = false
+step_bounded none (Ok (StepAnswer.Done a s)) = false
+step_bounded none (Err c) = true
+step_bounded (some x) (Ok StepAnswer.Waiting) = true
+step_bounded (some x) (Ok StepAnswer.Moved) = ltb (x.taken + 1) x.limit
+step_bounded (some x) (Ok (StepAnswer.Done a s)) = leb (x.taken + 1) x.limit
+step_bounded (some x) (Err c) = true
 
 -- What is counted after a begin of an operation that takes at most l calls, after a step and after a withdraw.
-unfoldable pub counted_begin : ℕ → Option Counted → BeginAnswer → Option Counted
-counted_begin l x BeginAnswer.Begun = some (counted l 0)
-counted_begin l x (BeginAnswer.Refused n) = x
+unfoldable pub counted_begin : ℕ → Option Counted → CallReply → Option Counted
+counted_begin l x (Ok _) = some (counted l 0)
+counted_begin l x (Err c) = x
 
-unfoldable pub counted_step : Option Counted → StepAnswer → Option Counted
+unfoldable pub counted_step : Option Counted → StepReply → Option Counted
 counted_step none a = none
-counted_step (some x) StepAnswer.Waiting = some x
-counted_step (some x) StepAnswer.Moved = some (counted x.limit (x.taken + 1))
-counted_step (some x) (StepAnswer.Done a s) = none
-counted_step (some x) (StepAnswer.Refused n) = some x
+counted_step (some x) (Ok StepAnswer.Waiting) = some x
+counted_step (some x) (Ok StepAnswer.Moved) = some (counted x.limit (x.taken + 1))
+counted_step (some x) (Ok (StepAnswer.Done a s)) = none
+counted_step (some x) (Err c) = some x
 
-unfoldable pub counted_withdraw : Option Counted → WithdrawAnswer → Option Counted
-counted_withdraw x WithdrawAnswer.Withdrawn = none
-counted_withdraw x (WithdrawAnswer.Refused n) = x
+unfoldable pub counted_withdraw : Option Counted → CallReply → Option Counted
+counted_withdraw x (Ok _) = none
+counted_withdraw x (Err c) = x
 
 -- ---- A list of events
 

@@ -6,14 +6,12 @@
 -- one takes effect, and whether it has); Linearized and Placed (an operation in its place), StandsBefore;
 -- answers_in_order and map_after (the plain map, operation by operation); Linearization.
 -- The theorem that every list of calls has one is in proofs/Linearization.antt.
-use Rattle.std.specs.Prelude.{◌≡◌, Bool, true, false, cond, ◌&&◌, ◌||◌, ℕ, ◌+◌, ◌<◌, eqb, ltb, leb}
+use Rattle.std.specs.Prelude.{◌≡◌, Bool, true, false, cond, ◌&&◌, ◌||◌, ℕ, ◌+◌, ◌<◌, eqb, ltb, leb, Ok, Err}
 use mathlib.Core.List.{List, [], ◌∷◌, ◌++◌, Memᴰ}
 use Rattle.std.proofs.Math.Option.{Option, none, some}
 use Rattle.model.specs.declared.Operation.{Operation}
 use Rattle.model.specs.declared.OperationAnswer.{OperationAnswer}
 use Rattle.model.specs.declared.StepAnswer.TheVariants as StepAnswer
-use Rattle.model.specs.declared.BeginAnswer.TheVariants as BeginAnswer
-use Rattle.model.specs.declared.WithdrawAnswer.TheVariants as WithdrawAnswer
 use Rattle.model.specs.Answers.{answer_number, performs}
 use Rattle.model.specs.Steps.Write.{is_change}
 use Rattle.model.specs.Withdraw.{is_decided}
@@ -46,12 +44,12 @@ pub record Operated : Type 0 where
 -- The end that a reply is: a done, with its answer, or a withdraw accepted, without one.
 unfoldable pub end_in : Reply → Option (Option OperationAnswer)
 end_in (to_begin x) = none
-end_in (to_step StepAnswer.Waiting) = none
-end_in (to_step StepAnswer.Moved) = none
-end_in (to_step (StepAnswer.Done a s)) = some (some a)
-end_in (to_step (StepAnswer.Refused n)) = none
-end_in (to_withdraw WithdrawAnswer.Withdrawn) = some none
-end_in (to_withdraw (WithdrawAnswer.Refused n)) = none
+end_in (to_step (Ok StepAnswer.Waiting)) = none
+end_in (to_step (Ok StepAnswer.Moved)) = none
+end_in (to_step (Ok (StepAnswer.Done a s))) = some (some a)
+end_in (to_step (Err c)) = none
+end_in (to_withdraw (Ok _)) = some none
+end_in (to_withdraw (Err c)) = none
 
 -- The end that a call brings to party q.
 unfoldable pub end_to : ℕ → Call → Reply → Option (Option OperationAnswer)
@@ -72,9 +70,9 @@ first_end q n (e ∷ es) = or_later n (end_to q e.call e.reply) (first_end q (n 
 -- A begin answered ok enters its operation, whose end is the first one that its party gets after it; no other call
 -- enters any.
 unfoldable pub entering : ℕ → Call → Reply → List Event → List Operated → List Operated
-entering n (begin_for q o k) (to_begin BeginAnswer.Begun) later rest =
+entering n (begin_for q o k) (to_begin (Ok _)) later rest =
     record { begun = n; party = q; operation = o; key = k; ended = first_end q (n + 1) later } ∷ rest
-entering n (begin_for q o k) (to_begin (BeginAnswer.Refused x)) later rest = rest
+entering n (begin_for q o k) (to_begin (Err x)) later rest = rest
 entering n (begin_for q o k) (to_step x) later rest = rest
 entering n (begin_for q o k) (to_withdraw x) later rest = rest
 entering n (step_for q) x later rest = rest
@@ -177,7 +175,7 @@ pub record Placed (es : List Event) (x : Linearized) : Type 0 where
   pub before_end : (y : Ended) → x.operated.ended ≡ some y → x.point < y.call
   pub same_answer_lem : (y : Ended) → x.operated.ended ≡ some y → y.answer ≡ some x.answer
   pub decisive : event_at es x.point
-      ≡ some (record { call = step_for x.operated.party; number = decisive_step x.operated.operation x.answer; reply = to_step StepAnswer.Moved })
+      ≡ some (record { call = step_for x.operated.party; number = decisive_step x.operated.operation x.answer; reply = to_step (Ok StepAnswer.Moved) })
   pub last : (j : ℕ) → x.point < j → is_before j x.operated.ended ≡ true → marks x.operated.party (event_at es j) ≡ false
 
 -- x stands before y in an order.

@@ -5,10 +5,8 @@
 -- 17 or 26).
 -- Main definitions: Clock (when each link was read and each page given back), Trace, trace_of and trace_of_withdraw (what
 -- each step, and a withdraw, follows, reads and gives back); links_fresh (over a whole list).
-use Rattle.std.specs.Prelude.{Bool, true, false, cond, ◌&&◌, List, [], ◌∷◌, ◌++◌, map, ℕ, ◌+◌, ltb, eqb}
-use Rattle.model.specs.declared.StepAnswer.{StepAnswer}
-use Rattle.model.specs.declared.WithdrawAnswer.{WithdrawAnswer}
-use Rattle.model.specs.Answers.{is_moved, performs}
+use Rattle.std.specs.Prelude.{Bool, true, false, cond, ◌&&◌, List, [], ◌∷◌, ◌++◌, map, ℕ, ◌+◌, ltb, eqb, Ok, Err}
+use Rattle.model.specs.Answers.{is_moved, performs, StepReply, CallReply}
 use Rattle.model.specs.Pages.{page_of, link_of, primary_page, linked_page}
 use Rattle.model.specs.Chains.{chain_of, list_from, pages_in, pages_listed}
 use Rattle.model.specs.FreeList.{is_among}
@@ -59,7 +57,7 @@ walked_from s t [] = []
 walked_from s t (x ∷ xs) = follow s x ∷ read_now t xs
 
 -- 9: a move follows the scratch page's link and reads the next one into scratch.
-unfoldable pub trace_nine : View → ℕ → StepAnswer → Trace
+unfoldable pub trace_nine : View → ℕ → StepReply → Trace
 trace_nine v s a = cond (is_moved a) (trace (follow s (linked_page (link_of (scratch_of v))) ∷ []) true false []) no_trace
 
 -- 10, 17 and 26: chains looked through whole in this call; whether the old link was set.
@@ -85,7 +83,7 @@ trace_twenty_nine v s t =
 
 -- What the step performed in call t does with links: its number, the view it met, its answer, the record's step number
 -- after it; s and o are the calls at which the party's scratch link and old link were read.
-unfoldable pub trace_of : ℕ → ℕ → View → StepAnswer → ℕ → ℕ → ℕ → Trace
+unfoldable pub trace_of : ℕ → ℕ → View → StepReply → ℕ → ℕ → ℕ → Trace
 trace_of t k v a next s o =
     let c = v.party.chain in
     cond (eqb k 6) (trace [] true false [])
@@ -119,11 +117,11 @@ trace_of_step k m q =
 
 -- A withdraw accepted at 11: the list that scratch leads to, walked and given back. At every other step number it has
 -- no pages.
-unfoldable pub trace_answered : Clock → Memory → ℕ → WithdrawAnswer → Trace
-trace_answered k m q WithdrawAnswer.Withdrawn =
+unfoldable pub trace_answered : Clock → Memory → ℕ → CallReply → Trace
+trace_answered k m q (Ok _) =
     let xs = pages_listed (built_pages (view_of m q)) in
     trace (walked_from (k.scratch_read q) (k.calls + 1) xs) false false xs
-trace_answered k m q (WithdrawAnswer.Refused n) = no_trace
+trace_answered k m q (Err c) = no_trace
 
 unfoldable pub trace_of_withdraw : Clock → Memory → ℕ → Trace
 trace_of_withdraw k m q = trace_answered k m q (withdraw_call m q).answer

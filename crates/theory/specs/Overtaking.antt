@@ -2,11 +2,10 @@
 -- Main definitions: waits_then, waits_on (who waits, by the events alone), wait_stays (a wait that does not end);
 -- WaitsFor; NobodyOvertaken, SameWant (what one waits for stays), passes_by, passes_all and PassedOnce, RowIsLedger,
 -- WaitsAgain, RestsClear. The theorems are in proofs/Overtaking.antt.
-use Rattle.std.specs.Prelude.{◌≡◌, Bool, true, false, cond, not, ◌&&◌, ◌||◌, List, [], ◌∷◌, ◌++◌, ℕ, ◌+◌, ◌-◌, ◌≤◌, length, replicate, eqb}
+use Rattle.std.specs.Prelude.{◌≡◌, Bool, true, false, cond, not, ◌&&◌, ◌||◌, List, [], ◌∷◌, ◌++◌, ℕ, ◌+◌, ◌-◌, ◌≤◌, length, replicate, eqb, Ok, Err}
 use Rattle.std.proofs.Math.Option.{Option, none, some}
 use Rattle.model.specs.declared.Root.{Root}
 use Rattle.model.specs.declared.StepAnswer.{StepAnswer}
-use Rattle.model.specs.declared.WithdrawAnswer.TheVariants as WithdrawAnswer
 use Rattle.model.specs.Answers.{is_moved, performs}
 use Rattle.model.specs.LockWords.{Claim, table_one}
 use Rattle.model.specs.WaitingRow.{all_zero}
@@ -21,18 +20,18 @@ use Rattle.theory.specs.Demands.{Start, start, sizes_of, Reached, book_reached, 
 -- A step answered waiting.
 unfoldable pub answers_waiting : Reply → Bool
 answers_waiting (to_begin a) = false
-answers_waiting (to_step StepAnswer.Waiting) = true
-answers_waiting (to_step StepAnswer.Moved) = false
-answers_waiting (to_step (StepAnswer.Done a s)) = false
-answers_waiting (to_step (StepAnswer.Refused n)) = false
+answers_waiting (to_step (Ok StepAnswer.Waiting)) = true
+answers_waiting (to_step (Ok StepAnswer.Moved)) = false
+answers_waiting (to_step (Ok (StepAnswer.Done a s))) = false
+answers_waiting (to_step (Err c)) = false
 answers_waiting (to_withdraw a) = false
 
 -- A step answered moved or done, or a withdraw accepted; a refused begin or withdraw ends no wait.
 unfoldable pub ends_wait : Reply → Bool
 ends_wait (to_begin a) = false
 ends_wait (to_step a) = performs a
-ends_wait (to_withdraw WithdrawAnswer.Withdrawn) = true
-ends_wait (to_withdraw (WithdrawAnswer.Refused n)) = false
+ends_wait (to_withdraw (Ok _)) = true
+ends_wait (to_withdraw (Err c)) = false
 
 -- Whether party p waits after an event, where it did (w) or did not before.
 unfoldable pub waits_then : ℕ → Bool → Event → Bool
@@ -66,7 +65,7 @@ pub record WaitsFor (s : Start) (cs : List Call) (p : ℕ) (c : Claim) : Type 0 
 pub record NobodyOvertaken (s : Start) (cs ds : List Call) (p q : ℕ) (c d : Claim) : Type 0 where
   pub waits_too : WaitsFor s cs p c → waits_after_events q (events (start s) cs) ≡ false → wait_stays p (events (Reached s cs) ds) ≡ true
       → wanted_by (sizes_of s) (Reached s (cs ++ ds)) q ≡ some d → d.word ≡ c.word → table_one d.mode c.mode ≡ false
-      → (step_call (Reached s (cs ++ ds)) q).answer ≡ StepAnswer.Waiting
+      → (step_call (Reached s (cs ++ ds)) q).answer ≡ Ok StepAnswer.Waiting
 
 -- What one waits for stays.
 pub record SameWant (s : Start) (cs ds : List Call) (p : ℕ) (c : Claim) : Type 0 where
@@ -124,7 +123,7 @@ pub record RowIsLedger (s : Start) (cs : List Call) : Type 0 where
 
 -- A waiting call of one that waits alters nothing.
 pub record WaitsAgain (s : Start) (cs : List Call) (p : ℕ) : Type 0 where
-  pub again : waits_after_events p (events (start s) cs) ≡ true → (step_call (Reached s cs) p).answer ≡ StepAnswer.Waiting → (step_call (Reached s cs) p).memory ≡ Reached s cs
+  pub again : waits_after_events p (events (start s) cs) ≡ true → (step_call (Reached s cs) p).answer ≡ Ok StepAnswer.Waiting → (step_call (Reached s cs) p).memory ≡ Reached s cs
 
 -- Where nobody is under way the row is zero.
 pub record RestsClear (s : Start) (cs : List Call) : Type 0 where

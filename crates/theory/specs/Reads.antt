@@ -6,7 +6,8 @@
 -- read, and what is given back).
 -- The theorems, of every memory, are proofs/StepReads/Followed.antt (every call that is accepted reads alike) and
 -- TrueTraces.antt (every call that moves or is done has a true trace); of a withdraw, proofs/StepReads/Withdraws.antt.
-use Rattle.std.specs.Prelude.{◌≡◌, ◌≢◌, Bool, true, false, not, ◌&&◌, ◌||◌, List, [], ◌∷◌, ◌++◌, map, ℕ, ◌+◌, ◌-◌, ◌<◌, length, ltb, leb}
+use Rattle.std.specs.Prelude.{◌≡◌, ◌≢◌, Bool, true, false, not, ◌&&◌, ◌||◌, List, [], ◌∷◌, ◌++◌, map, ℕ, ◌+◌, ◌-◌, ◌<◌, length, ltb, leb, Ok, Err}
+use Rattle.model.specs.Answers.{StepReply}
 use Rattle.model.specs.declared.Root.{Root}
 use Rattle.model.specs.declared.StepAnswer.{StepAnswer}
 use Rattle.model.specs.Pages.{page_of, link_of, free_page, primary_page, scratch_page, link_to, link_to_first}
@@ -20,11 +21,11 @@ use Rattle.model.specs.Effects.{record_before, record_after, withdraw_after}
 use Rattle.model.specs.PagePlaces.{pages_drawn}
 
 -- Whether a call was accepted: it moved, waits or is done.
-unfoldable pub is_accepted : StepAnswer → Bool
-is_accepted StepAnswer.Waiting = true
-is_accepted StepAnswer.Moved = true
-is_accepted (StepAnswer.Done a s) = true
-is_accepted (StepAnswer.Refused n) = false
+unfoldable pub is_accepted : StepReply → Bool
+is_accepted (Ok StepAnswer.Waiting) = true
+is_accepted (Ok StepAnswer.Moved) = true
+is_accepted (Ok (StepAnswer.Done a s)) = true
+is_accepted (Err c) = false
 
 -- The pages that links followed lead to.
 unfoldable pub pages_followed : List Follow → List ℕ

@@ -5,11 +5,9 @@
 -- Main definitions: Restored (all lent memory, word for word); writes_map and MapStays (which calls alter the map, and
 -- what it is that stays), withdrawn_unwritten (a withdrawn operation has made no such call), WithdrawalsRight. The
 -- theorems are in proofs/Restored.antt and proofs/Withdrawals.antt.
-use Rattle.std.specs.Prelude.{◌≡◌, Bool, true, false, cond, not, ◌&&◌, List, [], ◌∷◌, ◌++◌, ℕ}
+use Rattle.std.specs.Prelude.{◌≡◌, Bool, true, false, cond, not, ◌&&◌, List, [], ◌∷◌, ◌++◌, ℕ, Ok, Err}
+use Rattle.model.specs.declared.Refusal.{Refusal}
 use Rattle.model.specs.declared.Party.{Party}
-use Rattle.model.specs.declared.BeginAnswer.TheVariants as BeginAnswer
-use Rattle.model.specs.declared.WithdrawAnswer.{WithdrawAnswer}
-use Rattle.model.specs.Refusals.{decided_refusal}
 use Rattle.model.specs.Withdraw.{is_decided}
 use Rattle.model.specs.Memory.{Memory, party_at}
 use Rattle.model.specs.Calls.{begin_call, withdraw_call}
@@ -41,11 +39,11 @@ record_there s cs x n = party_at (at_withdraw s cs x n).parties x.party
 pub record Restored (s : Start) (cs : List Call) (x : Wanted) (n : ℕ) : Type 0 where
   -- "In memory the index alone has changed, with no other party's call in between, all is what it was before begin":
   -- each lent word.
-  pub restored : (begin_call (Reached s cs) x.party x.operation x.key).answer ≡ BeginAnswer.Begun
-      → (withdraw_call (at_withdraw s cs x n) x.party).answer ≡ WithdrawAnswer.Withdrawn → Reached s (cs ++ calls_withdrawn x n) ≡ Reached s cs
+  pub restored : (begin_call (Reached s cs) x.party x.operation x.key).answer ≡ Ok tt
+      → (withdraw_call (at_withdraw s cs x n) x.party).answer ≡ Ok tt → Reached s (cs ++ calls_withdrawn x n) ≡ Reached s cs
   -- Before it is answered, the withdraw is accepted exactly while the decisive step is not taken.
   pub accepted : under_way (book_reached s (cs ++ calls_begun x n)) x.party ≡ true
-      → (withdraw_call (at_withdraw s cs x n) x.party).answer ≡ cond (is_decided (record_there s cs x n)) (WithdrawAnswer.Refused decided_refusal) WithdrawAnswer.Withdrawn
+      → (withdraw_call (at_withdraw s cs x n) x.party).answer ≡ cond (is_decided (record_there s cs x n)) (Err Refusal.Decided) (Ok tt)
 
 -- ---- The map
 
@@ -73,8 +71,8 @@ unwritten w (begin_for q o k) x = true
 unwritten w (step_for q) x = true
 unwritten w (withdraw_for q) (to_begin a) = true
 unwritten w (withdraw_for q) (to_step a) = true
-unwritten w (withdraw_for q) (to_withdraw WithdrawAnswer.Withdrawn) = not (w q)
-unwritten w (withdraw_for q) (to_withdraw (WithdrawAnswer.Refused n)) = true
+unwritten w (withdraw_for q) (to_withdraw (Ok _)) = not (w q)
+unwritten w (withdraw_for q) (to_withdraw (Err c)) = true
 
 -- Over the events of a run.
 unfoldable pub withdrawn_unwritten : (ℕ → Bool) → List Event → Bool

@@ -1,5 +1,5 @@
 -- Text in a buffer: parts of it, and the start of an unfinished line, which is moved to the front and may be cut.
--- Main statements: drop-take, part-drop, part_length, part_front, part_none, part_byte; kept_more (one byte more moved);
+-- Main statements: drop-take, part-drop, part_length, part_front, part_none, part_byte;
 -- cut_kept (an unfinished line may be cut).
 use mathlib.Core.Path.{◌≡◌, refl, sym, ◌∙◌, ap}
 use mathlib.Core.Bool.{Bool, true, false, cond}
@@ -7,8 +7,8 @@ use mathlib.Core.List.{List, [], ◌∷◌, ◌++◌, append-nil}
 use Prim.Native.Nat.{ℕ, zero, suc, ◌+◌, ◌-◌, ◌<◌, ◌≤◌, suc-le-suc}
 use native.Mathlib.Nat.{le_of_suc-le-suc, not-suc-le-zero}
 use native.Mathlib.Omega.{arith}
-use lib.ListN.{length, get_or, take, drop, set, length-drop}
-use lib.Seq.{length-take-le, append_snoc, take-nil, take_all, take-suc, take-suc-set, drop-set-lt, drop-drop, get_or-drop}
+use lib.ListN.{length, take, drop, set, length-drop}
+use lib.Seq.{length-take-le, append_snoc, take-nil, take_all, drop-drop}
 use lib.Dec.{eqb}
 use Rattle.model.specs.Memory.{Memory}
 use Rattle.model.proofs.Laws.Lists.{Ord, lt, ge, ord}
@@ -44,21 +44,6 @@ byte_there (y ∷ b) (suc k) x h = byte_there b k x (le_of_suc-le-suc h)
 
 pub part_byte : (b : List ℕ) (k x : ℕ) → k < length b → part (set b k x) k (k + 1) ≡ x ∷ []
 part_byte b k x h = let one : k + 1 - k ≡ 1 = omega arith in ap (λ (n : ℕ). take n (drop k (set b k x))) one ∙ byte_there b k x h
-
--- Bytes moved to the front, one after the other: n of them stand there, and what lies behind is as it was.
-pub kept_more : (b₀ b : List ℕ) (from n x : ℕ) → from + n < length b₀ → length b ≡ length b₀ → x ≡ get_or b (from + n) 0 → take n b ≡ take n (drop from b₀) → drop n b ≡ drop n b₀
-    → (take (n + 1) (set b n x) ≡ take (n + 1) (drop from b₀)) × (drop (n + 1) (set b n x) ≡ drop (n + 1) b₀)
-kept_more b₀ b from n x inside long read front behind =
-    let next : n + 1 ≡ suc n = omega arith in
-    let other : n + from ≡ from + n = omega arith in
-    let same : x ≡ get_or (drop from b₀) n 0 =
-    read ∙ ap (λ (k : ℕ). get_or b k 0) (sym other) ∙ sym (get_or-drop n b from 0) ∙ ap (λ (l : List ℕ). get_or l from 0) behind ∙ get_or-drop n b₀ from 0
-    ∙ ap (λ (k : ℕ). get_or b₀ k 0) other ∙ sym (get_or-drop from b₀ n 0) in
-    let left = length-drop from b₀ in (
-      ap (λ (k : ℕ). take k (set b n x)) next ∙ take-suc-set b n x (omega (arith, inside, long)) ∙ ap (λ (l : List ℕ). l ++ (x ∷ [])) front ∙ ap (λ (y : ℕ). take n (drop from b₀) ++ (y ∷ [])) same
-          ∙ sym (take-suc (drop from b₀) n 0 (omega (arith, left, inside))) ∙ ap (λ (k : ℕ). take k (drop from b₀)) (sym next),
-      drop-set-lt (n + 1) b n x (omega arith) ∙ sym (drop-drop 1 n b) ∙ ap (λ (l : List ℕ). drop 1 l) behind ∙ drop-drop 1 n b₀,
-    )
 
 -- ---- An unfinished line
 

@@ -1,6 +1,6 @@
 -- A turn, and turns one after the other: what is printed and held is what the definition says of all the text read,
 -- whatever the blocks were.
--- Main statements: rest_answered, none-answered (lines of a part); more_answered, read-answered (a turn without and
+-- Main statements: rest_answered (lines of a part); more_answered, read_answered (a turn without and
 -- with a read); replies_told (what is written); Turned, text_answered_lem, all_answered (turns one after the other).
 use mathlib.Core.Path.{◌≡◌, refl, sym, ◌∙◌, ap}
 use mathlib.Core.List.{List, [], ◌++◌, append-nil, append_assoc}
@@ -9,7 +9,7 @@ use lib.ListN.{length, take, drop, take-append-drop}
 use lib.Seq.{take-take}
 use Rattle.model.specs.Memory.{Memory}
 use Rattle.model.specs.Calls.{called}
-use Rattle.held.proofs.Ends.{first_of_lem}
+use Rattle.lines.proofs.Words.{first_of_lem}
 use Rattle.lines.specs.Texts.{line_length, printed_before, text_answered}
 use Rattle.lines.proofs.Texts.{no_line}
 use Rattle.turns.specs.Turned.{part, most_kept, AnsweredTo, RepliesTo}
@@ -19,11 +19,6 @@ use Rattle.turns.proofs.Parts.{drop-take, part-drop, part_length, part_front, pa
 pub rest_answered : (b : List ℕ) (from to j : ℕ) (m n : Memory) (p : List ℕ)
     → ((t : List ℕ) → text_answered [] (part b from to ++ t) m ≡ printed_before p (text_answered [] (drop j (part b from to) ++ t) n)) → AnsweredTo (part b from to) m p (part b (from + j) to) n
 rest_answered b from to j m n p said t = said t ∙ ap (λ (l : List ℕ). printed_before p (text_answered [] (l ++ t) n)) (part-drop b from j to)
-
--- None was.
-pub none-answered : (u : List ℕ) (j : ℕ) (m n : Memory) (p : List ℕ) → j ≡ 0
-    → ((t : List ℕ) → text_answered [] (u ++ t) m ≡ printed_before p (text_answered [] (drop j u ++ t) n)) → AnsweredTo u m p u n
-none-answered u j m n p e said t = said t ∙ ap (λ (k : ℕ). printed_before p (text_answered [] (drop k u ++ t) n)) e
 
 -- No byte was read.
 pub more_answered : (b : List ℕ) (from to : ℕ) (m n : Memory) (p v : List ℕ) → AnsweredTo (part b from to) m p v n → AnsweredTo (part b from to ++ part b to to) m p v n

@@ -11,12 +11,14 @@
 #![tactic(auto)]
 
 ghost use Rattle.std.specs.Prelude.{◌≡◌, true, false, [], ◌∷◌, ◌++◌, ◌+◌, ◌-◌, ◌≤◌, ◌<◌, min, length, take, drop};
-ghost use Rattle.held.specs.Held.{held_in};
+ghost use Rattle.lines.specs.Held.{held_in};
 ghost use Rattle.lines.specs.Texts.{newline, line_length};
 ghost use Rattle.turns.specs.Turned.{part, AnsweredTo, RepliesTo, most_kept};
+ghost use Rattle.turns.specs.declared.Source.TheVariants as Source;
 
 use forms::LONGEST_FORM;
-use model::Root;
+use lines::{File, Lines};
+use model::{Party, Root};
 use std::io::Read;
 
 const NEWLINE: u8 = b'\n';
@@ -27,10 +29,9 @@ const MOST_KEPT: usize = LONGEST_FORM + 1;
 
 // The state between two turns. The text of the turn stands in the input buffer from `start` to `to`; from `from` on it
 // is not yet answered; the bytes that came last stand from `read` on. The first `end` bytes of the output buffer are
-// the replies. Whether that text may have a whole line, whether to read on, and whether there is another turn.
+// the replies. Whether that text may have a whole line, and whether to read on.
 #[derive(Clone, Copy)]
 struct State {
-    root: Root,
     start: usize,
     from: usize,
     read: usize,
@@ -38,55 +39,27 @@ struct State {
     end: usize,
     whole: bool,
     reads_on: bool,
-    goes_on: bool,
 }
 
-// What a read left: whether there may be more, whether it failed, and how many bytes of the buffer hold text.
+// Whether there may be more to read, the input has ended, or a read failed.
+#[derive(Clone, Copy, PartialEq, Eq)]
+enum Source {
+    Open,
+    Ended,
+    Failed,
+}
+
+// What a read left: how many bytes of the buffer hold text, and what the source is after it.
 #[derive(Clone, Copy)]
 struct Input {
-    more: bool,
-    failed: bool,
     end: usize,
-}
-
-// The root record after lines of a text, where the first line not answered begins, the end of the replies, and whether
-// a line was answered.
-#[derive(Clone, Copy)]
-struct Rest {
-    root: Root,
-    from: usize,
-    end: usize,
-    whole: bool,
-}
-
-// The root record as it starts: zero.
-fn no_root() -> Root {
-    Root {
-        originals: 0,
-        capacity: 0,
-        primaries: 0,
-        overflow: 0,
-        parties: 0,
-        level: 0,
-        next: 0,
-        head: 0,
-        free: 0,
-    }
+    source: Source,
 }
 
 // Writes the replies of a turn to standard output; where that fails, says so. The state, the memory and the input
 // buffer are those that the turn left.
-fn put(
-    rt: &(impl Print + Eprint),
-    text: &[u8],
-    s: State,
-    row: &[[u32; 10]],
-    locks: &[u32],
-    pages: &[u32],
-    waiting: &[u32],
-    input: &[u8],
-) -> bool
-    requires { RepliesTo (part input.now s.start s.to) text.now (part input.now s.from s.to) (held_in s.root row.now locks.now pages.now waiting.now) }
+fn put(rt: &(impl Print + Eprint), text: &[u8], s: State, file: &File, input: &[u8]) -> bool
+    requires { RepliesTo (part input.now s.start s.to) text.now (part input.now s.from s.to) (held_in file.now) }
 {
     let written = rt.write_all(text).is_ok();
     if !written {
@@ -101,82 +74,46 @@ fn read_on(rt: &impl Eprint, reader: &mut impl Read, input: &mut [u8], kept: usi
     requires { kept < length input.old }
     ensures kept_le_end { (kept ≤ result.end) × (result.end ≤ length input.new) }
     ensures input_unchanged { take kept input.new ≡ take kept input.old }
-    ensures end_after { result.more ≡ false → result.failed ≡ false → (0 < kept → part input.new kept result.end ≡ newline ∷ []) × (kept ≡ 0 → result.end ≡ 0) }
+    ensures end_after { result.source ≡ Source.Ended → (0 < kept → part input.new kept result.end ≡ newline ∷ []) × (kept ≡ 0 → result.end ≡ 0) }
 {
     let Ok(n) = reader.read(&mut input[kept..]) else {
         let _ = rt.eprint("turns: standard input cannot be read\n");
         return Input {
-            more: false,
-            failed: true,
             end: kept,
+            source: Source::Failed,
         };
     };
-    if 0 < n {
+    if n > 0 {
         return Input {
-            more: true,
-            failed: false,
             end: kept + n,
+            source: Source::Open,
         };
     }
-    if 0 < kept {
+    if kept > 0 {
         input[kept] = NEWLINE;
         return Input {
-            more: false,
-            failed: false,
             end: kept + 1,
+            source: Source::Ended,
         };
     }
     Input {
-        more: false,
-        failed: false,
         end: kept,
+        source: Source::Ended,
     }
 }
 
 // Answers lines of the text from a place of the buffer to another, as many as there is room to reply to.
-fn answer_rest(
-    input: &[u8],
-    from: usize,
-    to: usize,
-    root: Root,
-    row: &mut [[u32; 10]],
-    locks: &mut [u32],
-    pages: &mut [u32],
-    waiting: &mut [u32],
-    out: &mut [u8],
-) -> Rest
+fn answer_rest(input: &[u8], from: usize, to: usize, file: &mut File, out: &mut [u8]) -> Lines
     requires { (from ≤ to) × (to ≤ length input.now) × (58 ≤ length out.old) }
-    ensures from_le_to { (result.from ≤ to) × (result.end ≤ length out.new) }
-    ensures to_value { result.whole ≡ false → line_length (part input.now result.from to) ≡ length (part input.now result.from to) }
-    ensures answered_to { AnsweredTo (part input.now from to) (held_in root row.old locks.old pages.old waiting.old) (take result.end out.new) (part input.now result.from to) (held_in result.root row.new locks.new pages.new waiting.new) }
+    ensures from_le_to { (from ≤ result.from) × (result.from ≤ to) × (result.end ≤ length out.new) }
+    ensures to_value { result.from ≤ from → line_length (part input.now result.from to) ≡ length (part input.now result.from to) }
+    ensures answered_to { AnsweredTo (part input.now from to) (held_in file.old) (take result.end out.new) (part input.now result.from to) (held_in file.new) }
 {
-    let l = lines::answer_lines(&input[from..to], root, row, locks, pages, waiting, out);
-    let after = l.root;
-    let end = l.end;
-    if l.from == 0 {
-        return Rest {
-            root: after,
-            from,
-            end,
-            whole: false,
-        };
+    let answered = lines::answer_lines(&input[from..to], file, out);
+    Lines {
+        from: from + answered.from,
+        end: answered.end,
     }
-    Rest {
-        root: after,
-        from: from + l.from,
-        end,
-        whole: true,
-    }
-}
-
-// How many bytes of an unfinished line of so many are kept.
-fn most_kept(bytes: usize) -> usize
-    ensures { (result ≡ min most_kept bytes) × (result ≤ bytes) × (result ≤ 64) }
-{
-    if MOST_KEPT < bytes {
-        return MOST_KEPT;
-    }
-    bytes
 }
 
 // Moves the start of an unfinished line to the front of the buffer: how many bytes of it are kept.
@@ -185,13 +122,9 @@ fn keep(input: &mut [u8], from: usize, to: usize) -> usize
     ensures value { (result ≡ min most_kept (to - from)) × (result ≤ to - from) × (result ≤ 64) }
     ensures input_after { take result input.new ≡ take result (drop from input.old) }
 {
-    let most = most_kept(to - from);
-    let mut n = 0;
-    while n < most {
-        input[n] = input[from + n];
-        n += 1;
-    }
-    most
+    let kept = MOST_KEPT.min(to - from);
+    input.copy_within(from..from + kept, 0);
+    kept
 }
 
 // Answers lines of the text that stands in the buffer; where it has no whole line, reads once first.
@@ -199,10 +132,7 @@ fn turn(
     rt: &impl Eprint,
     reader: &mut impl Read,
     s: State,
-    row: &mut [[u32; 10]],
-    locks: &mut [u32],
-    pages: &mut [u32],
-    waiting: &mut [u32],
+    file: &mut File,
     input: &mut [u8],
     out: &mut [u8],
 ) -> State
@@ -210,60 +140,49 @@ fn turn(
     requires to_value { s.whole ≡ false → line_length (part input.old s.from s.to) ≡ length (part input.old s.from s.to) }
     ensures from_le_to_2 { (result.from ≤ result.to) × (result.to ≤ length input.new) × (result.end ≤ length out.new) }
     ensures to_after { result.whole ≡ false → line_length (part input.new result.from result.to) ≡ length (part input.new result.from result.to) }
-    ensures replies_to { RepliesTo (part input.new result.start result.to) (take result.end out.new) (part input.new result.from result.to) (held_in result.root row.new locks.new pages.new waiting.new) }
+    ensures replies_to { RepliesTo (part input.new result.start result.to) (take result.end out.new) (part input.new result.from result.to) (held_in file.new) }
     ensures read_value { (s.whole ≡ true → (result.read ≡ s.to) × (result.to ≡ s.to)) × (s.whole ≡ false → result.read ≡ min most_kept (s.to - s.from)) }
-    ensures answered_to { AnsweredTo (part input.old s.from s.to ++ part input.new result.read result.to) (held_in s.root row.old locks.old pages.old waiting.old) (take result.end out.new) (part input.new result.from result.to) (held_in result.root row.new locks.new pages.new waiting.new) }
+    ensures answered_to { AnsweredTo (part input.old s.from s.to ++ part input.new result.read result.to) (held_in file.old) (take result.end out.new) (part input.new result.from result.to) (held_in file.new) }
 {
-    let before = s.root;
     if s.whole {
-        let a = answer_rest(input, s.from, s.to, before, row, locks, pages, waiting, out);
-        let after = a.root;
+        let a = answer_rest(input, s.from, s.to, file, out);
         return State {
-            root: after,
             start: s.from,
             from: a.from,
             read: s.to,
             to: s.to,
             end: a.end,
-            whole: a.whole,
+            whole: a.from > s.from,
             reads_on: s.reads_on,
-            goes_on: a.whole | s.reads_on,
         };
     }
     let kept = keep(input, s.from, s.to);
     let i = read_on(rt, reader, input, kept);
-    let to = i.end;
-    let b = answer_rest(input, 0, to, before, row, locks, pages, waiting, out);
-    let left = b.root;
+    let b = answer_rest(input, 0, i.end, file, out);
     State {
-        root: left,
         start: 0,
         from: b.from,
         read: kept,
-        to,
+        to: i.end,
         end: b.end,
-        whole: b.whole,
-        reads_on: i.more,
-        goes_on: b.whole | i.more,
+        whole: b.from > 0,
+        reads_on: i.source == Source::Open,
     }
 }
 
 // Turns until the input ends or a read or a write fails; the replies of each turn are written before the next. A proved
-// loop has to end, and nothing says that the input does: so it counts down, from a number that no run uses up.
+// loop has to end, and nothing says that the input does: so it counts, to a number that no run uses up.
+#[tactic(auto, unfolding(lines::specs::Texts::line_length))]
 fn run(
     rt: &(impl Print + Eprint),
     reader: &mut impl Read,
-    row: &mut [[u32; 10]],
-    locks: &mut [u32],
-    pages: &mut [u32],
-    waiting: &mut [u32],
+    file: &mut File,
     input: &mut [u8],
     out: &mut [u8],
 )
     requires { (64 < length input.old) × (58 ≤ length out.old) }
 {
     let mut s = State {
-        root: no_root(),
         start: 0,
         from: 0,
         read: 0,
@@ -271,37 +190,35 @@ fn run(
         end: 0,
         whole: false,
         reads_on: true,
-        goes_on: true,
     };
-    let mut turns = u64::MAX;
-    while turns > 0 && s.goes_on {
-        s = turn(rt, reader, s, row, locks, pages, waiting, input, out);
-        let end = s.end;
-        if !put(rt, &out[0..end], s, row, locks, pages, waiting, input) {
+    for _ in 0..u64::MAX {
+        if !s.whole && !s.reads_on {
             return;
         }
-        turns -= 1;
+        s = turn(rt, reader, s, file, input, out);
+        if !put(rt, &out[..s.end], s, file, input) {
+            return;
+        }
     }
 }
 
 // Memory as it starts: zero. The records, lock words, page words and waiting row of the largest file, and the two
 // buffers.
 fn main(rt: HostRuntime) {
-    let mut row = [[0u32; 10]; 16];
+    let mut root = Root::default();
+    let mut row = [Party::default(); 16];
     let mut locks = [0u32; 257];
     let mut pages = [0u32; 16384];
     let mut waiting = [0u32; 16];
+    let mut file = File {
+        root: &mut root,
+        row: &mut row[..],
+        locks: &mut locks[..],
+        pages: &mut pages[..],
+        waiting: &mut waiting[..],
+    };
     let mut input = [0u8; 65600];
     let mut out = [0u8; 65536];
     let mut stdin = rt.stdin();
-    run(
-        &rt,
-        &mut stdin,
-        &mut row[..],
-        &mut locks[..],
-        &mut pages[..],
-        &mut waiting[..],
-        &mut input[..],
-        &mut out[..],
-    );
+    run(&rt, &mut stdin, &mut file, &mut input[..], &mut out[..]);
 }

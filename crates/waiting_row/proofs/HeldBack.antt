@@ -10,13 +10,15 @@ use lib.Dec.{eqb}
 use lib.ListN.{get_or, get_or-map}
 use Rattle.model.specs.declared.Root.{Root}
 use Rattle.model.specs.declared.Party.{Party}
+use Rattle.std.specs.Prelude.{Ok, Err}
 use Rattle.model.specs.declared.StepAnswer.TheVariants as StepAnswer
+use Rattle.model.specs.declared.Refusal.TheVariants as Refusal
 use Rattle.model.specs.LockWords.{Claim, permits}
 use Rattle.model.specs.Addresses.{split_barred, count_of_chains}
 use Rattle.model.specs.Pages.{names_overflow}
 use Rattle.model.specs.declared.Restructuring.TheVariants as Restructuring
 use Rattle.model.specs.Records.{idle, at_step}
-use Rattle.model.specs.Outcome.{View, outcome, damage, guarded, waits}
+use Rattle.model.specs.Outcome.{View, outcome, guarded, waits}
 use Rattle.model.specs.Endings.{ended_with}
 use Rattle.model.specs.LockRequests.{root_selective, root_exclusive, chain_exclusive, is_granted, request, lock_word}
 use Rattle.model.specs.Steps.Locate.{step01, step04}
@@ -49,7 +51,7 @@ module _ (v : View) (c : Claim) (behind : v.behind ≡ true) where
   held13 e = rw (eqb_same v.party.step 13 e) (go (names_overflow v.root v.party.old))
     where
       go : (b : Bool) → guarded v b (request v (chain_exclusive v.party) (at_step 14 v.party))
-          ≡ outcome (cond (true && not b) (StepAnswer.Refused damage) StepAnswer.Waiting) v
+          ≡ outcome (cond (true && not b) (Err Refusal.Damage) (Ok StepAnswer.Waiting)) v
       go true = request-waits (chain_exclusive v.party) (at_step 14 v.party)
       go false = refl
 

@@ -1,31 +1,29 @@
 -- The row looked through entry by entry says where a party stands.
--- Main statements: placed-right (what is seen at the end is place_of); alone_right (where nobody waits); waits-row (in a
+-- Main statements: placed_right (what is seen at the end is place_of); alone_right (where nobody waits); waits-row (in a
 -- row without a gap, a party's word is there where the party waits).
-use mathlib.Core.Path.{◌≡◌, refl, sym, ap, subst, ◌∙◌}
+use mathlib.Core.Path.{◌≡◌, refl, sym, ap, ◌∙◌}
 use mathlib.Core.Logic.{◌≢◌}
-use mathlib.Core.Bool.{Bool, true, false, cond, not, ◌&&◌, ◌||◌, and-false, and_comm, or_assoc, and_assoc}
+use mathlib.Core.Bool.{Bool, true, false, cond, not, ◌&&◌, ◌||◌, and-false, or_assoc, and_assoc}
 use mathlib.Core.List.{List, [], ◌∷◌}
 use mathlib.Core.Option.{Option, none, some}
 use Prim.Native.Nat.{ℕ, ◌+◌, ◌-◌, ◌≤◌, ◌<◌}
 use native.Mathlib.Omega.{arith}
-use lib.Dec.{T, eqb, ltb, leb}
+use Rattle.std.specs.Prelude.{Some, None, min}
+use lib.Dec.{eqb, ltb, leb}
 use lib.ListN.{length, take, drop, get_or, get_or-eq_default}
 use Rattle.model.specs.declared.Root.{Root}
 use Rattle.model.specs.declared.Party.{Party}
-use Rattle.model.specs.declared.Mode.{Mode}
-use Rattle.model.specs.declared.Mode.TheVariants.{Read, Selective, Exclusive}
 use Rattle.model.specs.Records.{idle}
-use Rattle.model.specs.LockWords.{Claim, table_one, field_of, with_field}
+use Rattle.model.specs.LockWords.{Claim, field_of, with_field}
 use Rattle.model.specs.FreeList.{is_among}
 use Rattle.model.specs.Steps.Dispatch.{has_step}
 use Rattle.model.specs.WaitingRow.{requests, is_some, waiters_in, all_zero, none_twice, all_request, row_sound, conflicts, one_before, behind_for, stands_behind}
 use Rattle.model.proofs.Laws.Fields.{field_same, bit_other, bit_zero}
-use Rattle.model.proofs.Laws.Lists.{Told, holds, fails, tell, Cmp, same, diff, cmp, Ord, lt, ge, ord, eqb_same, eqb-diff, eqb-true, eqb-false, lt-ltb, lt-leb, leb-false, or_neither, and_both}
+use Rattle.model.proofs.Laws.Lists.{Cmp, same, diff, cmp, Ord, lt, ge, ord, eqb_same, eqb-diff, eqb-true, lt-ltb, le-leb, lt-leb, and_both}
 use Rattle.waiting_row.specs.declared.Looking.{Looking}
-use Rattle.waiting_row.specs.Requested.{strength_of, strength_in, word_in, asks, clash}
-use Rattle.waiting_row.specs.Entry.{place_of, alone, named, most_of, first_seen, damaged_by, meets, looked_at, inside_of, record_for, looked_through, stands_of}
-use Rattle.waiting_row.proofs.Requests.{asks_sound, weak_none}
-use Rattle.waiting_row.proofs.Looks.{looks_damaged, looks_met}
+use Rattle.waiting_row.specs.Requested.{request_in, asks, hindered_by}
+use Rattle.waiting_row.specs.Entry.{place_of, alone, named, first_seen, damaged_by, meets, met_by, looked_at, looked_through, stands_of}
+use Rattle.waiting_row.proofs.Requests.{asks_sound, none-some}
 
 -- ---- Truth values
 
@@ -69,46 +67,15 @@ eqb-sym a b = go (cmp a b)
 
 -- ---- Requests as code has them
 
-some_asked : (o : Option Claim) → strength_in o ≢ 0 → is_some o ≡ true
-unfolding is_some
-some_asked none n = absurd (n refl)
-some_asked (some c) n = refl
-
 -- Whether a request stands in the way of another that came later.
 hinders : Option Claim → Option Claim → Bool
 hinders none d = false
 hinders (some c) d = conflicts d c
 
--- Table I by strengths.
-apart : (a b : Mode) → leb (4 - strength_of a) (strength_of b) ≡ not (table_one a b)
-unfolding table_one
-apart Read Read = refl
-apart Read Selective = refl
-apart Read Exclusive = refl
-apart Selective Read = refl
-apart Selective Selective = refl
-apart Selective Exclusive = refl
-apart Exclusive Read = refl
-apart Exclusive Selective = refl
-apart Exclusive Exclusive = refl
-
-too_weak : (a : Mode) → leb 4 (strength_of a) ≡ false
-too_weak Read = refl
-too_weak Selective = refl
-too_weak Exclusive = refl
-
-none_weak : (a : Mode) → leb (4 - strength_of a) 0 ≡ false
-none_weak Read = refl
-none_weak Selective = refl
-none_weak Exclusive = refl
-
-clashes_hinder : (o d : Option Claim) → clash (word_in o) (4 - strength_in o) d ≡ hinders o d
-unfolding clash hinders conflicts
-clashes_hinder none none = refl
-clashes_hinder none (some d) = rw (too_weak d.mode) refl
-clashes_hinder (some c) none = rw (none_weak c.mode) refl
-clashes_hinder (some c) (some d) =
-    rw (apart c.mode d.mode, eqb-sym c.word d.word) (and_comm (not (table_one c.mode d.mode)) (eqb d.word c.word))
+hindered_is : (o : Option Claim) (d : Claim) → hindered_by d (request_in o) ≡ hinders o (some d)
+unfolding hindered_by hinders conflicts
+hindered_is none d = refl
+hindered_is (some c) d = refl
 
 -- ---- The parties met
 
@@ -234,7 +201,7 @@ module _ (r : Root) (ps : List Party) (q : ℕ) where
   unfolding waiters_in
   waiters_nil _ = refl
 
-  last_next : (s : Looking) (w : ℕ) (ws : List ℕ) → w ≢ 0 → last s (w ∷ ws) ≡ last (looked_at s r q w (length ps) (record_for ps q w)) ws
+  last_next : (s : Looking) (w : ℕ) (ws : List ℕ) → w ≢ 0 → last s (w ∷ ws) ≡ last (looked_at s r ps q w) ws
   unfolding looked_through
   last_next s w ws z = rw (waiters_next w ws z) refl
 
@@ -248,35 +215,20 @@ module _ (r : Root) (ps : List Party) (q : ℕ) where
   hinders_none (some c) = refl
 
   module _ (small : r.parties ≤ 16) (long : length ps ≡ r.parties) (level : r.level ≤ 8) where
-    most_is : most_of (length ps) ≡ r.parties
-    unfolding most_of
-    most_is = go (ord (length ps) 16)
-      where
-        go : Ord (length ps) 16 → cond (ltb (length ps) 16) (length ps) 16 ≡ r.parties
-        go (lt h e) = rw e long
-        go (ge h e) = rw e (omega (arith, h, long, small))
-
-    named-is : (w : ℕ) → w ≢ 0 → named w ≡ w - 1
-    unfolding named
-    named-is w z = rw (eqb-diff w 0 z) refl
-
     past_asks : (j : ℕ) → r.parties ≤ j → theirs j ≡ none
     past_asks j h = ap (requests r) (get_or-eq_default ps idle {n = j} (omega (arith, h, long))) ∙ idle-asks
 
-    names : (w : ℕ) → w ≢ 0 → w - 1 < r.parties → asks r (record_for ps q w) ≡ theirs (w - 1)
-    unfolding inside_of
-    names w z h =
-        let at : inside_of w (length ps) q ≡ w - 1 = rw (most_is, named-is w z, lt-ltb (w - 1) r.parties h) refl in
-        asks_sound r (record_for ps q w) level ∙ ap theirs at
-
-    -- A word that is damage names nobody who requests.
-    none_there : (w : ℕ) → w ≢ 0 → (leb (most_of (length ps)) (named w) || eqb (strength_in (asks r (record_for ps q w))) 0) ≡ true
-        → theirs (w - 1) ≡ none
-    none_there w z t = go (ord (w - 1) r.parties)
+    -- An entry more is its party's request, or damage where there is none.
+    looked_is : (s : Looking) (w : ℕ) → w ≢ 0 → looked_at s r ps q w ≡ meets (eqb (w - 1) q) (w - 1) (theirs (w - 1)) s
+    unfolding looked_at named
+    looked_is s w z = go (ord (w - 1) r.parties)
       where
-        go : Ord (w - 1) r.parties → theirs (w - 1) ≡ none
-        go (ge h e) = past_asks (w - 1) h
-        go (lt h e) = weak_none (theirs (w - 1)) (ap strength_in (sym (names w z h)) ∙ eqb-true (strength_in (asks r (record_for ps q w))) 0 (rw (most_is, named-is w z, lt-leb r.parties (w - 1) h) at t))
+        go : Ord (w - 1) r.parties → met_by (cond (not (eqb w 0) && leb w (min (length ps) 16)) (Some (w - 1)) None) s r ps q w ≡ meets (eqb (w - 1) q) (w - 1) (theirs (w - 1)) s
+        go (lt h t) =
+            let told : asks r (get_or ps (w - 1) idle) ≡ theirs (w - 1) = asks_sound r (get_or ps (w - 1) idle) level in
+            rw (eqb-diff w 0 z, le-leb w (min (length ps) 16) (omega (arith, h, long, small))) (ap (λ (c : Option Claim). meets (eqb (w - 1) q) (w - 1) c s) told)
+        go (ge h t) =
+            rw (eqb-diff w 0 z, lt-leb w (min (length ps) 16) (omega (arith, h, long, z)), past_asks (w - 1) h) (ap (λ (b : Bool). damaged_by b s) (own_word q w z))
 
     module _ (o : Option Claim) where
       seen_empty : (s : Looking) (before row : List ℕ) → waiters_in row ≡ [] → Seen s (last s row) o before row
@@ -287,52 +239,48 @@ module _ (r : Root) (ps : List Party) (q : ℕ) where
         behind= = rw (e, hindered_none o, and-false (not s.waits)) (or_none s.behind);
       }
 
-      seen : (s : Looking) (before row : List ℕ) → s.word ≡ word_in o → s.least ≡ 4 - strength_in o → Marks s.met before
-          → Seen s (last s row) o before row
+      seen : (s : Looking) (before row : List ℕ) → s.mine ≡ request_in o → Marks s.met before → Seen s (last s row) o before row
       unfolding looked_through Marks rest_sound fresh_from is_some
-      seen s before [] mw ml k = seen_empty s before [] (waiters_nil tt)
-      seen s before (w ∷ ws) mw ml k = go (cmp w 0) (tell (leb (most_of (length ps)) (named w) || eqb (strength_in (asks r (record_for ps q w))) 0))
-          (seen (damaged_by (eqb (w - 1) q) s) before ws mw ml k)
-          (seen (meets (eqb (w - 1) q) (w - 1) (theirs (w - 1)) s) ((w - 1) ∷ before) ws mw ml (marks_more s.met before (w - 1) k))
+      seen s before [] mine k = seen_empty s before [] (waiters_nil tt)
+      seen s before (w ∷ ws) mine k = go (cmp w 0) (theirs (w - 1)) refl
+          (seen (damaged_by (eqb (w - 1) q) s) before ws mine k)
+          (λ c. seen (meets (eqb (w - 1) q) (w - 1) (some c) s) ((w - 1) ∷ before) ws mine (marks_more s.met before (w - 1) k))
         where
-          p : Party
-          p = record_for ps q w
-
           bad : Looking
           bad = damaged_by (eqb (w - 1) q) s
 
-          good : Looking
-          good = meets (eqb (w - 1) q) (w - 1) (theirs (w - 1)) s
+          good : Claim → Looking
+          good c = meets (eqb (w - 1) q) (w - 1) (some c) s
 
-          go : Cmp w 0 → Told (leb (most_of (length ps)) (named w) || eqb (strength_in (asks r (record_for ps q w))) 0)
-              → Seen bad (last bad ws) o before ws → Seen good (last good ws) o ((w - 1) ∷ before) ws
+          go : Cmp w 0 → (d : Option Claim) → theirs (w - 1) ≡ d
+              → Seen bad (last bad ws) o before ws → ((c : Claim) → Seen (good c) (last (good c) ws) o ((w - 1) ∷ before) ws)
               → Seen s (last s (w ∷ ws)) o before (w ∷ ws)
-          go (same z) t f g = seen_empty s before (w ∷ ws) (waiters_zero w ws z)
-          go (diff z) (holds t) f g =
-              let quiet = none_there w z t in
+          go (same z) d e f g = seen_empty s before (w ∷ ws) (waiters_zero w ws z)
+          go (diff z) none e f g =
               let at : last s (w ∷ ws) ≡ last bad ws = last_next s w ws z
-              ∙ ap (λ (x : Looking). last x ws) (looks_damaged s r q w (length ps) p t ∙ ap (λ (j : ℕ). damaged_by (eqb j q) s) (named-is w z)) in
+              ∙ ap (λ (x : Looking). last x ws) (looked_is s w z ∙ ap (λ (c : Option Claim). meets (eqb (w - 1) q) (w - 1) c s) e) in
               rw at (record {
-                sound= = f.sound= ∙ rw (rest_next before w ws z, quiet)
+                sound= = f.sound= ∙ rw (rest_next before w ws z, e)
                     (sound_dead s.sound (not (is_among (w - 1) before) && fresh_from ((w - 1) ∷ before) (waiters_in ws)) (ltb (w - 1) r.parties) (all_request r ps (waiters_in ws)));
                 waits= = f.waits= ∙ waits_next s w ws z;
-                behind= = f.behind= ∙ rw (waiters_next w ws z, hindered_next o (w - 1) (waiters_in ws), quiet, hinders_none o)
+                behind= = f.behind= ∙ rw (waiters_next w ws z, hindered_next o (w - 1) (waiters_in ws), e, hinders_none o)
                     (behind_dead s.behind s.waits (eqb (w - 1) q) (hindered o (waiters_in ws)));
               })
-          go (diff z) (fails t) f g =
-              let none = or_neither (leb (most_of (length ps)) (named w)) (eqb (strength_in (asks r p)) 0) t in
-              let inside : w - 1 < r.parties = rw (most_is, named-is w z) at (leb-false (most_of (length ps)) (named w) none.0) in
-              let told : asks r p ≡ theirs (w - 1) = names w z inside in
-              let strong : is_some (theirs (w - 1)) ≡ true = some_asked (theirs (w - 1)) (λ e. eqb-false (strength_in (asks r p)) 0 none.1 (ap strength_in told ∙ e)) in
-              let at : last s (w ∷ ws) ≡ last good ws = last_next s w ws z
-              ∙ ap (λ (x : Looking). last x ws) (looks_met s r q w (length ps) p t ∙ ap (λ (j : ℕ). meets (eqb j q) j (asks r p) s) (named-is w z) ∙ ap (λ x. meets (eqb (w - 1) q) (w - 1) x s) told) in
+          go (diff z) (some c) e f g =
+              let inside : w - 1 < r.parties = within e (ord (w - 1) r.parties) in
+              let at : last s (w ∷ ws) ≡ last (good c) ws = last_next s w ws z
+              ∙ ap (λ (x : Looking). last x ws) (looked_is s w z ∙ ap (λ (c : Option Claim). meets (eqb (w - 1) q) (w - 1) c s) e) in
               rw at (record {
-                sound= = g.sound= ∙ rw (rest_next before w ws z, lt-ltb (w - 1) r.parties inside, strong, k (w - 1) (omega (arith, inside, small)))
+                sound= = (g c).sound= ∙ rw (rest_next before w ws z, lt-ltb (w - 1) r.parties inside, ap is_some e, k (w - 1) (omega (arith, inside, small)))
                     (sound_mix s.sound (not (is_among (w - 1) before)) (fresh_from ((w - 1) ∷ before) (waiters_in ws)) (all_request r ps (waiters_in ws)));
-                waits= = g.waits= ∙ waits_next s w ws z;
-                behind= = g.behind= ∙ rw (waiters_next w ws z, hindered_next o (w - 1) (waiters_in ws), mw, ml, clashes_hinder o (theirs (w - 1)))
-                    (behind_mix s.behind s.waits (eqb (w - 1) q) (hinders o (theirs (w - 1))) (hindered o (waiters_in ws)));
+                waits= = (g c).waits= ∙ waits_next s w ws z;
+                behind= = (g c).behind= ∙ rw (waiters_next w ws z, hindered_next o (w - 1) (waiters_in ws), mine, e, hindered_is o c)
+                    (behind_mix s.behind s.waits (eqb (w - 1) q) (hinders o (some c)) (hindered o (waiters_in ws)));
               })
+            where
+              within : theirs (w - 1) ≡ some c → Ord (w - 1) r.parties → w - 1 < r.parties
+              within e (lt h t) = h
+              within e (ge h t) = absurd (none-some (sym (past_asks (w - 1) h) ∙ e))
 
     behind_is : (o : Option Claim) (row : List ℕ) → hindered o (waiters_in row) ≡ behind_for r ps row q o
     unfolding hindered behind_for
@@ -349,7 +297,7 @@ module _ (r : Root) (ps : List Party) (q : ℕ) where
     placed_right row =
         let mine : asks r (get_or ps q idle) ≡ theirs q = asks_sound r (get_or ps q idle) level in
         let start : Looking = first_seen r (get_or ps q idle) (all_zero (drop (length (waiters_in row)) row)) in
-        let h = seen (theirs q) start [] row (ap word_in mine) (ap (λ (c : Option Claim). 4 - strength_in c) mine) marks-none in
+        let h = seen (theirs q) start [] row (ap request_in mine) marks-none in
         rw (h.sound= ∙ sound_is row, h.waits=, h.behind= ∙ behind_is (theirs q) row) refl
 
 -- Where nobody waits.
@@ -366,13 +314,6 @@ nobody_before r ps q row (some c) e = rw (zero_waiters row e) refl
 pub alone_right : (r : Root) (ps : List Party) (q : ℕ) (row : List ℕ) → all_zero row ≡ true → alone ≡ place_of r ps row q
 unfolding row_sound is_among stands_behind none_twice all_request
 alone_right r ps q row e = rw (nobody_before r ps q row (requests r (get_or ps q idle)) e, zero_waiters row e, e) refl
-
-pub nobody-waits : (b t : Bool) → b ≡ not t → T (not b) → t ≡ true
-nobody-waits b true e h = refl
-nobody-waits b false e h = absurd (subst (λ (x : Bool). T (not x)) e h)
-
-pub none_past : {A : Type 0} (q n : ℕ) → q < n → n ≤ q → A
-none_past q n a b = absurd (omega (arith, a, b))
 
 -- In a row without a gap, a party's word is there where the party waits.
 zeros_lack : (q : ℕ) (row : List ℕ) → all_zero row ≡ true → is_among (q + 1) row ≡ false

@@ -1,121 +1,56 @@
--- The locks that a party holds before step 12, lock by lock, are those that its step number claims.
--- Main statements: claims_before_twelve; all_tested (the tests of the three locks together), all-given-up (the words
--- that giving up the three leaves).
-use mathlib.Core.Path.{◌≡◌, refl, sym, ◌∙◌, subst}
-use mathlib.Core.Bool.{Bool, true, false, cond, ◌&&◌}
+-- The locks that a party claims before step 12, by its step number.
+-- Main statements: as_claimed (what giving up a list answers and leaves, where the list is the one claimed);
+-- claims_at (the table's row); claimed_locating, claimed_working and claimed_none (where several steps claim the
+-- same).
+use mathlib.Core.Path.{◌≡◌, ap}
+use mathlib.Core.Logic.{◌≢◌}
 use mathlib.Core.List.{List, [], ◌∷◌}
-use Prim.Native.Nat.{ℕ, ◌<◌}
-use lib.ListN.{take}
-use lib.Seq.{get_or-take}
-use Rattle.model.specs.declared.Mode.{Mode}
-use Rattle.model.specs.declared.Mode.TheVariants.{Read}
-use Rattle.model.specs.declared.Party.{Party}
+use Prim.Native.Nat.{ℕ, ◌≤◌, ◌<◌}
+use native.Mathlib.Omega.{arith}
+use lib.ListN.{get_or}
+use Rattle.std.specs.Prelude.{Result, ⊤}
 use Rattle.model.specs.declared.Root.{Root}
-use Rattle.model.specs.LockWords.{Claim, root_word, chain_word}
-use Rattle.model.specs.Outcome.{View}
-use Rattle.model.specs.LockRequests.{mode_of, root_read, chain_lock, other_lock, is_held, held_all, without_hold, given_up}
-use Rattle.model.specs.Claims.{Claims, claim_table, no_lock, claims}
-use Rattle.model.specs.Ready.{viewing}
-use Rattle.model.proofs.Laws.Lists.{Numbered, numbered_below, ◌▸◌}
-use Rattle.withdraw.specs.Locks.{root_held, other_held, chain_held, held_if, released_if}
+use Rattle.model.specs.declared.Party.{Party}
+use Rattle.model.specs.declared.Damaged.{Damaged}
+use Rattle.model.specs.LockWords.{Claim}
+use Rattle.model.specs.LockRequests.{root_read, chain_lock, held_all}
+use Rattle.model.specs.Claims.{claim_table, no_lock, claims}
+use Rattle.records.specs.declared.Working.{Working}
+use Rattle.records.specs.Work.{seen}
+use Rattle.lock_requests.specs.Locks.{held_or_damaged, after_giving_up}
+use Rattle.model.proofs.Laws.Lists.{Cmp, same, diff, cmp}
 
--- A lock before others, where it is claimed.
-abbrev where_claimed : Bool → Claim → List Claim → List Claim
-where_claimed claimed c cs = cond claimed (c ∷ cs) cs
+module _ (w : Working) (ls : List ℕ) {ls' : List ℕ} {a : Result ⊤ Damaged} (cs ds : List Claim) where
+  pub as_claimed : ((ps : List ℕ) → a ≡ held_or_damaged (held_all (seen w ls ps) cs)) → ((ps : List ℕ) → seen w ls' ps ≡ after_giving_up cs (seen w ls ps))
+      → cs ≡ ds → (ps : List ℕ) → (a ≡ held_or_damaged (held_all (seen w ls ps) ds)) × (seen w ls' ps ≡ after_giving_up ds (seen w ls ps))
+  as_claimed held words e ps = (rw (← e) (held ps), rw (← e) (words ps))
 
--- The three locks at step k.
-abbrev claimed_at : ℕ → Party → List Claim
-claimed_at k p = where_claimed (root_held k) root_read (where_claimed (other_held k) (other_lock p) (where_claimed (chain_held k) (chain_lock p) []))
+module _ (r : Root) (p : Party) where
+  pub claims_at : (k : ℕ) → p.step ≡ k → claims r p ≡ get_or claim_table k no_lock p
+  unfolding claims
+  claims_at k e = ap (λ (i : ℕ). get_or claim_table i no_lock p) e
 
--- Row by row of the table.
-abbrev Row : ℕ → Claims → Type 0
-Row k f = (p : Party) → f p ≡ claimed_at k p
+  pub claimed_none : p.step ≤ 1 → claims r p ≡ []
+  claimed_none few = go (cmp p.step 0)
+    where
+      go : Cmp p.step 0 → claims r p ≡ []
+      go (same e) = claims_at 0 e
+      go (diff n) = claims_at 1 (omega (arith, few))
 
-rows : Numbered Row 0 (take 12 claim_table)
-unfolding root_held other_held chain_held
-rows =
-    (λ p. refl)
-    ▸ (λ p. refl)
-    ▸ (λ p. refl)
-    ▸ (λ p. refl)
-    ▸ (λ p. refl)
-    ▸ (λ p. refl)
-    ▸ (λ p. refl)
-    ▸ (λ p. refl)
-    ▸ (λ p. refl)
-    ▸ (λ p. refl)
-    ▸ (λ p. refl)
-    ▸ (λ p. refl)
-    ▸ tt
+  pub claimed_locating : 2 ≤ p.step → p.step ≤ 4 → claims r p ≡ root_read ∷ []
+  claimed_locating from to = go (cmp p.step 2) (cmp p.step 3)
+    where
+      go : Cmp p.step 2 → Cmp p.step 3 → claims r p ≡ root_read ∷ []
+      go (same e) b = claims_at 2 e
+      go (diff m) (same e) = claims_at 3 e
+      go (diff m) (diff n) = claims_at 4 (omega (arith, from, to))
 
-pub claims_before_twelve : (r : Root) (p : Party) → p.step < 12 → claims r p ≡ claimed_at p.step p
-unfolding claims
-claims_before_twelve r p l =
-    subst (λ (f : Claims). f p ≡ claimed_at p.step p) (get_or-take 12 claim_table p.step no_lock l) (numbered_below Row no_lock (take 12 claim_table) rows p.step l p)
-
--- ---- One lock, where it is claimed
-
-held_where : (v : View) (claimed : Bool) (c : Claim) (cs : List Claim)
-    → held_all v (where_claimed claimed c cs) ≡ (held_if claimed v.locks c.word v.number c.mode && held_all v cs)
-unfolding held_all is_held
-held_where v true c cs = refl
-held_where v false c cs = refl
-
-left_where : (r : Root) (p : Party) (q : ℕ) (ls ps : List ℕ) (claimed : Bool) (c : Claim) (cs : List Claim)
-    → given_up (where_claimed claimed c cs) (viewing r p q ls ps) ≡ given_up cs (viewing r p q (released_if claimed ls c.word q c.mode) ps)
-unfolding given_up without_hold
-left_where r p q ls ps true c cs = refl
-left_where r p q ls ps false c cs = refl
-
--- ---- The three
-
-and_regrouped : (a b c : Bool) → ((a && b) && c) ≡ (a && (b && (c && true)))
-and_regrouped true true true = refl
-and_regrouped true true false = refl
-and_regrouped true false c = refl
-and_regrouped false b c = refl
-
--- What the code found of party p: which locks are claimed, their words, and the mode.
-pub record Found (p : Party) (root other chain : Bool) (other_word chain_word_ok : ℕ) (m : Mode) : Type 0 where
-  pub root_is : root ≡ root_held p.step
-  pub other_is : other ≡ other_held p.step
-  pub chain_is : chain ≡ chain_held p.step
-  pub other_word_is : other_word ≡ chain_word p.other
-  pub chain_word_is : chain_word_ok ≡ chain_word p.chain
-  pub mode_is : m ≡ mode_of p
-
-module _ (p : Party) (q : ℕ) (before : p.step < 12) {root other chain : Bool} {i j : ℕ} {m : Mode} (f : Found p root other chain i j m) where
-  pub all_tested : (r : Root) (ls ps : List ℕ) {a b c : Bool} → a ≡ held_if root ls root_word q Read → b ≡ held_if other ls i q m → c ≡ held_if chain ls j q m
-      → ((a && b) && c) ≡ held_all (viewing r p q ls ps) (claims r p)
-  unfolding held_all
-  all_tested r ls ps ea eb ec =
-      let v = viewing r p q ls ps in
-      rw (
-        ea,
-        eb,
-        ec,
-        f.root_is,
-        f.other_is,
-        f.chain_is,
-        f.other_word_is,
-        f.chain_word_is,
-        f.mode_is,
-        claims_before_twelve r p before,
-        held_where v (root_held p.step) root_read (where_claimed (other_held p.step) (other_lock p) (where_claimed (chain_held p.step) (chain_lock p) [])),
-        held_where v (other_held p.step) (other_lock p) (where_claimed (chain_held p.step) (chain_lock p) []),
-        held_where v (chain_held p.step) (chain_lock p) [],
-      )
-      (and_regrouped (held_if (root_held p.step) ls root_word q Read) (held_if (other_held p.step) ls (chain_word p.other) q (mode_of p)) (held_if (chain_held p.step) ls (chain_word p.chain) q (mode_of p)))
-
-  pub all_given_up : (r s : Root) (ls ps : List ℕ) {ls₁ ls₂ ls₃ : List ℕ} → ls₁ ≡ released_if root ls root_word q Read → ls₂ ≡ released_if other ls₁ i q m → ls₃ ≡ released_if chain ls₂ j q m
-      → viewing s p q ls₃ ps ≡ given_up (claims r p) (viewing s p q ls ps)
-  unfolding given_up
-  all_given_up r s ls ps e₁ e₂ e₃ =
-      sym (
-      rw (claims_before_twelve r p before) (
-      left_where s p q ls ps (root_held p.step) root_read (where_claimed (other_held p.step) (other_lock p) (where_claimed (chain_held p.step) (chain_lock p) []))
-      ∙ left_where s p q _ ps (other_held p.step) (other_lock p) (where_claimed (chain_held p.step) (chain_lock p) [])
-      ∙ left_where s p q _ ps (chain_held p.step) (chain_lock p) []
-      ∙ rw (e₃, e₂, e₁, f.root_is, f.other_is, f.chain_is, f.other_word_is, f.chain_word_is, f.mode_is) refl
-      )
-      )
+  -- At 6, and from 9 on.
+  pub claimed_working : 6 ≤ p.step → p.step ≢ 7 → p.step ≢ 8 → p.step < 12 → claims r p ≡ chain_lock p ∷ []
+  claimed_working from m n to = go (cmp p.step 6) (cmp p.step 9) (cmp p.step 10)
+    where
+      go : Cmp p.step 6 → Cmp p.step 9 → Cmp p.step 10 → claims r p ≡ chain_lock p ∷ []
+      go (same e) b c = claims_at 6 e
+      go (diff i) (same e) c = claims_at 9 e
+      go (diff i) (diff j) (same e) = claims_at 10 e
+      go (diff i) (diff j) (diff k) = claims_at 11 (omega (arith, from, m, n, to, i, j, k))

@@ -1,3 +1,2 @@
 -- What the functions of this crate are stated with.
-pub mod Locks
 pub mod TakingBack

@@ -3,84 +3,79 @@
 
 #![tactic(auto)]
 
-ghost use Rattle.std.specs.Prelude.{◌≡◌, List, ℕ, length};
+ghost use Rattle.std.specs.Prelude.{◌≡◌, List, ℕ};
 ghost use Rattle.model.specs.Endings as Endings;
 ghost use Rattle.model.specs.Steps.Write as Write;
-ghost use Rattle.records.specs.Words.{party_words, seen, left, AtHand};
+ghost use Rattle.records.specs.Work.{seen, left, AtHand};
 ghost use Rattle.endings.specs.Scratch.{HasScratch};
 ghost use Rattle.write.specs.Leaving.{after_leaving};
 
-use model::{
-    ChainAddress, DAMAGE, DELETED, INSERTED, Mode, OWES_MERGE, OWES_SPLIT, Root, StepAnswer,
-};
-use records::{ANSWER, CHAIN, OLD, OWED};
+use lock_requests::Lock;
+use model::{ChainAddress, DELETED, INSERTED, Mode, OWES_MERGE, OWES_SPLIT, Refusal, StepAnswer};
+use records::Working;
 
 // "an owed split goes to 15 and an owed merge to 23; else the operation is done".
-pub fn onward(root: Root, party: &mut [u32], q: u32, pages: &mut [u32]) -> StepAnswer
-    requires { (length party.old ≡ party_words) × HasScratch root q pages.old }
-    ensures { (ls : List ℕ) → left result root party.new q ls pages.new ≡ Endings.onward (seen root party.old q ls pages.old) }
+#[tactic(auto, unfolding(model::specs::Endings::onward))]
+pub fn onward(work: &mut Working, pages: &mut [u32]) -> StepAnswer
+    requires { HasScratch work.old.root work.old.number pages.old }
+    ensures { (ls : List ℕ) → left (Ok result) work.new ls pages.new ≡ Endings.onward (seen work.old ls pages.old) }
 {
-    if party[OWED] == OWES_SPLIT {
-        records::at_step(party, 15);
-        return StepAnswer::Moved;
+    match work.party.owed {
+        OWES_SPLIT => work.party.step = 15,
+        OWES_MERGE => work.party.step = 23,
+        _ => return endings::finished(work, pages),
     }
-    if party[OWED] == OWES_MERGE {
-        records::at_step(party, 23);
-        return StepAnswer::Moved;
-    }
-    endings::finished(root, party, q, pages)
+    StepAnswer::Moved
 }
 
 // "11 write the primary page."
+#[tactic(auto, unfolding(model::specs::Steps::Write::step11))]
 pub fn step_11(
-    root: Root,
-    party: &mut [u32],
-    q: u32,
+    work: &mut Working,
     locks: &mut [u32],
     pages: &mut [u32],
-) -> StepAnswer
-    requires { AtHand root party.old q locks.old pages.old }
-    ensures { left result root party.new q locks.new pages.new ≡ Write.step11 (seen root party.old q locks.old pages.old) }
+) -> Result<StepAnswer, Refusal>
+    requires { AtHand work.old locks.old pages.old }
+    ensures { left result work.new locks.new pages.new ≡ Write.step11 (seen work.old locks.old pages.old) }
 {
-    scratch_pages::primary_written(root, party, q, pages, 12)
+    scratch_pages::primary_written(work, pages, 12)
 }
 
 // Whether an answer so far is "inserted or deleted".
+#[tactic(auto, unfolding(model::specs::Steps::Write::is_change, model::specs::Answers::answer_number))]
 fn is_change(answer: u32) -> bool
     ensures { result ≡ Write.is_change answer }
 {
-    answer == INSERTED || answer == DELETED
+    matches!(answer, INSERTED | DELETED)
 }
 
 // Where 12 leads once the chain is given up: "done unless inserted or deleted"; to 13 "if there are old overflow pages".
-fn chain_left(root: Root, party: &mut [u32], q: u32, pages: &mut [u32]) -> StepAnswer
-    requires { (length party.old ≡ party_words) × HasScratch root q pages.old }
-    ensures { (ls : List ℕ) → left result root party.new q ls pages.new ≡ after_leaving (seen root party.old q ls pages.old) }
+#[tactic(auto, unfolding(model::specs::Endings::old_pages_first))]
+fn chain_left(work: &mut Working, pages: &mut [u32]) -> StepAnswer
+    requires { HasScratch work.old.root work.old.number pages.old }
+    ensures { (ls : List ℕ) → left (Ok result) work.new ls pages.new ≡ after_leaving (seen work.old ls pages.old) }
 {
-    if !is_change(party[ANSWER]) {
-        return endings::finished(root, party, q, pages);
+    if !is_change(work.party.answer) {
+        return endings::finished(work, pages);
     }
-    if party[OLD] == 0 {
-        return onward(root, party, q, pages);
+    if work.party.old == 0 {
+        return onward(work, pages);
     }
-    records::at_step(party, 13);
+    work.party.step = 13;
     StepAnswer::Moved
 }
 
 // "12 give up the chain; done unless inserted or deleted."
+#[tactic(auto, unfolding(model::specs::Steps::Write::step12))]
 pub fn step_12(
-    root: Root,
-    party: &mut [u32],
-    q: u32,
+    work: &mut Working,
     locks: &mut [u32],
     pages: &mut [u32],
-) -> StepAnswer
-    requires { AtHand root party.old q locks.old pages.old }
-    ensures { left result root party.new q locks.new pages.new ≡ Write.step12 (seen root party.old q locks.old pages.old) }
+) -> Result<StepAnswer, Refusal>
+    requires { AtHand work.old locks.old pages.old }
+    ensures { left result work.new locks.new pages.new ≡ Write.step12 (seen work.old locks.old pages.old) }
 {
-    let word = lock_requests::chain_word(ChainAddress(party[CHAIN]));
-    if !lock_requests::give_up(locks, word, q, Mode::Selective) {
-        return StepAnswer::Refused(DAMAGE);
-    }
-    chain_left(root, party, q, pages)
+    let lock = Lock::chain(ChainAddress(work.party.chain), Mode::Selective);
+    lock_requests::give_up(&*work, locks, &[lock])?;
+    Ok(chain_left(work, pages))
 }

@@ -1,14 +1,10 @@
--- `calls::held_back` meets its contract.
-use mathlib.Core.Bool.{true, false}
-use Rattle.calls.proofs.Calling.{held_tested}
+-- `calls::held_back` meets its contract: at 13 the old link names no overflow page.
+use mathlib.Core.Path.{sym, ◌∙◌}
+use borrow.Author.Tests.{eq-eqb}
+use Rattle.waiting_row.specs.HeldBack.{held_answer}
 use Rattle.calls.proofs.held_back.Goals as goal
 
-pub returns-then-party-names_overflow : goal.returns-then-party-names_overflow
-returns-then-party-names_overflow c =
-    let a = c.args in
-    held_tested a.root a.party c.names_overflow.result true c.names_overflow.ensures c.if-party-names_overflow.true
-
-pub returns : goal.returns
-returns c =
-    let a = c.args in
-    held_tested a.root a.party c.names_overflow.result false c.names_overflow.ensures c.if-party-names_overflow.false
+pub returns-then-not-names_overflow : goal.returns-then-not-names_overflow
+unfolding held_answer
+returns-then-not-names_overflow c =
+    rw (eq-eqb c.args.party.step 13 c.if-party-eq-OLD_PAGES.true, sym c.names_overflow.ensures ∙ c.if-not-names_overflow.true)

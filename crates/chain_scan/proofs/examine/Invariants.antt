@@ -1,15 +1,14 @@
--- What the loop of `chain_scan::examine` keeps, and why it ends.
-use mathlib.Core.Path.{◌≡◌}
-use Prim.Native.Nat.{◌+◌, ◌*◌, ◌≤◌}
+-- What the loop of `chain_scan::examine` keeps.
+use Rattle.std.proofs.Common.{◌≡◌, ◌+◌, ◌-◌, ◌*◌, ◌≤◌}
 use Rattle.model.specs.Sizes.{most_records}
 use Rattle.chain_keys.specs.Gathering.{Followed, entries_from}
 use Rattle.chain_scan.specs.Scans.{examined}
 use Rattle.chain_scan.proofs.Ascents.{resumed}
 use Rattle.chain_scan.proofs.examine.Given as goal
 
-abbrev pub invariant-loop-left : goal.invariant-loop-left
-invariant-loop-left l =
-    Followed l.pages l.left l.l × (l.count + most_records * l.left ≤ most_records * (l.n + 1)) × (examined l.key l.n (entries_from l.pages (l.n + 1) l.first) ≡ resumed l.key l.n l.floor l.count l.found (entries_from l.pages l.left l.l))
-
-abbrev pub decreases-loop-left : goal.decreases-loop-left
-decreases-loop-left l = l.left
+abbrev pub invariant-loop : goal.invariant-loop
+invariant-loop l = record {
+  followed : Followed l.pages (l.n + 1 - l.counter) l.l;
+  few : l.count ≤ most_records * l.counter;
+  said : examined l.key l.n (entries_from l.pages (l.n + 1) l.first) ≡ resumed l.key l.n l.floor l.count l.found (entries_from l.pages (l.n + 1 - l.counter) l.l);
+}

@@ -1,122 +1,52 @@
--- `chains::count_pages` meets its contract. The loop's invariant: the link is sound, and the pages passed with the rest of the list make the list.
-use mathlib.Core.Path.{◌≡◌, refl, sym, ap, ◌∙◌}
-use mathlib.Core.List.{List}
-use Prim.Native.Nat.{ℕ, zero-le, ◌+◌, ◌-◌, ◌<◌}
+-- `chains::count_pages` meets its contract. The loop's invariant: the link is sound, and the pages passed with the rest of
+-- the list make the list.
+use Rattle.std.proofs.Common.{◌≡◌, refl, sym, ◌∙◌, true, ◌+◌, ◌-◌, arith}
 use native.Mathlib.Nat.{sub-zero}
-use native.Mathlib.Omega.{arith}
-use lib.ListN.{length}
-use Rattle.model.specs.Pages.{page_of, page_sound}
-use Rattle.model.specs.Chains.{Checked, overflow_from, list_from}
+use Rattle.model.specs.Pages.{page_of, link_of, page_sound}
+use Rattle.model.specs.Chains.{list_from}
 use Rattle.model.proofs.Laws.Tests.{sound_link_fits, sound_page_links}
-use Rattle.chains.proofs.Walking.{link_at, words_at, counted_after, none_passed, walk_ends, walk_too_long, walk_unsound, walk_goes_on}
+use Rattle.chains.proofs.Walking.{words-sound-page, none_passed, walk_ends, walk_too_long, walk_unsound, walk_goes_on}
 use Rattle.chains.proofs.count_pages.Goals as goal
 
-pub loop-l-init : goal.loop-l-init
+pub loop-n-init : goal.loop-n-init
 unfolding list_from
-loop-l-init c =
-    let a = c.args in
-    let walk : ℕ → Checked (List ℕ) = λ k. overflow_from a.root a.pages.now k a.first in
-    (zero-le, c.requires.0, none_passed (walk a.root.overflow) ∙ ap (λ (k : ℕ). counted_after 0 (walk k)) (sym (sub-zero a.root.overflow)))
+loop-n-init c = record {
+  sound = c.requires.0;
+  passed = rw sub-zero (none_passed _);
+}
 
-pub returns-then-n-root : goal.returns-then-n-root
-returns-then-n-root c =
-    let a = c.args in
-    let l = c.loop-l in
-    let ps = a.pages.now in
-    let left = a.root.overflow - l.n in
-    sym (l.invariant.2 ∙ walk_too_long a.root ps l.n l.l left (omega arith) c.loop-l-test.true)
+pub returns-then-l-eq0 : goal.returns-then-l-eq0
+returns-then-l-eq0 c = let l = c.loop-n in sym (l.invariant.passed ∙ walk_ends _ _ l.n l.l _ c.if-l-eq0.true)
 
-pub overflow_cast-at : goal.overflow_cast-at
-overflow_cast-at c =
-    let a = c.args in
-    let l = c.loop-l in
-    omega (arith, sound_link_fits a.root l.l (length a.pages.now) c.loop-l-test.true l.invariant.1 c.requires.1)
+pub word-level-requires : goal.word-level-requires
+word-level-requires c = (sound_link_fits _ _ _ c.if-l-eq0.false c.loop-n.invariant.sound c.requires.1, omega arith)
 
-pub overflow_mul-at : goal.overflow_mul-at
-overflow_mul-at c =
-    let a = c.args in
-    let l = c.loop-l in
-    omega (arith, sound_link_fits a.root l.l (length a.pages.now) c.loop-l-test.true l.invariant.1 c.requires.1)
+pub word-count-requires : goal.word-count-requires
+word-count-requires c = (sound_link_fits _ _ _ c.if-l-eq0.false c.loop-n.invariant.sound c.requires.1, omega arith)
 
-pub offset_bounds-pages-at : goal.offset_bounds-pages-at
-offset_bounds-pages-at c =
-    let a = c.args in
-    let l = c.loop-l in
-    omega (arith, sound_link_fits a.root l.l (length a.pages.now) c.loop-l-test.true l.invariant.1 c.requires.1)
-
-pub bounds-pages-at : goal.bounds-pages-at
-bounds-pages-at c =
-    let a = c.args in
-    let l = c.loop-l in
-    omega (arith, sound_link_fits a.root l.l (length a.pages.now) c.loop-l-test.true l.invariant.1 c.requires.1)
-
-pub overflow_add-count : goal.overflow_add-count
-overflow_add-count c =
-    let a = c.args in
-    let l = c.loop-l in
-    omega (arith, sound_link_fits a.root l.l (length a.pages.now) c.loop-l-test.true l.invariant.1 c.requires.1)
-
-pub offset_bounds-pages-at-in-loop-l : goal.offset_bounds-pages-at-in-loop-l
-offset_bounds-pages-at-in-loop-l c =
-    let a = c.args in
-    let l = c.loop-l in
-    omega (arith, sound_link_fits a.root l.l (length a.pages.now) c.loop-l-test.true l.invariant.1 c.requires.1)
-
-pub bounds-pages-at-in-loop-l : goal.bounds-pages-at-in-loop-l
-bounds-pages-at-in-loop-l c =
-    let a = c.args in
-    let l = c.loop-l in
-    omega (arith, sound_link_fits a.root l.l (length a.pages.now) c.loop-l-test.true l.invariant.1 c.requires.1)
-
-pub overflow_add-link : goal.overflow_add-link
-overflow_add-link c =
-    let a = c.args in
-    let l = c.loop-l in
-    omega (arith, sound_link_fits a.root l.l (length a.pages.now) c.loop-l-test.true l.invariant.1 c.requires.1)
-
-pub offset_bounds-pages-at-in-loop-l-2 : goal.offset_bounds-pages-at-in-loop-l-2
-offset_bounds-pages-at-in-loop-l-2 c =
-    let a = c.args in
-    let l = c.loop-l in
-    omega (arith, sound_link_fits a.root l.l (length a.pages.now) c.loop-l-test.true l.invariant.1 c.requires.1)
-
-pub bounds-pages-at-in-loop-l-2 : goal.bounds-pages-at-in-loop-l-2
-bounds-pages-at-in-loop-l-2 c =
-    let a = c.args in
-    let l = c.loop-l in
-    omega (arith, sound_link_fits a.root l.l (length a.pages.now) c.loop-l-test.true l.invariant.1 c.requires.1)
+pub word-link-requires : goal.word-link-requires
+word-link-requires c = (sound_link_fits _ _ _ c.if-l-eq0.false c.loop-n.invariant.sound c.requires.1, omega arith)
 
 pub returns-then-not-words_sound : goal.returns-then-not-words_sound
 returns-then-not-words_sound c =
-    let a = c.args in
-    let l = c.loop-l in
-    let ps = a.pages.now in
-    let left = a.root.overflow - l.n in
-    let tested : c.words_sound.result ≡ page_sound a.root (page_of ps (l.l - 1)) = c.words_sound.ensures ∙ words_at ps (l.l - 1) a.root in
-    let bad = sym tested ∙ c.if-not-words_sound.true in
-    let some : 0 < left = omega (arith, c.if-n-root.false) in
-    sym (l.invariant.2 ∙ walk_unsound a.root ps l.n l.l left some c.loop-l-test.true bad)
+    let l = c.loop-n in
+    let bad = sym (words-sound-page _ _) ∙ rw (c.word-level.ensures, c.word-count.ensures, c.word-link.ensures) at (sym c.words_sound.ensures) ∙ c.if-not-words_sound.true in
+    sym (l.invariant.passed ∙ walk_unsound _ _ l.n l.l _ c.if-l-eq0.false bad)
 
-pub loop-l-preserved : goal.loop-l-preserved
-loop-l-preserved c =
+pub loop-n-preserved : goal.loop-n-preserved
+unfolding link_of
+loop-n-preserved c =
+    let l = c.loop-n in
     let a = c.args in
-    let l = c.loop-l in
-    let ps = a.pages.now in
-    let left = a.root.overflow - l.n in
-    let tested : c.words_sound.result ≡ page_sound a.root (page_of ps (l.l - 1)) = c.words_sound.ensures ∙ words_at ps (l.l - 1) a.root in
-    let good = sym tested ∙ c.if-not-words_sound.false in
-    let next = link_at ps (l.l - 1) in
-    let some : 0 < left = omega (arith, c.if-n-root.false) in
-    let fewer : left - 1 ≡ a.root.overflow - (l.n + 1) = omega arith in (
-      omega arith,
-      rw next (sound_page_links a.root (page_of ps (l.l - 1)) good),
-      l.invariant.2 ∙ walk_goes_on a.root ps l.n l.l left some c.loop-l-test.true good ∙ rw (next, fewer) refl,
-    )
+    let w = page_of a.pages.now (l.l - 1) in
+    let good : page_sound a.root w ≡ true = sym (words-sound-page _ _) ∙ rw (c.word-level.ensures, c.word-count.ensures, c.word-link.ensures) at (sym c.words_sound.ensures) ∙ c.if-not-words_sound.false in
+    let fewer : a.root.overflow - l.n - 1 ≡ a.root.overflow - (l.n + 1) = omega arith in
+    rw c.word-link.ensures record {
+      sound = sound_page_links a.root w good;
+      passed = l.invariant.passed ∙ walk_goes_on _ _ l.n l.l _ (omega arith) c.if-l-eq0.false good ∙ rw fewer refl;
+    }
 
-pub returns : goal.returns
-returns c =
-    let a = c.args in
-    let l = c.loop-l in
-    let ps = a.pages.now in
-    let left = a.root.overflow - l.n in
-    sym (l.invariant.2 ∙ walk_ends a.root ps l.n l.l left c.loop-l-test.false)
+pub returns-else-not-words_sound : goal.returns-else-not-words_sound
+returns-else-not-words_sound c =
+    let l = c.loop-n in
+    sym (l.invariant.passed ∙ walk_too_long _ _ l.n l.l _ (omega arith) c.if-l-eq0.false)

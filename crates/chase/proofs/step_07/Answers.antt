@@ -4,5 +4,4 @@ use Rattle.chase.proofs.step_07.Goals as goal
 
 pub returns : goal.returns
 unfolding step07
-returns c =
-    c.request_chain.ensures
+returns c = c.request_chain.ensures

@@ -1,4 +1,4 @@
--- What the loop of `entries::ascends` keeps, and why it ends.
+-- What the loop of `entries::ascends` keeps.
 use mathlib.Core.Path.{◌≡◌}
 use mathlib.Core.Bool.{not, ◌&&◌}
 use Prim.Native.Nat.{◌-◌, ◌/◌, ◌≤◌}
@@ -10,6 +10,3 @@ use Rattle.entries.proofs.ascends.Given as goal
 
 abbrev pub invariant-loop-i : goal.invariant-loop-i
 invariant-loop-i l = (1 ≤ l.i) × (l.n ≡ length l.words / record_words) × (ascending (records_in l.words) ≡ (not l.falls && ascending (drop (l.i - 1) (records_in l.words))))
-
-abbrev pub decreases-loop-i : goal.decreases-loop-i
-decreases-loop-i l = l.n - l.i

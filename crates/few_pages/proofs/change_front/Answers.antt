@@ -9,11 +9,6 @@ use Rattle.chain_change.proofs.Changes.{key_inserted, key_deleted}
 use Rattle.few_pages.proofs.Gathers.{insert_absent, other_present, place_before}
 use Rattle.few_pages.proofs.change_front.Goals as goal
 
-pub put_in-requires : goal.put_in-requires
-put_in-requires c =
-    let can = c.requires in
-    (can.has_room, can.ascends, can.place, insert_absent can c.if-party-eq-INSERT.true)
-
 pub returns-then-party-eq-INSERT : goal.returns-then-party-eq-INSERT
 returns-then-party-eq-INSERT c =
     let p = c.args.party in

@@ -7,17 +7,12 @@ use Rattle.forms.specs.Printing.{longest_form}
 use Rattle.forms.proofs.Puts.{put_as, put_nothing, is-given, not-given}
 use Rattle.forms.proofs.print_form.Goals as goal
 
-pub returns-then-out-lt-LONGEST_FORM : goal.returns-then-out-lt-LONGEST_FORM
-returns-then-out-lt-LONGEST_FORM c =
+pub returns-then-saturating_sub-lt-LONGEST_FORM : goal.returns-then-saturating_sub-lt-LONGEST_FORM
+returns-then-saturating_sub-lt-LONGEST_FORM c =
     let a = c.args in
-    put_nothing a.at a.out.now _ (not-given (length a.out.now) a.at longest_form (form_text a.form) (omega (arith, c.if-out-lt-LONGEST_FORM.true)))
-
-pub returns-then-out-at : goal.returns-then-out-at
-returns-then-out-at c =
-    let a = c.args in
-    put_nothing a.at a.out.now _ (not-given (length a.out.now) a.at longest_form (form_text a.form) (omega (arith, c.if-out-at.true, c.if-out-lt-LONGEST_FORM.false)))
+    put_nothing a.at a.out.now _ (not-given (length a.out.now) a.at longest_form (form_text a.form) (omega arith))
 
 pub returns : goal.returns
 returns c =
     let a = c.args in
-    put_as _ _ _ _ (sym (is-given (length a.out.now) a.at longest_form (form_text a.form) (omega (arith, c.if-out-at.false, c.if-out-lt-LONGEST_FORM.false)))) c.put_form.ensures
+    put_as _ _ _ _ (sym (is-given (length a.out.now) a.at longest_form (form_text a.form) (omega arith))) c.put_form.ensures

@@ -7,17 +7,12 @@ use Rattle.forms.specs.Printing.{longest_reply}
 use Rattle.forms.proofs.Puts.{put_as, put_nothing, is-given, not-given}
 use Rattle.forms.proofs.print_reply.Goals as goal
 
-pub returns-then-out-lt-LONGEST_REPLY : goal.returns-then-out-lt-LONGEST_REPLY
-returns-then-out-lt-LONGEST_REPLY c =
+pub returns-then-saturating_sub-lt-LONGEST_REPLY : goal.returns-then-saturating_sub-lt-LONGEST_REPLY
+returns-then-saturating_sub-lt-LONGEST_REPLY c =
     let a = c.args in
-    put_nothing a.at a.out.now _ (not-given (length a.out.now) a.at longest_reply (reply_text a.reply) (omega (arith, c.if-out-lt-LONGEST_REPLY.true)))
-
-pub returns-then-out-at : goal.returns-then-out-at
-returns-then-out-at c =
-    let a = c.args in
-    put_nothing a.at a.out.now _ (not-given (length a.out.now) a.at longest_reply (reply_text a.reply) (omega (arith, c.if-out-at.true, c.if-out-lt-LONGEST_REPLY.false)))
+    put_nothing a.at a.out.now _ (not-given (length a.out.now) a.at longest_reply (reply_text a.reply) (omega arith))
 
 pub returns : goal.returns
 returns c =
     let a = c.args in
-    put_as _ _ _ _ (sym (is-given (length a.out.now) a.at longest_reply (reply_text a.reply) (omega (arith, c.if-out-at.false, c.if-out-lt-LONGEST_REPLY.false)))) c.put_reply.ensures
+    put_as _ _ _ _ (sym (is-given (length a.out.now) a.at longest_reply (reply_text a.reply) (omega arith))) c.put_reply.ensures

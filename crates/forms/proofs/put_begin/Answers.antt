@@ -1,11 +1,7 @@
 -- `forms::put_begin` meets its contract.
-use mathlib.Core.Path.{sym, ap}
-use Rattle.model.specs.declared.Operation.{Operation}
-use Rattle.forms.specs.declared.Form.TheVariants as Form
-use Rattle.patterns.specs.Patterns.{filled, symbol_text, numbers_after}
-use Rattle.forms.specs.Forms.{form_pattern, operation_numbers, form_numbers, form_text}
 use Rattle.patterns.proofs.Theorems.{longest}
-use Rattle.forms.proofs.Puts.{room, put_as}
+use Rattle.forms.specs.Forms.{form_pattern, operation_numbers, form_numbers, form_text}
+use Rattle.forms.proofs.Puts.{room}
 use Rattle.forms.proofs.put_begin.Goals as goal
 
 pub fill-requires : goal.fill-requires
@@ -21,19 +17,13 @@ unfolding longest
 fill-requires-in-Delete c = room _ _ _ _ _ tt c.requires
 
 pub returns-in-Find : goal.returns-in-Find
-unfolding form_text form_pattern form_numbers operation_numbers filled symbol_text numbers_after
-returns-in-Find c =
-    let a = c.args in
-    put_as _ _ _ _ (sym (ap (λ (x : Operation). form_text (Form.Begin a.q x a.k)) c.in-Find.is)) c.fill.ensures
+unfolding form_text form_pattern form_numbers operation_numbers
+returns-in-Find c = rw c.in-Find.is c.fill.ensures
 
 pub returns-in-Insert : goal.returns-in-Insert
-unfolding form_text form_pattern form_numbers operation_numbers filled symbol_text numbers_after
-returns-in-Insert c =
-    let a = c.args in
-    put_as _ _ _ _ (sym (ap (λ (x : Operation). form_text (Form.Begin a.q x a.k)) c.in-Insert.is)) c.fill-in-Insert.ensures
+unfolding form_text form_pattern form_numbers operation_numbers
+returns-in-Insert c = rw c.in-Insert.is c.fill-in-Insert.ensures
 
 pub returns-in-Delete : goal.returns-in-Delete
-unfolding form_text form_pattern form_numbers operation_numbers filled symbol_text numbers_after
-returns-in-Delete c =
-    let a = c.args in
-    put_as _ _ _ _ (sym (ap (λ (x : Operation). form_text (Form.Begin a.q x a.k)) c.in-Delete.is)) c.fill-in-Delete.ensures
+unfolding form_text form_pattern form_numbers operation_numbers
+returns-in-Delete c = rw c.in-Delete.is c.fill-in-Delete.ensures

@@ -1,79 +1,99 @@
--- `forms::put_step_reply` meets its contract.
-use mathlib.Core.Path.{◌≡◌, refl, sym, ap, ◌∙◌}
-use mathlib.Core.List.{[], ◌∷◌, ◌++◌}
-use Prim.Native.Nat.{ℕ, ◌+◌}
+-- `forms::put_step_reply` meets its contract: the pieces are those of the reply's text.
+use mathlib.Core.Path.{sym, ap, ◌∙◌}
+use mathlib.Core.List.{◌++◌}
 use native.Mathlib.Omega.{arith}
 use lib.ListN.{length}
-use lib.Seq.{length-sets}
+use lib.Dec.{lit≤}
+use Rattle.std.specs.Prelude.{Ok}
 use Rattle.model.specs.declared.StepAnswer.{StepAnswer}
-use Rattle.forms.specs.declared.Reply.TheVariants as Reply
+use Rattle.patterns.specs.Texts.{bytes}
+use Rattle.patterns.specs.Numbers.{decimal}
 use Rattle.patterns.specs.Patterns.{filled, symbol_text, numbers_after}
-use Rattle.forms.specs.Replies.{reply_pattern, reply_numbers, step_pattern, step_numbers, reply_text, step_done, step_refused, answer_text, restructuring_text}
-use Rattle.patterns.proofs.Theorems.{longest, filled_short}
-use Rattle.forms.proofs.Puts.{room, put_as, put_then}
-use Rattle.forms.proofs.Words.{answer_short, done_text}
+use Rattle.patterns.proofs.Numerals.{decimal_short}
+use Rattle.patterns.proofs.Theorems.{longest}
+use Rattle.forms.specs.declared.Reply.TheVariants as Reply
+use Rattle.forms.specs.Replies.{StepOutcome, answer_text, restructuring_text, step_pattern, step_numbers, reply_pattern, reply_numbers, reply_text}
+use Rattle.forms.proofs.Puts.{room, put_as, put_three, placed}
+use Rattle.forms.proofs.StepLine.{step_text}
+use Rattle.forms.proofs.Words.{answer_short, restructuring_short, done_pieces}
 use Rattle.forms.proofs.put_step_reply.Goals as goal
 
 pub fill-requires : goal.fill-requires
 unfolding longest
 fill-requires c = room _ _ _ _ _ tt c.requires
 
-pub fill-next-requires : goal.fill-next-requires
-unfolding longest
-fill-next-requires c = room _ _ _ _ _ tt c.requires
+pub returns-in-Err : goal.returns-in-Err
+unfolding reply_text reply_pattern reply_numbers step_pattern step_numbers
+returns-in-Err c = rw c.in-Err.is c.fill.ensures
 
-pub put_answer-then-requires : goal.put_answer-then-requires
-unfolding longest
-put_answer-then-requires c =
+pub put_number-next-requires : goal.put_number-next-requires
+put_number-next-requires c =
     let a = c.args in
-    let head = c.fill-next.ensures in
-    let ns = a.q ∷ (0 ∷ (0 ∷ (0 ∷ (0 ∷ [])))) in
-    omega (arith, c.requires, head.value, ap length head.out_after, length-sets a.out.now a.at (filled step_done ns), filled_short step_done ns)
+    let text = placed a.at a.out.now step_text 6 c.put_text-next.ensures (lit≤ tt) in
+    omega (arith, c.requires, text.0, text.1, decimal_short a.q)
 
-pub put_restructuring-requires : goal.put_restructuring-requires
-unfolding longest
-put_restructuring-requires c =
+pub put_text-requires : goal.put_text-requires
+put_text-requires c =
     let a = c.args in
-    let head = c.fill-next in
-    let word = c.put_answer-then.ensures in
-    let answer = c.in-Done.answer in
-    let ns = a.q ∷ (0 ∷ (0 ∷ (0 ∷ (0 ∷ [])))) in
-    let first = length-sets a.out.now a.at (filled step_done ns) in
-    let then = length-sets head.new.out head.result (answer_text answer) in
-    omega (arith, c.requires, head.ensures.value, ap length head.ensures.out_after, first, filled_short step_done ns, word.value, ap length word.out_after, then, answer_short answer)
+    let text = placed a.at a.out.now step_text 6 c.put_text-next.ensures (lit≤ tt) in
+    let number = placed _ _ (decimal a.q) 10 c.put_number-next.ensures (decimal_short a.q) in
+    omega (arith, c.requires, text.0, text.1, number.0, number.1)
+
+pub put_text-requires-in-Waiting : goal.put_text-requires-in-Waiting
+put_text-requires-in-Waiting c =
+    let a = c.args in
+    let text = placed a.at a.out.now step_text 6 c.put_text-next.ensures (lit≤ tt) in
+    let number = placed _ _ (decimal a.q) 10 c.put_number-next.ensures (decimal_short a.q) in
+    omega (arith, c.requires, text.0, text.1, number.0, number.1)
+
+pub put_text-next-requires-in-Done : goal.put_text-next-requires-in-Done
+put_text-next-requires-in-Done c =
+    let a = c.args in
+    let text = placed a.at a.out.now step_text 6 c.put_text-next.ensures (lit≤ tt) in
+    let number = placed _ _ (decimal a.q) 10 c.put_number-next.ensures (decimal_short a.q) in
+    omega (arith, c.requires, text.0, text.1, number.0, number.1)
+
+pub put_answer-next-requires : goal.put_answer-next-requires
+put_answer-next-requires c =
+    let a = c.args in
+    let text = placed a.at a.out.now step_text 6 c.put_text-next.ensures (lit≤ tt) in
+    let number = placed _ _ (decimal a.q) 10 c.put_number-next.ensures (decimal_short a.q) in
+    let done = placed _ _ (bytes " (done ") 7 c.put_text-next-in-Done.ensures (lit≤ tt) in
+    omega (arith, c.requires, text.0, text.1, number.0, number.1, done.0, done.1)
+
+pub put_text-requires-in-Done : goal.put_text-requires-in-Done
+put_text-requires-in-Done c =
+    let a = c.args in
+    let text = placed a.at a.out.now step_text 6 c.put_text-next.ensures (lit≤ tt) in
+    let number = placed _ _ (decimal a.q) 10 c.put_number-next.ensures (decimal_short a.q) in
+    let done = placed _ _ (bytes " (done ") 7 c.put_text-next-in-Done.ensures (lit≤ tt) in
+    let answer = placed _ _ (answer_text c.in-Done.answer) 19 c.put_answer-next.ensures (answer_short c.in-Done.answer) in
+    let word = ap length c.restructuring_word.ensures in
+    omega (arith, c.requires, text.0, text.1, number.0, number.1, done.0, done.1, answer.0, answer.1, word, restructuring_short c.in-Done.made)
 
 pub returns-in-Moved : goal.returns-in-Moved
+unfolding reply_text reply_pattern reply_numbers step_pattern step_numbers filled symbol_text numbers_after
 returns-in-Moved c =
     let a = c.args in
-    put_as _ _ _ _ (sym (ap (λ (x : StepAnswer). reply_text (Reply.Step a.q x)) c.in-Moved.is)) c.put_moved.ensures
+    let whole = c.in-Ok.is ∙ ap (λ (x : StepAnswer). Ok x) c.in-Moved.is in
+    put_as _ _ _ _ (sym (ap (λ (x : StepOutcome). reply_text (Reply.Step a.q x)) whole))
+    (put_three a.at a.out.now step_text (decimal a.q) (bytes " moved)") c.put_text-next.ensures c.put_number-next.ensures c.put_text.ensures)
 
 pub returns-in-Waiting : goal.returns-in-Waiting
+unfolding reply_text reply_pattern reply_numbers step_pattern step_numbers filled symbol_text numbers_after
 returns-in-Waiting c =
     let a = c.args in
-    put_as _ _ _ _ (sym (ap (λ (x : StepAnswer). reply_text (Reply.Step a.q x)) c.in-Waiting.is)) c.put_waiting.ensures
-
--- A refusal's two numbers, the party's first, in the pattern are the reply's text.
-refused-text : (q n : ℕ) → filled step_refused (q ∷ (n ∷ (0 ∷ (0 ∷ (0 ∷ []))))) ≡ reply_text (Reply.Step q (StepAnswer.Refused n))
-unfolding reply_text reply_pattern reply_numbers step_pattern step_numbers filled symbol_text numbers_after
-refused-text q n = refl
-
-pub returns-in-Refused : goal.returns-in-Refused
-returns-in-Refused c =
-    let a = c.args in
-    let n = c.in-Refused.n in
-    let text = filled step_refused (a.q ∷ (n ∷ (0 ∷ (0 ∷ (0 ∷ []))))) in
-    let put = c.fill in
-    let end : put.result ≡ a.at + length text = put.ensures.value in
-    put_as a.at a.out.now text _ (refused-text a.q n ∙ sym (ap (λ (x : StepAnswer). reply_text (Reply.Step a.q x)) c.in-Refused.is)) (record { value = end; out_after = put.ensures.out_after })
+    let whole = c.in-Ok.is ∙ ap (λ (x : StepAnswer). Ok x) c.in-Waiting.is in
+    put_as _ _ _ _ (sym (ap (λ (x : StepOutcome). reply_text (Reply.Step a.q x)) whole))
+    (put_three a.at a.out.now step_text (decimal a.q) (bytes " waiting)") c.put_text-next.ensures c.put_number-next.ensures c.put_text-in-Waiting.ensures)
 
 pub returns-in-Done : goal.returns-in-Done
 returns-in-Done c =
     let a = c.args in
     let answer = c.in-Done.answer in
     let made = c.in-Done.made in
-    let head = c.fill-next in
-    let word = c.put_answer-then.ensures in
-    let text = filled step_done (a.q ∷ (0 ∷ (0 ∷ (0 ∷ (0 ∷ []))))) in
-    let rest = put_then head.result head.new.out (answer_text answer) (restructuring_text made) word c.put_restructuring.ensures in
-    let whole = put_then a.at a.out.now text (answer_text answer ++ restructuring_text made) head.ensures rest in
-    put_as a.at a.out.now _ _ (done_text a.q answer made ∙ sym (ap (λ (x : StepAnswer). reply_text (Reply.Step a.q x)) c.in-Done.is)) whole
+    let whole = c.in-Ok.is ∙ ap (λ (x : StepAnswer). Ok x) c.in-Done.is in
+    let word = put_as _ _ _ _ c.restructuring_word.ensures c.put_text-in-Done.ensures in
+    let tail = put_three _ _ (bytes " (done ") (answer_text answer) (restructuring_text made) c.put_text-next-in-Done.ensures c.put_answer-next.ensures word in
+    put_as _ _ _ _ (done_pieces a.q answer made ∙ sym (ap (λ (x : StepOutcome). reply_text (Reply.Step a.q x)) whole))
+    (put_three a.at a.out.now step_text (decimal a.q) (bytes " (done " ++ (answer_text answer ++ restructuring_text made)) c.put_text-next.ensures c.put_number-next.ensures tail)

@@ -1,33 +1,32 @@
 -- `forms::read_answer` meets its contract: its rows are those of read_answer.
-use mathlib.Core.Path.{refl}
-use Rattle.forms.specs.Reading.{read_answer, found_in, answer_in, answer_read}
-use Rattle.forms.proofs.Rows.{answer_taken, answer_left}
+use Rattle.forms.specs.Reading.{read_answer, found_in, answer_in, or_next, answer_read}
+use Rattle.forms.proofs.Rows.{no_match, answer_taken}
 use Rattle.forms.proofs.read_answer.Goals as goal
 
-pub returns-then-m : goal.returns-then-m
+pub returns-in-Some : goal.returns-in-Some
 unfolding read_answer found_in answer_in
-returns-then-m c = answer_taken _ _ _ _ c.match_at-m.ensures c.if-m.true refl
+returns-in-Some c = answer_taken _ _ _ _ c.in-Some.ensures
 
-pub returns-then-m-2 : goal.returns-then-m-2
-unfolding read_answer found_in answer_in
-returns-then-m-2 c = answer_left _ _ _ _ c.match_at-m.ensures c.if-m.false (answer_taken _ _ _ _ c.match_at-m-2.ensures c.if-m-2.true refl)
+pub returns-in-Some-match_at : goal.returns-in-Some-match_at
+unfolding read_answer found_in answer_in or_next
+returns-in-Some-match_at c = rw (no_match _ _ c.in_default.ensures) (answer_taken _ _ _ _ c.in-Some-match_at.ensures)
 
-pub returns-then-m-3 : goal.returns-then-m-3
-unfolding read_answer found_in answer_in
-returns-then-m-3 c = answer_left _ _ _ _ c.match_at-m.ensures c.if-m.false (answer_left _ _ _ _ c.match_at-m-2.ensures c.if-m-2.false (answer_taken _ _ _ _ c.match_at-m-3.ensures c.if-m-3.true refl))
+pub returns-in-Some-match_at-2 : goal.returns-in-Some-match_at-2
+unfolding read_answer found_in answer_in or_next
+returns-in-Some-match_at-2 c = rw (no_match _ _ c.in_default.ensures, no_match _ _ c.in_default-match_at.ensures) (answer_taken _ _ _ _ c.in-Some-match_at-2.ensures)
 
-pub returns-then-m-4 : goal.returns-then-m-4
-unfolding read_answer found_in answer_in
-returns-then-m-4 c = answer_left _ _ _ _ c.match_at-m.ensures c.if-m.false (answer_left _ _ _ _ c.match_at-m-2.ensures c.if-m-2.false (answer_left _ _ _ _ c.match_at-m-3.ensures c.if-m-3.false (answer_taken _ _ _ _ c.match_at-m-4.ensures c.if-m-4.true refl)))
+pub returns-in-Some-match_at-3 : goal.returns-in-Some-match_at-3
+unfolding read_answer found_in answer_in or_next
+returns-in-Some-match_at-3 c = rw (no_match _ _ c.in_default.ensures, no_match _ _ c.in_default-match_at.ensures, no_match _ _ c.in_default-match_at-2.ensures) (answer_taken _ _ _ _ c.in-Some-match_at-3.ensures)
 
-pub returns-then-m-5 : goal.returns-then-m-5
-unfolding read_answer found_in answer_in
-returns-then-m-5 c = answer_left _ _ _ _ c.match_at-m.ensures c.if-m.false (answer_left _ _ _ _ c.match_at-m-2.ensures c.if-m-2.false (answer_left _ _ _ _ c.match_at-m-3.ensures c.if-m-3.false (answer_left _ _ _ _ c.match_at-m-4.ensures c.if-m-4.false (answer_taken _ _ _ _ c.match_at-m-5.ensures c.if-m-5.true refl))))
+pub returns-in-Some-match_at-4 : goal.returns-in-Some-match_at-4
+unfolding read_answer found_in answer_in or_next
+returns-in-Some-match_at-4 c = rw (no_match _ _ c.in_default.ensures, no_match _ _ c.in_default-match_at.ensures, no_match _ _ c.in_default-match_at-2.ensures, no_match _ _ c.in_default-match_at-3.ensures) (answer_taken _ _ _ _ c.in-Some-match_at-4.ensures)
 
-pub returns-then-m-6 : goal.returns-then-m-6
-unfolding read_answer found_in answer_in
-returns-then-m-6 c = answer_left _ _ _ _ c.match_at-m.ensures c.if-m.false (answer_left _ _ _ _ c.match_at-m-2.ensures c.if-m-2.false (answer_left _ _ _ _ c.match_at-m-3.ensures c.if-m-3.false (answer_left _ _ _ _ c.match_at-m-4.ensures c.if-m-4.false (answer_left _ _ _ _ c.match_at-m-5.ensures c.if-m-5.false (answer_taken _ _ _ _ c.match_at-m-6.ensures c.if-m-6.true refl)))))
+pub returns-in-Some-match_at-5 : goal.returns-in-Some-match_at-5
+unfolding read_answer found_in answer_in or_next
+returns-in-Some-match_at-5 c = rw (no_match _ _ c.in_default.ensures, no_match _ _ c.in_default-match_at.ensures, no_match _ _ c.in_default-match_at-2.ensures, no_match _ _ c.in_default-match_at-3.ensures, no_match _ _ c.in_default-match_at-4.ensures) (answer_taken _ _ _ _ c.in-Some-match_at-5.ensures)
 
 pub returns : goal.returns
-unfolding read_answer found_in answer_in answer_read
-returns c = answer_left _ _ _ _ c.match_at-m.ensures c.if-m.false (answer_left _ _ _ _ c.match_at-m-2.ensures c.if-m-2.false (answer_left _ _ _ _ c.match_at-m-3.ensures c.if-m-3.false (answer_left _ _ _ _ c.match_at-m-4.ensures c.if-m-4.false (answer_left _ _ _ _ c.match_at-m-5.ensures c.if-m-5.false (answer_left _ _ _ _ c.match_at-m-6.ensures c.if-m-6.false (refl))))))
+unfolding read_answer found_in answer_in or_next answer_read
+returns c = rw (no_match _ _ c.in_default.ensures, no_match _ _ c.in_default-match_at.ensures, no_match _ _ c.in_default-match_at-2.ensures, no_match _ _ c.in_default-match_at-3.ensures, no_match _ _ c.in_default-match_at-4.ensures, no_match _ _ c.in_default-match_at-5.ensures)

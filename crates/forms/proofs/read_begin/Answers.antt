@@ -1,21 +1,32 @@
 -- `forms::read_begin` meets its contract: its rows are those of read_begin.
-use mathlib.Core.Path.{refl}
-use Rattle.forms.specs.Reading.{read_begin, wholly}
-use Rattle.forms.proofs.Rows.{row_taken, row-left}
+use mathlib.Core.Path.{sym}
+use Rattle.forms.specs.Reading.{read_begin, read_withdraw, read_format, read_take_up, or_else}
 use Rattle.forms.proofs.read_begin.Goals as goal
 
-pub returns-then-m : goal.returns-then-m
-unfolding read_begin wholly
-returns-then-m c = row_taken _ _ _ _ c.match_rest-m.ensures c.if-m.true refl
+pub returns-in-Some : goal.returns-in-Some
+unfolding read_begin read_withdraw read_format read_take_up or_else
+returns-in-Some c = rw (sym c.in-Some.ensures)
 
-pub returns-then-m-2 : goal.returns-then-m-2
-unfolding read_begin wholly
-returns-then-m-2 c = row-left _ _ _ _ c.match_rest-m.ensures c.if-m.false (row_taken _ _ _ _ c.match_rest-m-2.ensures c.if-m-2.true refl)
+pub returns-in-Some-numbers : goal.returns-in-Some-numbers
+unfolding read_begin read_withdraw read_format read_take_up or_else
+returns-in-Some-numbers c = rw (sym c.in_default.ensures, sym c.in-Some-numbers.ensures)
 
-pub returns-then-m-3 : goal.returns-then-m-3
-unfolding read_begin wholly
-returns-then-m-3 c = row-left _ _ _ _ c.match_rest-m.ensures c.if-m.false (row-left _ _ _ _ c.match_rest-m-2.ensures c.if-m-2.false (row_taken _ _ _ _ c.match_rest-m-3.ensures c.if-m-3.true refl))
+pub returns-in-Some-numbers-2 : goal.returns-in-Some-numbers-2
+unfolding read_begin read_withdraw read_format read_take_up or_else
+returns-in-Some-numbers-2 c = rw (sym c.in_default.ensures, sym c.in_default-numbers.ensures, sym c.in-Some-numbers-2.ensures)
+
+pub returns-in-Some-numbers-3 : goal.returns-in-Some-numbers-3
+unfolding read_begin read_withdraw read_format read_take_up or_else
+returns-in-Some-numbers-3 c = rw (sym c.in_default.ensures, sym c.in_default-numbers.ensures, sym c.in_default-numbers-2.ensures, sym c.in-Some-numbers-3.ensures)
+
+pub returns-in-Some-numbers-4 : goal.returns-in-Some-numbers-4
+unfolding read_begin read_withdraw read_format read_take_up or_else
+returns-in-Some-numbers-4 c = rw (sym c.in_default.ensures, sym c.in_default-numbers.ensures, sym c.in_default-numbers-2.ensures, sym c.in_default-numbers-3.ensures, sym c.in-Some-numbers-4.ensures)
+
+pub returns-in_err-numbers : goal.returns-in_err-numbers
+unfolding read_begin read_withdraw read_format read_take_up or_else
+returns-in_err-numbers c = rw (c.from_residual.ensures, sym c.in_default.ensures, sym c.in_default-numbers.ensures, sym c.in_default-numbers-2.ensures, sym c.in_default-numbers-3.ensures, sym c.in_default-numbers-4.ensures, sym c.in_err-numbers.ensures)
 
 pub returns : goal.returns
-unfolding read_begin wholly
-returns c = row-left _ _ _ _ c.match_rest-m.ensures c.if-m.false (row-left _ _ _ _ c.match_rest-m-2.ensures c.if-m-2.false (row-left _ _ _ _ c.match_rest-m-3.ensures c.if-m-3.false c.read_withdraw.ensures))
+unfolding read_begin read_withdraw read_format read_take_up or_else
+returns c = rw (sym c.in_default.ensures, sym c.in_default-numbers.ensures, sym c.in_default-numbers-2.ensures, sym c.in_default-numbers-3.ensures, sym c.in_default-numbers-4.ensures, sym c.in_ok-numbers.ensures)

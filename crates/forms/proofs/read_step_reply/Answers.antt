@@ -1,21 +1,20 @@
 -- `forms::read_step_reply` meets its contract: its rows are those of read_step_reply.
-use mathlib.Core.Path.{refl}
-use Rattle.forms.specs.Reading.{read_step_reply, wholly}
-use Rattle.forms.proofs.Rows.{row_taken, row-left}
+use mathlib.Core.Path.{sym}
+use Rattle.forms.specs.Reading.{read_step_reply, or_else}
 use Rattle.forms.proofs.read_step_reply.Goals as goal
 
-pub returns-then-m : goal.returns-then-m
-unfolding read_step_reply wholly
-returns-then-m c = row_taken _ _ _ _ c.match_rest-m.ensures c.if-m.true refl
+pub returns-in-Some : goal.returns-in-Some
+unfolding read_step_reply or_else
+returns-in-Some c = rw (sym c.in-Some.ensures)
 
-pub returns-then-m-2 : goal.returns-then-m-2
-unfolding read_step_reply wholly
-returns-then-m-2 c = row-left _ _ _ _ c.match_rest-m.ensures c.if-m.false (row_taken _ _ _ _ c.match_rest-m-2.ensures c.if-m-2.true refl)
+pub returns-in-Some-numbers : goal.returns-in-Some-numbers
+unfolding read_step_reply or_else
+returns-in-Some-numbers c = rw (sym c.in_default.ensures, sym c.in-Some-numbers.ensures)
 
-pub returns-then-m-3 : goal.returns-then-m-3
-unfolding read_step_reply wholly
-returns-then-m-3 c = row-left _ _ _ _ c.match_rest-m.ensures c.if-m.false (row-left _ _ _ _ c.match_rest-m-2.ensures c.if-m-2.false (row_taken _ _ _ _ c.match_rest-m-3.ensures c.if-m-3.true refl))
+pub returns-in-Some-numbers-2 : goal.returns-in-Some-numbers-2
+unfolding read_step_reply or_else
+returns-in-Some-numbers-2 c = rw (sym c.in_default.ensures, sym c.in_default-numbers.ensures, sym c.in-Some-numbers-2.ensures)
 
 pub returns : goal.returns
-unfolding read_step_reply wholly
-returns c = row-left _ _ _ _ c.match_rest-m.ensures c.if-m.false (row-left _ _ _ _ c.match_rest-m-2.ensures c.if-m-2.false (row-left _ _ _ _ c.match_rest-m-3.ensures c.if-m-3.false c.read_done.ensures))
+unfolding read_step_reply or_else
+returns c = rw (sym c.in_default.ensures, sym c.in_default-numbers.ensures, sym c.in_default-numbers-2.ensures) c.read_done.ensures

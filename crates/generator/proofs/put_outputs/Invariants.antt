@@ -1,9 +1,7 @@
--- What the loop of `generator::put_outputs` keeps, and why it ends.
+-- What the loop of `generator::put_outputs` keeps: the lines that are put, and those that are left.
+use Rattle.std.proofs.Common.{◌-◌}
 use Rattle.generator.proofs.Lines.{PutLines}
 use Rattle.generator.proofs.put_outputs.Given as goal
 
-abbrev pub invariant-loop-left : goal.invariant-loop-left
-invariant-loop-left l = PutLines l.count l.x l.initial.out l.out l.word l.at l.left
-
-abbrev pub decreases-loop-left : goal.decreases-loop-left
-decreases-loop-left l = l.left
+abbrev pub invariant-loop-line : goal.invariant-loop-line
+invariant-loop-line l = PutLines l.count l.x l.initial.out l.out l.word l.at (l.count - l._line)

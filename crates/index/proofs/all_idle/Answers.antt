@@ -1,13 +1,13 @@
--- `index::all_idle`: one record more is seen in each turn.
-use Rattle.std.proofs.Common.{arith}
-use Rattle.calls.proofs.TakingUp.{idle_more, idle_all}
+-- `index::all_idle` meets its contract.
+use Rattle.std.proofs.Common.{◌∙◌, rules, tests}
+use Rattle.std.proofs.lemmas.Iterator.{YieldsList-from_slice}
+use Rattle.std.proofs.lemmas.Iterator.Search.{all_from_yields_List}
+use Rattle.model.specs.TakeUp.{is_zero_record}
+use Rattle.calls.proofs.TakingUp.{all_are_idle}
 use Rattle.index.proofs.all_idle.Goals as goal
 
-pub loop-i-preserved : goal.loop-i-preserved
-loop-i-preserved c = record {
-  within = omega arith;
-  seen = idle_more c.args.parties.now c.loop-i.i c.loop-i.idle c.is_zero-idle.result (omega arith) c.is_zero-idle.ensures c.loop-i.invariant.seen;
-}
-
 pub returns : goal.returns
-returns c = idle_all c.args.parties.now c.loop-i.i c.loop-i.idle (omega arith) c.loop-i.invariant.seen
+returns c =
+    all_from_yields_List is_zero_record _ _ _ c.all.ensures.ran (YieldsList-from_slice c.args.parties.now cc)
+    (λ x b q k. search (rules, tests))
+    ∙ all_are_idle c.args.parties.now

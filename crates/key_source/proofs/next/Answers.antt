@@ -7,8 +7,7 @@ use Rattle.key_source.proofs.next.Goals as goal
 
 pub next_kept-requires : goal.next_kept-requires
 unfolding chosen_of
-next_kept-requires c =
-    (c.requires.0, c.requires.1, no_extra c.args.s.choice c.in_default.not-With, c.requires.2)
+next_kept-requires c = (c.requires.0, c.requires.1, no_extra c.args.s.choice c.in_default.not-With, c.requires.2)
 
 pub returns-in-With : goal.returns-in-With
 unfolding chosen_of

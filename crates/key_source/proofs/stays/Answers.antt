@@ -1,6 +1,5 @@
 -- `key_source::stays` meets its contract.
-use mathlib.Core.Path.{ap, ◌∙◌}
-use Prim.Native.Nat.{ℕ}
+use Rattle.std.proofs.Common.{ap, ◌∙◌, ℕ}
 use lib.Dec.{eqb}
 use Rattle.model.specs.Addresses.{hash_of}
 use Rattle.key_source.proofs.stays.Goals as goal
@@ -8,5 +7,4 @@ use Rattle.key_source.proofs.stays.Goals as goal
 pub returns : goal.returns
 returns c =
     let h = c.args.h in
-    let home = hash_of h.originals h.level c.mixed-m.result in
-    ap (λ (n : ℕ). eqb n h.chain.0) (◌∙◌ {b = home} c.hash-home.ensures (ap (hash_of h.originals h.level) c.mixed-m.ensures))
+    c.eq.ensures ∙ ap (λ (n : ℕ). eqb n h.chain.0) (c.hash-home.ensures ∙ ap (hash_of h.originals h.level) c.mixed-m.ensures)

@@ -1,16 +1,15 @@
 -- `lines::perform_line` meets its contract: a line that is no form, and one that is.
 use mathlib.Core.Path.{sym, ◌∙◌, ap}
-use Rattle.held.specs.Held.{held_in}
-use Rattle.forms.specs.declared.FormRead.{FormRead}
+use Rattle.std.specs.Prelude.{Option}
+use Rattle.forms.specs.declared.Form.{Form}
+use Rattle.lines.specs.Held.{held_in}
 use Rattle.lines.specs.Lines.{answered_as, line_answered}
 use Rattle.lines.proofs.perform_line.Goals as goal
 
-pub returns-in-Unread : goal.returns-in-Unread
+pub returns-in-None : goal.returns-in-None
 unfolding line_answered answered_as
-returns-in-Unread c = rw (sym c.read_form-read.ensures, c.in-Unread.is)
+returns-in-None c = rw (sym c.read_form.ensures, c.in-None.is)
 
-pub returns-in-Read : goal.returns-in-Read
+pub returns-in-Some : goal.returns-in-Some
 unfolding line_answered answered_as
-returns-in-Read c =
-    let a = c.args in
-    c.perform.ensures ∙ ap (λ (f : FormRead). answered_as f (held_in a.root a.row.now a.locks.now a.pages.now a.waiting.now)) (sym c.in-Read.is ∙ c.read_form-read.ensures)
+returns-in-Some c = c.perform.ensures ∙ ap (λ (f : Option Form). answered_as f (held_in c.args.file.now)) (sym c.in-Some.is ∙ c.read_form.ensures)

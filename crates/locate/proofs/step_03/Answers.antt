@@ -1,27 +1,32 @@
--- `locate::step_03` meets its contract: ChainThere has its two cases.
-use mathlib.Core.Path.{ap, ◌∙◌}
-use lib.ListN.{set, length-set}
-use Rattle.model.specs.declared.Party.{Party}
-use Rattle.model.specs.Records.{at_step, with_chain}
-use Rattle.records.specs.Words.{seen}
-use Rattle.records.proofs.Words.{lev_written, chain_written_lem, party_is}
-use Rattle.locate.proofs.ChainThere.{chain_there_moves, chain_beyond_refused}
+-- `locate::step_03` meets its contract: whether there is a chain with the number worked out.
+use mathlib.Core.Path.{◌≡◌}
+use Prim.Native.Nat.{ℕ, ◌≤◌, ◌<◌}
+use borrow.Author.Tests.{lt-ltb, le-ltb}
+use Rattle.model.specs.declared.Refusal.{Refusal}
+use Rattle.model.specs.Records.{at_step, with_lev, with_chain}
+use Rattle.model.specs.Addresses.{address_level, address_of}
+use Rattle.model.specs.Outcome.{View, with_party, moved, refuse}
+use Rattle.model.specs.Steps.Locate.{located, step03}
+use Rattle.records.specs.Work.{seen}
 use Rattle.locate.proofs.step_03.Goals as goal
 
-pub returns-then-root-chain : goal.returns-then-root-chain
-returns-then-root-chain c =
+-- l and c are the lev and the chain that were worked out.
+module _ (v : View) {l c : ℕ} (lev : l ≡ address_level v.root.originals v.party.lev v.root.next v.party.key)
+    (chain : c ≡ address_of v.root.originals v.party.lev v.root.next v.party.key) where
+  there_moves : c < v.root.primaries → moved (with_party (at_step 4 (with_chain c (with_lev l v.party))) v) ≡ step03 v
+  unfolding step03 located
+  there_moves h = rw (← lev, ← chain, lt-ltb c v.root.primaries h)
+
+  beyond_refused : v.root.primaries ≤ c → refuse Refusal.Damage v ≡ step03 v
+  unfolding step03 located
+  beyond_refused h = rw (← chain, le-ltb c v.root.primaries h)
+
+pub returns-then-work-at : goal.returns-then-work-at
+returns-then-work-at c =
     let a = c.args in
-    let v = seen a.root a.party.now a.q a.locks.now a.pages.now in
-    let found = c.locate-at in
-    chain_beyond_refused v found.ensures.0 found.ensures.1 c.if-root-chain.true
+    beyond_refused (seen a.work.now a.locks.now a.pages.now) c.locate-at.ensures.0 c.locate-at.ensures.1 c.if-work-at.true
 
 pub returns : goal.returns
 returns c =
     let a = c.args in
-    let v = seen a.root a.party.now a.q a.locks.now a.pages.now in
-    let found = c.locate-at in
-    let w = a.party.now in
-    let lev = lev_written w found.result.lev c.requires.words in
-    let chain = chain_written_lem (set w 3 found.result.lev) found.result.chain.0 (length-set w 3 found.result.lev ∙ c.requires.words) in
-    party_is (c.at_step.ensures ∙ ap (λ (p : Party). at_step 4 p) (chain ∙ ap (λ (p : Party). with_chain found.result.chain.0 p) lev))
-    ∙ chain_there_moves v found.ensures.0 found.ensures.1 c.if-root-chain.false
+    there_moves (seen a.work.now a.locks.now a.pages.now) c.locate-at.ensures.0 c.locate-at.ensures.1 c.if-work-at.false

@@ -1,30 +1,25 @@
--- Where none is held every request is granted, else Table I's entry beside the strongest lock held decides: the model's word_judged.
-use Rattle.std.proofs.Common.{◌≡◌, refl, sym, ◌∙◌, true}
-use Rattle.std.proofs.Math.Option.{Option, none, some}
+-- Where none is held every request is granted, else Table I's entry beside the strongest lock held decides: the
+-- model's word_judged.
+use Rattle.std.proofs.Common.{◌≡◌, sym, ◌∙◌, Bool, rules, ℕ}
+use Rattle.std.specs.Prelude.{Option, MatchOption, IsTrue}
+use Rattle.std.proofs.Math.Option as logic
 use Rattle.model.specs.declared.Mode.{Mode}
-use Rattle.model.specs.LockWords.{table_one}
+use Rattle.model.specs.LockWords.{table_one, permits}
 use Rattle.model.specs.GrantTable.{held_in, strongest, granted_beside}
 use Rattle.model.proofs.Theorems.GrantTable.{word_judged}
-use Rattle.lock_words.specs.declared.Held.TheVariants.{None, In}
-use Rattle.lock_words.specs.HeldLock.{as_held}
+use Rattle.lock_words.specs.HeldLock.{as_option, held_on}
 use Rattle.lock_words.proofs.permits.Goals as goal
 
-none-granted : (m : Mode) (o : Option Mode) → as_held o ≡ None → granted_beside m o ≡ true
-unfolding as_held granted_beside
-none-granted m none e = refl
-none-granted m (some s) e = cc
+granted : (m : Mode) (o : logic.Option Mode) (b : Bool) (P : Mode → Type 0)
+    → MatchOption (as_option o) (IsTrue b) P → ((s : Mode) → P s → b ≡ table_one m s) → b ≡ granted_beside m o
+unfolding as_option granted_beside
+granted m logic.none b P h entry = h
+granted m (logic.some s) b P h entry = entry s h
 
-held-decides : (m s : Mode) (o : Option Mode) → as_held o ≡ In s → granted_beside m o ≡ table_one m s
-unfolding as_held granted_beside
-held-decides m s none e = cc
-held-decides m s (some t) e = cc
+judged : (w : ℕ) (m : Mode) (b : Bool) (o : Option Mode) (P : Mode → Type 0) → o ≡ held_on w
+    → MatchOption o (IsTrue b) P → ((s : Mode) → P s → b ≡ table_one m s) → b ≡ permits w m
+judged w m b o P e h entry =
+    granted m (strongest (held_in w)) b P (rw (sym e) h) entry ∙ sym (word_judged w m)
 
-pub returns-in-None : goal.returns-in-None
-returns-in-None c =
-    let a = c.args in
-    sym (word_judged a.w a.m ∙ none-granted a.m (strongest (held_in a.w)) (sym c.in-None.ensures))
-
-pub returns-in-In : goal.returns-in-In
-returns-in-In c =
-    let a = c.args in
-    c.entry.ensures ∙ sym (word_judged a.w a.m ∙ held-decides a.m c.in-In.s (strongest (held_in a.w)) (sym c.in-In.ensures))
+pub returns : goal.returns
+returns c = judged c.args.w c.args.m _ _ _ c.strongest.ensures c.is_none_or.ensures (λ s p. search rules)

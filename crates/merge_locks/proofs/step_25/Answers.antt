@@ -1,10 +1,7 @@
--- `merge_locks::step_25` meets its contract.
-use mathlib.Core.Path.{refl}
-use Rattle.records.specs.Words.{seen}
-use Rattle.merge_locks.proofs.Requesting.{partner_requested}
+-- `merge_locks::step_25` meets its contract: what request ensures of the partner's lock.
+use Rattle.model.specs.Steps.MergeLocks.{step25}
 use Rattle.merge_locks.proofs.step_25.Goals as goal
 
 pub returns : goal.returns
-returns c = λ r ps.
-    let a = c.args in
-    partner_requested (seen r a.party.now a.q a.locks.now ps) c.chain_word-word.ensures refl (c.request_step.ensures r ps)
+unfolding step25
+returns c = λ ps. rw c.chain-lock.ensures at (c.request.ensures ps)

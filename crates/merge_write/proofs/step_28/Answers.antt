@@ -1,23 +1,16 @@
--- `merge_write::step_28` meets its contract.
-use Rattle.records.specs.Words.{seen}
-use Rattle.merge_write.proofs.Merges.{unsound_refused, level_0_refused, lowered_written}
+-- `merge_write::step_28` meets its contract: the scratch page is tested, and so is its local level.
+use mathlib.Core.Path.{◌≡◌, sym, ◌∙◌}
+use mathlib.Core.Bool.{false}
+use native.Mathlib.Omega.{arith}
+use Rattle.model.specs.Pages.{page_sound}
+use Rattle.model.specs.Steps.MergeWrite.{step28}
 use Rattle.merge_write.proofs.step_28.Goals as goal
 
 pub returns-then-not-page_sound : goal.returns-then-not-page_sound
+unfolding step28
 returns-then-not-page_sound c =
-    let a = c.args in
-    let v = seen a.root a.party.now a.q a.locks.now a.pages.now in
-    unsound_refused v c.scratch_of-scratch.ensures c.page_sound.ensures c.if-not-page_sound.true
+    let unsound : page_sound c.args.work.now.root c.scratch_of-scratch.result ≡ false = sym c.page_sound.ensures ∙ c.if-not-page_sound.true in
+    rw (← c.scratch_of-scratch.ensures, unsound)
 
-pub returns-then-level_of-eq0 : goal.returns-then-level_of-eq0
-returns-then-level_of-eq0 c =
-    let a = c.args in
-    let v = seen a.root a.party.now a.q a.locks.now a.pages.now in
-    level_0_refused v c.scratch_of-scratch.ensures c.page_sound.ensures c.if-not-page_sound.false c.level_of.ensures c.if-level_of-eq0.true
-
-pub returns : goal.returns
-returns c =
-    let a = c.args in
-    let v = seen a.root a.party.now a.q a.locks.now a.pages.now in
-    lowered_written v c.scratch_of-scratch.ensures c.page_sound.ensures c.if-not-page_sound.false c.level_of.ensures c.if-level_of-eq0.false
-    c.lowered.ensures c.store.ensures c.at_step.ensures
+pub lowered-requires : goal.lowered-requires
+lowered-requires c = omega (arith, c.level_of.ensures)

@@ -1,34 +1,20 @@
--- `mixing::mixed` meets its contract: each word is the table's.
-use mathlib.Core.Path.{◌≡◌, refl, sym, ap, ◌∙◌}
-use mathlib.Core.List.{List, []}
-use Prim.Native.Nat.{ℕ, ◌%◌, ◌<◌}
+-- `mixing::mixed` meets its contract: each word is the table's, by the byte of its place.
+use Rattle.std.proofs.Common.{◌≡◌, refl, sym, ap, ◌∙◌, ℕ, ◌%◌, List, [], get_or}
 use native.Mathlib.Nat.{div-one}
-use native.Mathlib.Omega.{arith}
-use lib.ListN.{get_or}
-use Rattle.model.specs.Mixing.{row_words, byte_of, table_word, mixed}
-use Rattle.mixing.specs.Places.{in_row}
+use Rattle.model.specs.Mixing.{byte_of, table_word, mixed}
 use Rattle.mixing.specs.Constant.{constant}
 use Rattle.mixing.proofs.Made.{word_made}
 use Rattle.mixing.proofs.mixed.Goals as goal
 
--- The word for a byte in a row of what `mixing::table` gives.
-word-given : {rows : List (List (List (List ℕ)))} → rows ≡ constant → (r byte : ℕ) → byte < row_words
-    → in_row (get_or rows r []) byte ≡ table_word r byte
-word-given same r byte h = rw same (word_made r byte h)
+-- The word at a byte of the rows that `mixing::table` lends.
+word_lent : {rows : List (List ℕ)} {bytes given : List ℕ} → rows ≡ constant → bytes ≡ given → (r word : ℕ)
+    → word ≡ get_or (get_or rows r []) (get_or bytes r 0) 0 → word ≡ table_word r (get_or given r 0)
+word_lent {given} same read r word e = e ∙ rw (same, read) (word_made r (get_or given r 0))
 
 -- Dividing by 256^0 changes nothing.
 pub returns : goal.returns
 unfolding byte_of mixed
 returns c =
-    let k = c.args.k in
-    let word = word-given c.table-rows.ensures in
-    let lowest = ap (λ (x : ℕ). table_word 0 (x % 256)) (div-one k) in
-    let first = c.word_0 in
-    let picked : first.result ≡ in_row (get_or c.table-rows.result 0 []) (k % 256) = first.ensures in
-    rw (
-      picked ∙ word 0 (k % 256) (omega arith) ∙ sym lowest,
-      c.word_1.ensures ∙ word 1 (byte_of 1 k) (omega arith),
-      c.word_2.ensures ∙ word 2 (byte_of 2 k) (omega arith),
-      c.word_3.ensures ∙ word 3 (byte_of 3 k) (omega arith),
-    )
-    refl
+    let word = word_lent c.table-rows.ensures c.to_le_bytes-bytes.ensures in
+    let lowest = ap (λ (x : ℕ). table_word 0 (x % 256)) (div-one c.args.k) in
+    rw (word 0 _ c.word.ensures ∙ sym lowest, word 1 _ c.word-2.ensures, word 2 _ c.word-3.ensures, word 3 _ c.word-4.ensures) refl

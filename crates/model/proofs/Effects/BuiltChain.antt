@@ -1,7 +1,7 @@
 -- A live chain looked through whole, and one chain built beside the file in pages taken from the free list, its
 -- primary page in scratch (step 10).
--- Main statements: chain_found; taken-one (the free list gives the pages); memory-long, built-off (the page memory
--- then); building-then, kept_by, none-new (what the party then has), Onward and built-parts (the parts of the invariant
+-- Main statements: chain_found; taken_one (the free list gives the pages); memory_long, built_off (the page memory
+-- then); building_then, kept_by, none_new (what the party then has), Onward and built_parts (the parts of the invariant
 -- after such a step).
 use mathlib.Core.Path.{◌≡◌, refl, sym, ap, ◌∙◌, subst}
 use mathlib.Core.Logic.{◌≢◌}

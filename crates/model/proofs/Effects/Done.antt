@@ -1,6 +1,6 @@
 -- Steps that end an operation: the party gives up all it holds, its record and scratch page are zeroed, and its answer
 -- is the book's note.
--- Main statements: claims_claimed (every lock of a list is claimed by it); Ends (what such a step owes), held-listed
+-- Main statements: claims_claimed (every lock of a list is claimed by it); Ends (what such a step owes), held_listed
 -- (its locks are found held), done-kept, ended-kept.
 use mathlib.Core.Path.{◌≡◌, refl, sym, ◌∙◌, subst, ap}
 use mathlib.Core.Bool.{true, true≢false}

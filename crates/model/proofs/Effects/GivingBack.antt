@@ -1,8 +1,8 @@
 -- Pages given back to the free list: those that the party's old link leads to and, after a merge, those of the partner
 -- (steps 14 and 29); those that it has built (withdraw).
 -- Main statements: no_reader (of a chain held exclusively); Kinds (the two kinds of pages that are given back), old_kinds,
--- built_kinds; given-room (the free count stays within V), given-long, given-sizes; one_given, two-given, given-kept,
--- no_pages_given, no_pages_withdrawn (who has what then); GivesBack (what else such a call leaves), giving-parts (the
+-- built_kinds; given_room (the free count stays within V), given_long, given_sizes; one_given, two_given, given-kept,
+-- no_pages_given, no_pages_withdrawn (who has what then); GivesBack (what else such a call leaves), giving_parts (the
 -- parts of the invariant after it).
 use mathlib.Core.Path.{◌≡◌, refl, sym, ap, ◌∙◌, subst}
 use mathlib.Core.Logic.{◌≢◌, ◌⊎◌, inl, inr}

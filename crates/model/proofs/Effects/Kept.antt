@@ -1,7 +1,7 @@
 -- What is owed of a step: it is not refused, it agrees with the book, the invariant holds after it, and no other find
 -- has more pages yet to copy; and how the parts of the invariant are put together again.
 -- Main statements: Kept; row_same, row_other, row_chain (the row after one record changed); ExtentsStay and
--- extents-move, ExtentsByOne and extents_by_one, extents_leave; assemble, ahead-stays; waits_kept (a waiting call),
+-- extents_move, ExtentsByOne and extents_by_one, extents_leave; assemble, ahead_stays; waits_kept (a waiting call),
 -- moved-kept (a step that moves).
 use mathlib.Core.Path.{◌≡◌, refl, sym, ap, ◌∙◌}
 use mathlib.Core.Logic.{◌≢◌}
@@ -12,6 +12,7 @@ use Prim.Native.Nat.{ℕ, ◌≤◌, ◌<◌}
 use native.Mathlib.Omega.{arith}
 use lib.ListN.{length, set, length-set}
 use lib.Seq.{get_or-set_same, get_or-set_other, set-get_or}
+use Rattle.std.specs.Prelude.{Ok}
 use Rattle.model.specs.declared.Root.{Root}
 use Rattle.model.specs.declared.Party.{Party}
 use Rattle.model.specs.Sizes.{lock_words}
@@ -46,7 +47,7 @@ pub record Kept (m : Memory) (b : Book) (q : ℕ) (o : Outcome) : Type 0 where
   -- Every other party requests what it requested.
   pub asks : AskSame m.root o.after.root m.parties (set m.parties o.after.number o.after.party) q
   -- A step that waits leaves what it was lent.
-  pub stays : o.answer ≡ StepAnswer.Waiting → o.after ≡ view_of m q
+  pub stays : o.answer ≡ Ok StepAnswer.Waiting → o.after ≡ view_of m q
 
 -- ---- The row of parties after one record changed
 

@@ -1,7 +1,7 @@
 -- A party that goes on to another step number while root, pages and ghost stay: what it knew holds of its new record.
--- Main statements: at_its_step; busy-onto, busy-to, busy-chains, busy-owed (bounds); leaving-to, settled-to (facts);
--- no-pages-left, settled-left, names-old (where no old pages are left, and where some are); split-owed, merge_owed_lem
--- (whose operation it is); SameFile, extents-rest, extents-keep, extents_stop (a party that does not restructure, goes
+-- Main statements: at_its_step; busy_onto, busy_to, busy_chains, busy_owed (bounds); leaving-to, settled_to (facts);
+-- no_pages_left, settled_left, names_old (where no old pages are left, and where some are); split_owed_ok, merge_owed_lem
+-- (whose operation it is); SameFile, extents_rest, extents_keep, extents_stop (a party that does not restructure, goes
 -- on to, or stops).
 use mathlib.Core.Path.{◌≡◌, refl, sym, ap, ◌∙◌}
 use mathlib.Core.Bool.{Bool, true, false, ◌&&◌, ◌||◌, false≢true}

@@ -1,7 +1,7 @@
 -- A step that writes the primary page of a chain that the party holds selectively or exclusively: what else stays.
--- Main statements: held_alone (nobody else holds the chain but to read it), held_exclusively (nobody else holds it); primary-off, primary-same, primary_long, owned-apart
--- (the pages afterwards); written-here, written-beside (the chains), old-linked (the pages that a chain leaves), free_beside; built-sound, built-level (scratch, where a chain is built);
--- read-beside (what a reader may walk).
+-- Main statements: held_alone (nobody else holds the chain but to read it), held_exclusively (nobody else holds it); primary_off, primary_same, primary_long, owned_apart
+-- (the pages afterwards); written_here, written_beside (the chains), old_linked (the pages that a chain leaves), free_beside; built_sound, built_level (scratch, where a chain is built);
+-- read_beside (what a reader may walk).
 use mathlib.Core.Path.{◌≡◌, refl, sym, ap, ◌∙◌, subst}
 use mathlib.Core.Logic.{◌≢◌}
 use mathlib.Core.Bool.{Bool, true, false, false≢true}

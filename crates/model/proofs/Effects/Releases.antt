@@ -1,6 +1,6 @@
 -- Steps that give up a lock: the lock is found held, and the words then say what the party's new record says.
--- Main statements: lock_held (a claimed lock is held); Holds (a lock of the party), holds-it, held_one, release-locks;
--- Releases (what a step owes that gives up one lock and moves on), given-up-kept, release-kept.
+-- Main statements: lock_held (a claimed lock is held); Holds (a lock of the party), holds_it, held_one, release_locks;
+-- Releases (what a step owes that gives up one lock and moves on), given_up_kept, release-kept.
 use mathlib.Core.Path.{◌≡◌, refl, sym, ◌∙◌, ap}
 use mathlib.Core.Logic.{◌≢◌}
 use mathlib.Core.Bool.{Bool, true, false, cond, not, ◌&&◌, ◌||◌, and-true, and-false, or-false}

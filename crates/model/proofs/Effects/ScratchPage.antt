@@ -1,6 +1,6 @@
 -- Steps that write the party's own scratch page and no other: no other party and no live chain notices. Root and ghost
 -- stay.
--- Main statements: protected-bounds; scratch-same, scratch-off (the page written); scratch-parts (the parts of the
+-- Main statements: protected_bounds; scratch_same, scratch_off (the page written); scratch_parts (the parts of the
 -- invariant after such a step); copied_walks (a page copied there by a find).
 use mathlib.Core.Path.{◌≡◌, refl, sym, ap, ◌∙◌}
 use mathlib.Core.Logic.{◌≢◌, ◌⊎◌, inl, inr}

@@ -1,7 +1,7 @@
 -- Pages taken from the front of the free list for what a party builds beside the file (steps 10 and 17): the first
 -- go to the chain that scratch leads to, the next to a split's new chain.
--- Main statements: Takes (what is taken), taken_is (the free list gives them), owned-then, built-then, new_then,
--- free-then, held_kept; TakesOut (what such a step leaves), touches and taking-parts (the parts of the invariant after
+-- Main statements: Takes (what is taken), taken_is (the free list gives them), owned_then, built_then, new_then,
+-- free_then, held_kept; TakesOut (what such a step leaves), touches and taking_parts (the parts of the invariant after
 -- it).
 use mathlib.Core.Path.{◌≡◌, refl, sym, ap, ◌∙◌}
 use mathlib.Core.Logic.{◌≢◌, ◌⊎◌, inl, inr}

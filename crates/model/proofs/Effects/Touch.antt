@@ -1,6 +1,6 @@
 -- Steps that write pages: which pages they touch, and why no other party and no live chain notices.
--- Main statements: Touch (the kinds of page that a step may write), Touches; keeps-touched (every other party keeps
--- what it relies on), chain-untouched (every live chain stays).
+-- Main statements: Touch (the kinds of page that a step may write), Touches; keeps_touched (every other party keeps
+-- what it relies on), chain_untouched (every live chain stays).
 use mathlib.Core.Path.{◌≡◌, refl, sym, ap, ◌∙◌, subst, subst₃}
 use mathlib.Core.Logic.{◌≢◌}
 use mathlib.Core.Bool.{true, false, false≢true}

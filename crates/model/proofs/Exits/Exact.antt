@@ -10,11 +10,12 @@ use mathlib.Core.List.{List, [], ◌∷◌, ◌++◌}
 use Prim.Native.Nat.{ℕ}
 use lib.ListN.{get_or, replicate}
 use lib.Dec.{eqb}
+use Rattle.std.specs.Prelude.{Ok, Err}
 use Rattle.model.specs.declared.Root.{Root}
 use Rattle.model.specs.declared.Party.{Party}
 use Rattle.model.specs.declared.StepAnswer.{StepAnswer}
 use Rattle.model.specs.Records.{find_operation, insert_operation, with_level, with_next, with_free_list, root_of_sizes, begun, at_step, with_chain, with_other, with_old, with_owed, with_answer}
-use Rattle.model.specs.Answers.{is_moved}
+use Rattle.model.specs.Answers.{is_moved, StepReply}
 use Rattle.model.specs.Outcome.{View}
 use Rattle.model.specs.Steps.Dispatch.{step_of, next_table, is_next, writes_table, writes}
 use Rattle.model.proofs.Exits.Statement.{row_passes, column_passed}
@@ -109,11 +110,11 @@ passing t (v ∷ vs) h = go (λ f. passing t vs f) (or_either (t v) (some t vs) 
 -- ---- Successors
 
 -- Whether an outcome is a move to step n, or an end for 0.
-unfoldable pub leads_to : ℕ → StepAnswer → ℕ → Bool
-leads_to n StepAnswer.Waiting step = false
-leads_to n StepAnswer.Moved step = eqb step n
-leads_to n (StepAnswer.Done a s) step = eqb n 0
-leads_to n (StepAnswer.Refused c) step = false
+unfoldable pub leads_to : ℕ → StepReply → ℕ → Bool
+leads_to n (Ok StepAnswer.Waiting) step = false
+leads_to n (Ok StepAnswer.Moved) step = eqb step n
+leads_to n (Ok (StepAnswer.Done a s)) step = eqb n 0
+leads_to n (Err c) step = false
 
 -- Whether step k of the view leads to n, in a find or not.
 abbrev pub leads : Bool → ℕ → ℕ → View → Bool

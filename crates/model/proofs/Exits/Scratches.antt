@@ -1,8 +1,8 @@
 -- What a step leaves of the other parties' scratch pages: it writes its own scratch page, primary pages, and overflow
 -- pages that were taken or are given back.
--- Main statements: IfSound (what holds of a reading that met no damage); taken-overflow, list-overflow (pages taken or
+-- Main statements: IfSound (what holds of a reading that met no damage); taken_overflow, list_overflow_ok (pages taken or
 -- walked through are overflow pages); Writable (a page that a step may write); Spares (a page memory in which the other
--- parties' scratch pages are as they were) with spares-written, spares-filled, spares-given; Leaves (the sizes and the
+-- parties' scratch pages are as they were) with spares_written, spares_filled, spares_given; Leaves (the sizes and the
 -- other parties' scratch pages stay); built_spares, halves_spares (chains built).
 use mathlib.Core.Path.{◌≡◌, refl, ◌∙◌}
 use mathlib.Core.Logic.{◌≢◌}

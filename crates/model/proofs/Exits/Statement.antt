@@ -10,6 +10,7 @@ use mathlib.Core.Option.{Option, none, some}
 use Prim.Native.Nat.{ℕ}
 use lib.ListN.{get_or}
 use lib.Dec.{eqb}
+use Rattle.model.specs.declared.Refusal.{Refusal}
 use Rattle.model.specs.declared.Party.{Party}
 use Rattle.model.specs.declared.OperationAnswer.{OperationAnswer}
 use Rattle.model.specs.declared.Restructuring.{Restructuring}
@@ -19,7 +20,7 @@ use Rattle.model.specs.declared.Root.{Root}
 use Rattle.model.specs.LockWords.{Claim}
 use Rattle.model.specs.Pages.{page_of, link_of, linked_page, names_overflow}
 use Rattle.model.specs.FreeList.{is_among}
-use Rattle.model.specs.Outcome.{View, Outcome, refuse, damage, waits, moved}
+use Rattle.model.specs.Outcome.{View, Outcome, refuse, waits, moved}
 use Rattle.model.specs.ScratchPages.{with_scratch, scratch_of}
 use Rattle.model.specs.Endings.{done}
 use Rattle.model.specs.LockRequests.{is_granted}
@@ -164,7 +165,7 @@ asks (some c) k r p = not (eqb k 13) || names_overflow r p.old
 -- An outcome of step k on the view v.
 pub data Exit (v : View) (k : ℕ) : Outcome → Type 0 where
   -- Refused for damage, before any request: all is as it was.
-  refusing : asks (want_at k v) k v.root v.party ≡ false → Exit v k (refuse damage v)
+  refusing : asks (want_at k v) k v.root v.party ≡ false → Exit v k (refuse Refusal.Damage v)
   -- Waiting for a lock that is wanted and not granted.
   waiting : (c : Claim) → want_at k v ≡ some c → is_granted v c ≡ false → asks (want_at k v) k v.root v.party ≡ true → Exit v k (waits v)
   -- The lock wanted is granted: on to another step.

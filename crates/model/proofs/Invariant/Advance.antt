@@ -1,7 +1,7 @@
 -- One split more, exactly: one chain more, the local levels of the chain that splits and of the new one, and every key's home.
--- Main statements: advance-size, advance-fits; advance-other, advance-split, advance-made (local levels); split-hash (where a key of the splitting chain goes), hash-back,
--- hash-back-made (whence the keys of the two came);
--- address-local, home-inside, home-leads, home-splits (a key's home before); home-other, home-split, home-made (afterwards).
+-- Main statements: advance_size, advance_fits; advance_other, advance_split, advance_made (local levels); split-hash (where a key of the splitting chain goes), hash_back,
+-- hash_back_made (whence the keys of the two came);
+-- address_local, home_inside, home_leads, home_splits (a key's home before); home_other, home_split, home_made (afterwards).
 use mathlib.Core.Path.{◌≡◌, sym, ap, ◌∙◌}
 use mathlib.Core.Logic.{◌≢◌, ◌⊎◌, inl, inr}
 use mathlib.Core.Bool.{true, false}

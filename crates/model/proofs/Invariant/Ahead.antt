@@ -1,6 +1,6 @@
 -- The pages that a find at 9 has yet to copy: how many they are, and that they stay while another party steps.
--- Main statements: ahead_in, AheadStays; protected-overflow, ahead_linked, ahead-walked (they are those of its walk);
--- ahead-kept (they stay while what the party relies on does).
+-- Main statements: ahead_in, AheadStays; protected_overflow, ahead_linked, ahead_walked (they are those of its walk);
+-- ahead_kept (they stay while what the party relies on does).
 use mathlib.Core.Path.{◌≡◌, refl, sym, ap, ◌∙◌}
 use mathlib.Core.Logic.{◌≢◌}
 use mathlib.Core.List.{List}

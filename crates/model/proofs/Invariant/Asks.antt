@@ -1,5 +1,5 @@
 -- What a party wants stays while others step: only 16 and 24 read the root for it, and there the party restructures.
--- Main statements: wants-same, requests-same (by what the party relies on).
+-- Main statements: wants_same, requests_same (by what the party relies on).
 use mathlib.Core.Path.{◌≡◌, refl, ap}
 use mathlib.Core.Bool.{true, cond, ◌||◌}
 use mathlib.Core.Option.{Option, none}

@@ -1,8 +1,8 @@
 -- Laws of extents: local levels, what one split more leaves of every chain, and where the hash functions of a key lead.
--- Main statements: level_fits, local_most, local_fits; local-low, local-high, local-split, local-made, local-rest;
+-- Main statements: level_fits, local_most, local_fits; local_low, local_high, local_split, local_made, local_rest;
 -- advance_grows, raised_grows (every chain stays and no local level falls);
--- outgrown-heads, next-heads, located-heads, chasing_heads (where the hash functions of a key lead), home_is (where they end); key-home, away-absent (a key is on its home
--- alone); restructurer; root-grows-low, low-grows-live.
+-- outgrown_heads, next_heads, located_heads, chasing_heads (where the hash functions of a key lead), home_is (where they end); key_home, away_absent (a key is on its home
+-- alone); restructurer; root_grows_low, low_grows_live.
 use mathlib.Core.Path.{◌≡◌, refl, sym, ap, ◌∙◌, subst}
 use mathlib.Core.Logic.{◌≢◌, ◌⊎◌, inl, inr}
 use mathlib.Core.Bool.{true, false, cond, ◌||◌}

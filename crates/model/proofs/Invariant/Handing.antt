@@ -1,6 +1,6 @@
 -- A chain written anew while all pages of one more owner go to another: those of the new chain at a split (step 18), those of the partner at a merge (step 28).
--- Main statements: Beside (an owner that a chain written anew leaves alone) with beside-chain, beside-party, beside-kind; own_also, held_also, Also (the side conditions);
--- also-to, also-from, also-chain, also-old, also-built, also-other (each list afterwards); owned-also; own-also-old, own-also-other, kinds-also.
+-- Main statements: Beside (an owner that a chain written anew leaves alone) with beside_chain, beside_party, beside_kind; own_also, held_also, Also (the side conditions);
+-- also_to, also_from, also_chain, also_old, also_built, also_other (each list afterwards); owned_also; own_also_old, own_also_other, kinds_also.
 use mathlib.Core.Path.{◌≡◌, refl, sym, ◌∙◌}
 use mathlib.Core.Logic.{◌≢◌}
 use mathlib.Core.Bool.{false}

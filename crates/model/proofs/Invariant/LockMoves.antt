@@ -1,8 +1,8 @@
 -- How lock words follow the locks held: a grant, a give-up, step 27's turn, and a party's record that changes.
--- Main statements, of one word: held-true, holds-held (what the word says is what is held); table-true, permits-true (a
--- request is permitted where Table I permits it beside every lock held); exclusive-alone, selective-one; word-granted,
--- word-released, word-restored (a grant given up at once), word_turned.
--- Of all words: locks-granted, locks-released, locks-turned, locks_same, locks_start. Of the parties' row: claimed_set,
+-- Main statements, of one word: held_true, holds_held (what the word says is what is held); table-true, permits-true (a
+-- request is permitted where Table I permits it beside every lock held); exclusive_alone, selective_one; word_granted,
+-- word_released, word_restored (a grant given up at once), word_turned.
+-- Of all words: locks_granted, locks_released, locks_turned, locks_same, locks_start. Of the parties' row: claimed_set,
 -- locks_move, locks_stay.
 use mathlib.Core.Path.{◌≡◌, refl, sym, ap, ◌∙◌, subst, fun_ext}
 use mathlib.Core.Logic.{◌≢◌}

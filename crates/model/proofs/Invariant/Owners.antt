@@ -1,6 +1,6 @@
 -- Page owners: how owners are told apart, what ownership says of pages and lists, how pages change hands, and which pages a write leaves alone.
--- Main statements: kinds_apart, indices_apart; own-of-member, member-of-own, no-repeats, apart, overflow-bounds; handed with handed-front, handed-all and handed-all-onto;
--- owned-anew (a chain written anew); same_off and same_held (frames); owned-start (all pages free).
+-- Main statements: kinds_apart, indices_apart; own_of_member, member_of_own, no_repeats, apart, overflow_bounds; handed with handed_front, handed_all and handed_all_onto;
+-- owned_anew (a chain written anew); same_off and same_held (frames); owned-start (all pages free).
 use mathlib.Core.Path.{◌≡◌, refl, sym, ap, ◌∙◌, subst}
 use mathlib.Core.Logic.{◌≢◌, ◌⊎◌, inl, inr}
 use mathlib.Core.Bool.{true, false, cond, ◌&&◌, false≢true}

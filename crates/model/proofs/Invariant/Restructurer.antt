@@ -1,5 +1,5 @@
 -- There is at most one restructurer: it holds the root selectively or exclusively.
--- Main statements: all_below_lem (a test that holds of each number below k); restructures_root (a restructurer holds the root), low_at; only-restructurer, others-rest;
+-- Main statements: all_below_lem (a test that holds of each number below k); restructures_root (a restructurer holds the root), low_at; only_restructurer, others_rest;
 -- using_restructures, others_use_none (nobody else uses a primary page outside the live file).
 use mathlib.Core.Path.{◌≡◌, refl, sym}
 use mathlib.Core.Logic.{◌≢◌, ◌⊎◌, inl, inr}

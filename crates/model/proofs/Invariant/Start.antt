@@ -1,5 +1,5 @@
 -- Formatted memory has the invariant, with the empty book beside it: every run starts in a state that has it.
--- Main statements: limits_within (the test of the sizes); start_ghost (every overflow page free, no records); start-inv, with a lemma for each part of Inv.
+-- Main statements: limits_within (the test of the sizes); start_ghost (every overflow page free, no records); start_inv, with a lemma for each part of Inv.
 use mathlib.Core.Path.{◌≡◌, refl, sym, ap, ◌∙◌}
 use mathlib.Core.Bool.{true, false, cond, ◌&&◌}
 use mathlib.Core.List.{List, []}

@@ -389,7 +389,7 @@ pub record Inv (m : Memory) (b : Book) : Type 0 where
   pub ghost : Ghost
   -- The sizes are within their limits.
   pub limits : Limits m.root
-  -- The lent rows have the lengths that the sizes ask for (the lock words': locks-ok).
+  -- The lent rows have the lengths that the sizes ask for (the lock words': locks_ok).
   pub parties_many : length m.parties ≡ m.root.parties
   pub pages_many : length m.pages ≡ all_page_words m.root
   -- The live file extends as root and restructurer say.

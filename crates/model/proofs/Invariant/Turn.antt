@@ -1,7 +1,7 @@
 -- One party's turn: the invariant holds, the party is in the row, and its step number is known. Every step lemma
 -- begins here.
--- Main statements: Turn, turn_at; me, before, after; row-long, party-small; its-claims, has-step, restructures-now,
--- uses-none, note-still, owns-no-old (what goes by the step number); live_now, low-now (how far the file extends while
+-- Main statements: Turn, turn_at; me, before, after; row_long, party_small; its_claims, has_step_ok, restructures-now,
+-- uses_none, note_still, owns_no_old (what goes by the step number); live_now, low-now (how far the file extends while
 -- the party restructures).
 use mathlib.Core.Path.{◌≡◌, refl, ap, ◌∙◌, subst}
 use mathlib.Core.Bool.{Bool, true, false, ◌||◌}

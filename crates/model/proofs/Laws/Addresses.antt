@@ -1,5 +1,5 @@
 -- Laws of addresses: what one more bit of a key adds to its hash, and that an address is one of the chains there are.
--- Main statements: span_next, span_pos; hash-lt, hash-next; address_lt.
+-- Main statements: span_next, span_pos; hash_lt, hash_next; address_lt.
 use mathlib.Core.Path.{◌≡◌, ap, ◌∙◌}
 use mathlib.Core.Logic.{◌⊎◌, inl, inr}
 use Prim.Native.Nat.{ℕ, zero, suc, ◌+◌, ◌*◌, ◌/◌, ◌%◌, ◌<◌}

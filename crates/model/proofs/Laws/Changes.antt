@@ -1,7 +1,7 @@
 -- What an insert or a delete makes of a chain's records: one key more or one key less, every other key with the setting it had, and the keys still ascend.
 -- Main statements: has_inserted, length_inserted (the keys afterwards); setting_inserted, setting_removed (their
 -- settings); ascends_inserted, ascends_removed;
--- setting_after, setting_eleven (what the book's 11 makes of every key), ascends_eleven; ChangeMade and change-made (a
+-- setting_after, setting_eleven (what the book's 11 makes of every key), ascends_eleven; ChangeMade and change_made (a
 -- change of a chain is the one that the book makes of its map).
 use mathlib.Core.Path.{◌≡◌, refl, sym, ap, subst, ◌∙◌}
 use mathlib.Core.Bool.{Bool, true, false, cond, ◌||◌, false≢true}

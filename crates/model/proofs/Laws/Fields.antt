@@ -1,6 +1,6 @@
 -- Laws of the fields of a lock word: what field_of reads after with_field wrote.
--- Main statements: field-same, field_below, field-above, bit_other (what a field is after it, or another, was
--- written); field-again (a field written twice), field_own (with its own value); field_lt, withField-lt, with_field_26
+-- Main statements: field_same, field_below, field_above, bit_other (what a field is after it, or another, was
+-- written); field-again (a field written twice), field_own (with its own value); field_lt, with_field_lt, with_field_26
 -- (bounds); readers_zero, reader_zero (no reader bit is set where the readers are 0).
 use mathlib.Core.Path.{◌≡◌, refl, sym, ap, ◌∙◌}
 use mathlib.Core.Logic.{◌≢◌}

@@ -1,7 +1,7 @@
 -- Page filling for every number b of records a page: how many overflow pages a chain needs, and what its pages are once filled.
 -- Main definitions: Chained (the pages that a link word leads to), Room (pages enough to write a chain), Written (what holds once it is written).
--- Main statements: needed-few, needed-more (overflow pages needed); none_over, one_page, fits_page (records that fit the primary page); overflow-filled, filled-other, length-filled (overflow pages filled);
--- overflow_entries, overflow_linked, chain-entries, chain-chained (what a chain's pages say); chain_written_lem (a chain written whole).
+-- Main statements: needed_few, needed_more (overflow pages needed); none_over, one_page, fits_page (records that fit the primary page); overflow_filled, filled_other, length-filled (overflow pages filled);
+-- overflow_entries, overflow_linked, chain_entries, chain_chained (what a chain's pages say); chain_written_lem (a chain written whole).
 use mathlib.Core.Path.{◌≡◌, refl, sym, ap, ◌∙◌}
 use mathlib.Core.Logic.{◌≢◌}
 use mathlib.Core.Bool.{Bool, true, false}

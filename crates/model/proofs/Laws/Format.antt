@@ -1,5 +1,5 @@
 -- Laws of format: the pages of two memories one after the other, and what each page holds once memory is formatted.
--- Main statements: page_left, page_right; length-formatted; formatted-primary and formatted-scratch (zero pages); formatted-free (the free list, ascending).
+-- Main statements: page_left, page_right; length-formatted; formatted_primary and formatted_scratch (zero pages); formatted_free (the free list, ascending).
 use mathlib.Core.Path.{◌≡◌, refl, sym, ap, ◌∙◌}
 use mathlib.Core.Bool.{cond}
 use mathlib.Core.List.{List, ◌++◌, append_assoc}

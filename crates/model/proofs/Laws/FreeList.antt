@@ -1,7 +1,7 @@
 -- The free list: pages taken from its front, and pages given back to it.
 -- That lists have no page twice, and none in common, is said by counts: no page is counted more than once in all of them.
 -- Main statements: taken_from_lem, taken_front and free_drop (pages taken, and what stays); given_head, given_free,
--- given_other and length-given (pages given back); given-again, head-again and length-again (pages taken and given back
+-- given_other and length-given (pages given back); given-again, head_again and length-again (pages taken and given back
 -- in reverse order).
 use mathlib.Core.Path.{◌≡◌, refl, sym, ap, ◌∙◌, subst}
 use mathlib.Core.Logic.{◌≢◌}

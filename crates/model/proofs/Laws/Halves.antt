@@ -1,5 +1,5 @@
 -- The two halves of a chain that splits: which keys stay and which go, and that both halves ascend.
--- Main statements: has-staying, has-going (the keys of each half); setting-staying, setting-going (their settings); ascends-staying, ascends-going.
+-- Main statements: has_staying, has_going (the keys of each half); setting_staying, setting_going (their settings); ascends_staying, ascends_going.
 use mathlib.Core.Path.{◌≡◌, refl, sym, ap, ◌∙◌}
 use mathlib.Core.Bool.{Bool, true, false, cond, not, ◌&&◌, ◌||◌, and-false}
 use mathlib.Core.List.{List, [], ◌∷◌}

@@ -1,6 +1,6 @@
 -- Ascending lists of records, and two of them joined: which keys the joined list has, how many, that it ascends, and that it is made by taking the smaller first key each time.
 -- Main statements: below_absent; below_rest, below_cons, ascending-first, ascending_rest (an ascending list by its first key); has_joined, setting_joined, length-joined; ascends_joined;
--- first-joined, second_joined (the record that comes first); first-unshared, second_unshared, both_shared (whether a key is in both).
+-- first-joined, second_joined (the record that comes first); first_unshared, second_unshared, both_shared (whether a key is in both).
 use mathlib.Core.Path.{◌≡◌, refl, sym, ap, ◌∙◌}
 use mathlib.Core.Bool.{Bool, true, false, cond, ◌||◌, or_assoc}
 use mathlib.Core.List.{List, [], ◌∷◌}

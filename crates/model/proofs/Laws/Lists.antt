@@ -1,7 +1,7 @@
 -- Tools over tests, numbers and lists that the other proof files share: ways to branch, how often a number is in a list, whether it is,
 -- and facts of every element.
 -- Main statements: cmp, ord, tell (branch by data that carry the facts); cond_ind; count_append, count_cut, count-reverse; among_counts (a number is in a list
--- where its count is not 0); All, all_in, all_from; Numbered, numbered-at, numbered_below (facts of a table's entries
+-- where its count is not 0); All, all_in, all_from; Numbered, numbered_at, numbered_below (facts of a table's entries
 -- by their numbers);
 -- all_pass, passed_at, passed_below (the same by computing); front_part (the front of a buffer, as it is lent).
 use mathlib.Core.Path.{◌≡◌, refl, sym, ap, ◌∙◌, subst}

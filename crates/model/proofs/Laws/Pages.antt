@@ -1,7 +1,7 @@
 -- Laws of pages: what page memory and a page's fields are after a page was written.
 -- A page of the memory: Has.
--- Main statements: page-same, page-other, length-withPage; length_page_of, word_at, same_words_lem (pages say all words);
--- with_page_page_of, withPage-withPage, with_page_comm; length_words_of, records_words_of (records as words);
+-- Main statements: page_same, page_other, length-with_page; length_page_of, word_at, same_words_lem (pages say all words);
+-- with_page_page_of, with_page-with_page, with_page_comm; length_words_of, records_words_of (records as words);
 -- level-, count-, link-, entries- and length- of filled_page, free_page, zero_page and with_local_level.
 use mathlib.Core.Path.{◌≡◌, refl, sym, ap, ◌∙◌}
 use mathlib.Core.Logic.{◌≢◌}

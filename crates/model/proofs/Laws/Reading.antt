@@ -1,7 +1,7 @@
 -- Reading back what Structure says of the page memory: pages that stand linked are listed by the walk, and a chain that holds these records is read as them.
--- Main statements: has_overflow, primary_outside, scratch_outside, outside_absent, absent_outside, length_overflow (lists of overflow pages); held-overflow, held-length,
--- held-apart, both-length (the lists that owners hold); names_first, names_some, first_linked, link_none (link words); linked_list (a walk over linked pages); overflow_length (how many overflow
--- pages a chain has); entries_primary, chain-list and chain_read (a chain looked through whole).
+-- Main statements: has_overflow, primary_outside, scratch_outside, outside_absent, absent_outside, length_overflow (lists of overflow pages); held_overflow, held_length,
+-- held_apart, both-length (the lists that owners hold); names_first, names_some, first_linked, link_none (link words); linked_list (a walk over linked pages); overflow_length (how many overflow
+-- pages a chain has); entries_primary, chain_list and chain_read (a chain looked through whole).
 use mathlib.Core.Path.{◌≡◌, refl, sym, ap, ◌∙◌}
 use mathlib.Core.Logic.{◌≢◌, ◌↔◌}
 use mathlib.Core.Bool.{true, false}

@@ -1,5 +1,5 @@
 -- A merge moves level and next one split back.
--- Main statements: Retreat (an extent one split back), merge-retreats (target and level after a merge are one), merge-partner (the partner is then the chain behind the last),
+-- Main statements: Retreat (an extent one split back), merge_retreats (target and level after a merge are one), merge_partner_ok (the partner is then the chain behind the last),
 -- target_before.
 use mathlib.Core.Path.{◌≡◌, sym, ap, ◌∙◌}
 use mathlib.Core.Logic.{◌≢◌}

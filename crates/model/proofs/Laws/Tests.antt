@@ -1,6 +1,6 @@
 -- The tests of links and pages: what each means once it holds, and what makes it fail.
--- Main statements: named-within (where a link that names an overflow page points), sound-link-fits (its page stands in the memory);
--- sound-page-links, sound-page-counts, sound-page-levels (of a sound page).
+-- Main statements: named-within (where a link that names an overflow page points), sound_link_fits (its page stands in the memory);
+-- sound_page_links, sound_page_counts, sound_page_levels (of a sound page).
 use mathlib.Core.Path.{◌≡◌, refl, sym, ◌∙◌}
 use mathlib.Core.Bool.{true, false, ◌&&◌}
 use mathlib.Core.List.{List}

@@ -1,7 +1,7 @@
 -- Lists of records, no key in two of them, joined into one.
 -- Main statements: listed, listed_at, chains_listed (the records of a run of chains); Apart; setting_all (a key has in
 -- the joined list what the list that has it says), setting_home, found_all;
--- ascends_all; chains-at, on_chain, chains-apart (the chains of a file).
+-- ascends_all; chains_at_ok, on_chain, chains_apart (the chains of a file).
 use mathlib.Core.Path.{◌≡◌, refl, sym, ap, ◌∙◌}
 use mathlib.Core.Bool.{Bool, true, false, cond, false≢true}
 use mathlib.Core.List.{List, [], ◌∷◌}

@@ -1,6 +1,6 @@
 -- The ledger of waits, which specs/Holds.antt derives from the calls, beside the waiting row.
 -- Main statements: parties_in, WaitsOk (the row's parties are the ledger's, and each requests what it is entered with);
--- behind_is (who stands behind somebody by the row does so by the ledger); waits-join, waits-leave, waits-stay (what
+-- behind_is (who stands behind somebody by the row does so by the ledger); waits-join, waits_leave, waits_stay (what
 -- becomes of both where a party waits, leaves, or is not in the row).
 use mathlib.Core.Path.{◌≡◌, refl, sym, ap, ◌∙◌, subst}
 use mathlib.Core.Bool.{Bool, true, false, cond, ◌||◌}

@@ -1,6 +1,6 @@
 -- What a walk finds: the pages that a link leads to are linked and sound, no more than the walk may follow, and none stands twice.
--- Main statements: walked-chained (a walk without damage); Reads and chain_reads (a chain looked through whole),
--- read_ascends; linked-sound, linked-overflow, linked-distinct (of pages that stand linked);
+-- Main statements: walked_chained (a walk without damage); Reads and chain_reads (a chain looked through whole),
+-- read_ascends; linked_sound, linked_overflow, linked_distinct (of pages that stand linked);
 -- same_beside (a page that is none of them is written); length-entries_on (how many records pages hold at most).
 use mathlib.Core.Path.{◌≡◌, refl, sym, ap, ◌∙◌}
 use mathlib.Core.Logic.{◌≢◌}

@@ -1,4 +1,4 @@
--- One answer: which are right, as tables over every number of a refusal; and where a split and a merge stop.
+-- One answer: which are right, as tables over every refusal; and where a split and a merge stop.
 -- Main statements: answers_to-request, answers_without_request, answers_idle (a step); begins_beyond, begins_busy,
 -- begins_free (a begin); withdraws_beyond, withdraws_idle, withdraws_decided, withdraws_free (a withdraw); stops_told,
 -- merge_stops_told, open_below_P, barred_at_P, open_above_N, barred_at_N (a split and a merge); limits_told,
@@ -10,73 +10,74 @@ use mathlib.Core.List.{List, [], ◌∷◌, map}
 use Prim.Native.Nat.{ℕ, ◌≤◌}
 use native.Mathlib.Omega.{arith}
 use lib.Dec.{eqb, leb}
+use Rattle.std.specs.Prelude.{Ok, Err}
+use Rattle.model.specs.declared.Refusal.{Refusal}
+use Rattle.model.specs.Answers.{StepReply, CallReply, cause_number}
 use Rattle.model.specs.declared.OperationAnswer.{OperationAnswer}
 use Rattle.model.specs.declared.Restructuring.{Restructuring}
 use Rattle.model.specs.declared.StepAnswer.{StepAnswer}
-use Rattle.model.specs.declared.BeginAnswer.{BeginAnswer}
-use Rattle.model.specs.declared.WithdrawAnswer.{WithdrawAnswer}
 use Rattle.model.specs.Sizes.{within_limits}
 use Rattle.model.specs.Records.{root_of_sizes}
 use Rattle.model.specs.Addresses.{split_barred, merge_barred}
-use Rattle.model.specs.Holds.{grant_right, never_waits, refused_with, begin_refused_with, withdraw_refused_with, is_begun, is_withdrawn, idle_right, begin_right, withdraw_right}
+use Rattle.model.specs.Holds.{grant_right, never_waits, refused_with, idle_right, begin_right, withdraw_right}
 use Rattle.model.proofs.Laws.Lists.{eqb_same, eqb-diff, le-leb}
 
 -- What a step can answer.
-abbrev pub step_answers : OperationAnswer → Restructuring → ℕ → List StepAnswer
-step_answers a s n = StepAnswer.Waiting ∷ StepAnswer.Moved ∷ StepAnswer.Done a s ∷ StepAnswer.Refused n ∷ []
+abbrev pub step_answers : OperationAnswer → Restructuring → Refusal → List StepReply
+step_answers a s n = Ok StepAnswer.Waiting ∷ Ok StepAnswer.Moved ∷ Ok (StepAnswer.Done a s) ∷ Err n ∷ []
 
 -- To a request: moved where it is permitted, waiting where it is not, and nothing else.
-pub answers_to-request : (may : Bool) (a : OperationAnswer) (s : Restructuring) (n : ℕ) → map (grant_right may) (step_answers a s n) ≡ not may ∷ may ∷ false ∷ false ∷ []
+pub answers_to-request : (may : Bool) (a : OperationAnswer) (s : Restructuring) (n : Refusal) → map (grant_right may) (step_answers a s n) ≡ not may ∷ may ∷ false ∷ false ∷ []
 unfolding grant_right
 answers_to-request may a s n = refl
 
 -- Without one: moved or done.
-pub answers_without_request : (a : OperationAnswer) (s : Restructuring) (n : ℕ) → map never_waits (step_answers a s n) ≡ false ∷ true ∷ true ∷ false ∷ []
+pub answers_without_request : (a : OperationAnswer) (s : Restructuring) (n : Refusal) → map never_waits (step_answers a s n) ≡ false ∷ true ∷ true ∷ false ∷ []
 unfolding never_waits
 answers_without_request a s n = refl
 
 -- With nothing under way: refused, 3 beyond the row and else 5, with that number alone.
 pub answers_idle :
-    (parties q : ℕ) (a : OperationAnswer) (s : Restructuring) (n : ℕ)
-    → map (idle_right parties q) (step_answers a s n) ≡ false ∷ false ∷ false ∷ eqb n (cond (leb parties q) 3 5) ∷ []
+    (parties q : ℕ) (a : OperationAnswer) (s : Restructuring) (n : Refusal)
+    → map (idle_right parties q) (step_answers a s n) ≡ false ∷ false ∷ false ∷ eqb (cause_number n) (cond (leb parties q) 3 5) ∷ []
 unfolding idle_right refused_with
 answers_idle parties q a s n = refl
 
 -- What a begin can answer: 3 beyond the row, 4 where one is under way, and else begun.
-abbrev pub begin_answers : ℕ → List BeginAnswer
-begin_answers n = BeginAnswer.Begun ∷ BeginAnswer.Refused n ∷ []
+abbrev pub begin_answers : Refusal → List CallReply
+begin_answers n = Ok tt ∷ Err n ∷ []
 
-pub begins_beyond : (parties q : ℕ) (busy : Bool) (n : ℕ) → leb parties q ≡ true → map (begin_right parties q busy) (begin_answers n) ≡ false ∷ eqb n 3 ∷ []
-unfolding begin_right begin_refused_with
+pub begins_beyond : (parties q : ℕ) (busy : Bool) (n : Refusal) → leb parties q ≡ true → map (begin_right parties q busy) (begin_answers n) ≡ false ∷ eqb (cause_number n) 3 ∷ []
+unfolding begin_right refused_with
 begins_beyond parties q busy n h = rw h refl
 
-pub begins_busy : (parties q n : ℕ) → leb parties q ≡ false → map (begin_right parties q true) (begin_answers n) ≡ false ∷ eqb n 4 ∷ []
-unfolding begin_right begin_refused_with
+pub begins_busy : (parties q : ℕ) (n : Refusal) → leb parties q ≡ false → map (begin_right parties q true) (begin_answers n) ≡ false ∷ eqb (cause_number n) 4 ∷ []
+unfolding begin_right refused_with
 begins_busy parties q n h = rw h refl
 
-pub begins_free : (parties q n : ℕ) → leb parties q ≡ false → map (begin_right parties q false) (begin_answers n) ≡ true ∷ false ∷ []
-unfolding begin_right is_begun
+pub begins_free : (parties q : ℕ) (n : Refusal) → leb parties q ≡ false → map (begin_right parties q false) (begin_answers n) ≡ true ∷ false ∷ []
+unfolding begin_right
 begins_free parties q n h = rw h refl
 
 -- What a withdraw can answer: 3 beyond the row, 5 with nothing under way, 7 where the decisive step is taken, and else
 -- withdrawn.
-abbrev pub withdraw_answers : ℕ → List WithdrawAnswer
-withdraw_answers n = WithdrawAnswer.Withdrawn ∷ WithdrawAnswer.Refused n ∷ []
+abbrev pub withdraw_answers : Refusal → List CallReply
+withdraw_answers n = Ok tt ∷ Err n ∷ []
 
-pub withdraws_beyond : (parties q : ℕ) (busy decided : Bool) (n : ℕ) → leb parties q ≡ true → map (withdraw_right parties q busy decided) (withdraw_answers n) ≡ false ∷ eqb n 3 ∷ []
-unfolding withdraw_right withdraw_refused_with
+pub withdraws_beyond : (parties q : ℕ) (busy decided : Bool) (n : Refusal) → leb parties q ≡ true → map (withdraw_right parties q busy decided) (withdraw_answers n) ≡ false ∷ eqb (cause_number n) 3 ∷ []
+unfolding withdraw_right refused_with
 withdraws_beyond parties q busy decided n h = rw h refl
 
-pub withdraws_idle : (parties q : ℕ) (decided : Bool) (n : ℕ) → leb parties q ≡ false → map (withdraw_right parties q false decided) (withdraw_answers n) ≡ false ∷ eqb n 5 ∷ []
-unfolding withdraw_right withdraw_refused_with
+pub withdraws_idle : (parties q : ℕ) (decided : Bool) (n : Refusal) → leb parties q ≡ false → map (withdraw_right parties q false decided) (withdraw_answers n) ≡ false ∷ eqb (cause_number n) 5 ∷ []
+unfolding withdraw_right refused_with
 withdraws_idle parties q decided n h = rw h refl
 
-pub withdraws_decided : (parties q n : ℕ) → leb parties q ≡ false → map (withdraw_right parties q true true) (withdraw_answers n) ≡ false ∷ eqb n 7 ∷ []
-unfolding withdraw_right withdraw_refused_with
+pub withdraws_decided : (parties q : ℕ) (n : Refusal) → leb parties q ≡ false → map (withdraw_right parties q true true) (withdraw_answers n) ≡ false ∷ eqb (cause_number n) 7 ∷ []
+unfolding withdraw_right refused_with
 withdraws_decided parties q n h = rw h refl
 
-pub withdraws_free : (parties q n : ℕ) → leb parties q ≡ false → map (withdraw_right parties q true false) (withdraw_answers n) ≡ true ∷ false ∷ []
-unfolding withdraw_right is_withdrawn
+pub withdraws_free : (parties q : ℕ) (n : Refusal) → leb parties q ≡ false → map (withdraw_right parties q true false) (withdraw_answers n) ≡ true ∷ false ∷ []
+unfolding withdraw_right
 withdraws_free parties q n h = rw h refl
 
 -- ---- Where a split and a merge stop

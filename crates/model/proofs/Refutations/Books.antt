@@ -7,12 +7,11 @@ use mathlib.Core.Bool.{true, false}
 use mathlib.Core.List.{List, [], ◌∷◌, ◌++◌}
 use mathlib.Core.Option.{none}
 use Prim.Native.Nat.{ℕ}
+use Rattle.std.specs.Prelude.{Ok}
 use Rattle.model.specs.declared.Operation.{Operation}
 use Rattle.model.specs.declared.OperationAnswer.{OperationAnswer}
 use Rattle.model.specs.declared.Restructuring.TheVariants as Restructuring
 use Rattle.model.specs.declared.StepAnswer.TheVariants as StepAnswer
-use Rattle.model.specs.declared.BeginAnswer.TheVariants as BeginAnswer
-use Rattle.model.specs.declared.WithdrawAnswer.TheVariants as WithdrawAnswer
 use Rattle.model.specs.Entries.{entry_of}
 use Rattle.model.specs.Runs.{Call, begin_for, step_for, withdraw_for, Reply, to_begin, to_step, to_withdraw, Event}
 use Rattle.model.specs.Book.{Book, book_agrees}
@@ -27,16 +26,16 @@ happened c n x = record { call = c; number = n; reply = x }
 
 -- Party 1 begins; performs step n; is done at step n with an answer; withdraws.
 abbrev pub begins : Operation → ℕ → Event
-begins o k = happened (begin_for 1 o k) 0 (to_begin BeginAnswer.Begun)
+begins o k = happened (begin_for 1 o k) 0 (to_begin (Ok tt))
 
 abbrev pub moves : ℕ → Event
-moves n = happened (step_for 1) n (to_step StepAnswer.Moved)
+moves n = happened (step_for 1) n (to_step (Ok StepAnswer.Moved))
 
 abbrev pub ends : ℕ → OperationAnswer → Event
-ends n a = happened (step_for 1) n (to_step (StepAnswer.Done a Restructuring.None))
+ends n a = happened (step_for 1) n (to_step (Ok (StepAnswer.Done a Restructuring.None)))
 
 abbrev pub withdraws : Event
-withdraws = happened (withdraw_for 1) 9 (to_withdraw WithdrawAnswer.Withdrawn)
+withdraws = happened (withdraw_for 1) 9 (to_withdraw (Ok tt))
 
 -- ---- A find of a key that is in, and of one that is not
 

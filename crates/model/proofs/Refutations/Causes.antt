@@ -1,10 +1,12 @@
--- Calls that meet several causes of refusal at once, run on the smallest file: each gets the earliest one's number
+-- Calls that meet several causes of refusal at once, run on the smallest file: each gets the earliest one
 -- (document 01, "Refused calls"). proofs/Theorems/RefusalOrder.antt has the same of every memory.
 -- Main statements: begin_first, step-first, withdraw_first.
 use mathlib.Core.Path.{◌≡◌, refl}
 use mathlib.Core.List.{[], ◌∷◌}
 use Prim.Native.Nat.{ℕ}
 use lib.ListN.{replicate}
+use Rattle.std.specs.Prelude.{Ok, Err}
+use Rattle.model.specs.declared.Refusal.{Refusal}
 use Rattle.model.specs.declared.Root.{Root}
 use Rattle.model.specs.declared.Party.{Party}
 use Rattle.model.specs.Records.{root_of_sizes, with_level, at_step, begun, idle}
@@ -41,7 +43,7 @@ begin_first :
     ∷ first_cause (begin_rows (lent one 2 early) 1)
     ∷ first_cause (begin_rows (lent one 2 early) 0)
     ∷ first_cause (begin_rows (lent one 2 idle) 0) ∷ []
-    ≡ 2 ∷ 1 ∷ 3 ∷ 4 ∷ 0 ∷ []
+    ≡ Err Refusal.Size ∷ Err Refusal.Length ∷ Err Refusal.Party ∷ Err Refusal.Busy ∷ Ok tt ∷ []
 unfolding opened
 begin_first = refl
 
@@ -53,7 +55,7 @@ step-first :
     ∷ first_cause (step_rows (lent harmed 2 idle) 0)
     ∷ first_cause (step_rows (lent harmed 2 early) 0)
     ∷ first_cause (step_rows (lent one 2 early) 0) ∷ []
-    ≡ 2 ∷ 1 ∷ 3 ∷ 5 ∷ 6 ∷ 0 ∷ []
+    ≡ Err Refusal.Size ∷ Err Refusal.Length ∷ Err Refusal.Party ∷ Err Refusal.Idle ∷ Err Refusal.Damage ∷ Ok tt ∷ []
 unfolding opened
 step-first = refl
 
@@ -66,6 +68,6 @@ withdraw_first :
     ∷ first_cause (withdraw_rows (lent harmed 2 late) 0)
     ∷ first_cause (withdraw_rows (lent harmed 2 early) 0)
     ∷ first_cause (withdraw_rows (lent one 2 early) 0) ∷ []
-    ≡ 2 ∷ 1 ∷ 3 ∷ 5 ∷ 7 ∷ 6 ∷ 0 ∷ []
+    ≡ Err Refusal.Size ∷ Err Refusal.Length ∷ Err Refusal.Party ∷ Err Refusal.Idle ∷ Err Refusal.Decided ∷ Err Refusal.Damage ∷ Ok tt ∷ []
 unfolding opened
 withdraw_first = refl

@@ -1,8 +1,8 @@
 -- What follows from the statements of specs/Effects.antt and specs/Consistency.antt for a caller: each takes a field
 -- that nothing else reads, so that none can be emptied unseen.
--- Main statements: moved-alters, done-alters, waiting-leaves, waiting-joins, waiting-again, refused-leaves (a step);
--- begin_refused_leaves, withdraw_refused_leaves; lock_refused, nothing_awaited (a wait); one-step-fed, one-begin-fed,
--- one-withdraw-fed, other_answer_refused, refused_withdraw_kept (the book); searched_home, searched_page,
+-- Main statements: moved-alters, done-alters, waiting_leaves, waiting_joins, waiting_again, refused_leaves (a step);
+-- begin_refused_leaves, withdraw_refused_leaves; lock_refused, nothing_awaited (a wait); one_step_fed, one_begin_fed,
+-- one_withdraw_fed, other_answer_refused, refused_withdraw_kept (the book); searched_home, searched_page,
 -- searched_locked, walked_locked, stays_at_nine (a search); next_in_round, pair_words_at (the file);
 -- joined-writes_scratch, both-given_back (a merge).
 use mathlib.Core.Path.{◌≡◌, sym, ap, ◌∙◌}
@@ -12,14 +12,14 @@ use mathlib.Core.Option.{none}
 use mathlib.Core.List.{List, [], ◌∷◌}
 use Prim.Native.Nat.{ℕ, ◌+◌, ◌*◌, ◌^◌, ◌<◌}
 use lib.ListN.{length, get_or}
+use Rattle.std.specs.Prelude.{Ok, Err}
+use Rattle.model.specs.declared.Refusal.{Refusal}
 use Rattle.model.specs.declared.Party.{Party}
 use Rattle.model.specs.declared.Entry.{Entry}
 use Rattle.model.specs.declared.Operation.{Operation}
 use Rattle.model.specs.declared.OperationAnswer.{OperationAnswer}
 use Rattle.model.specs.declared.Restructuring.{Restructuring}
 use Rattle.model.specs.declared.StepAnswer.{StepAnswer}
-use Rattle.model.specs.declared.BeginAnswer.TheVariants as BeginAnswer
-use Rattle.model.specs.declared.WithdrawAnswer.TheVariants as WithdrawAnswer
 use Rattle.model.specs.Answers.{performs}
 use Rattle.model.specs.Pages.{page_of, primary_page, scratch_page}
 use Rattle.model.specs.Addresses.{span, hash}
@@ -49,29 +49,29 @@ module _ (m : Memory) (q : ℕ) (s : StepAlters m q) where
   own_altered (own_record a) e = a.another_step (ap (λ (u : Memory). (party_at u.parties q).step) e)
   own_altered (own_scratch a) e = a.another_link (ap (λ (u : Memory). scratch_link u q) e)
 
-  pub moved-alters : (step_call m q).answer ≡ StepAnswer.Moved → (step_call m q).memory ≢ m
+  pub moved-alters : (step_call m q).answer ≡ Ok StepAnswer.Moved → (step_call m q).memory ≢ m
   unfolding performs
   moved-alters e = own_altered (s.performed (ap performs e))
 
-  pub done-alters : (a : OperationAnswer) (r : Restructuring) → (step_call m q).answer ≡ StepAnswer.Done a r → (step_call m q).memory ≢ m
+  pub done-alters : (a : OperationAnswer) (r : Restructuring) → (step_call m q).answer ≡ Ok (StepAnswer.Done a r) → (step_call m q).memory ≢ m
   unfolding performs
   done-alters a r e = own_altered (s.performed (ap performs e))
 
   -- A waiting call leaves all but the row, and all where the party is in the row.
-  pub waiting_leaves : (step_call m q).answer ≡ StepAnswer.Waiting
+  pub waiting_leaves : (step_call m q).answer ≡ Ok StepAnswer.Waiting
       → ((step_call m q).memory.root ≡ m.root) × ((step_call m q).memory.parties ≡ m.parties) × ((step_call m q).memory.locks ≡ m.locks)
       × ((step_call m q).memory.pages ≡ m.pages)
   waiting_leaves e =
       let f = s.otherwise.waits e in
       (ap (λ (u : Memory). u.root) f, ap (λ (u : Memory). u.parties) f, ap (λ (u : Memory). u.locks) f, ap (λ (u : Memory). u.pages) f)
 
-  pub waiting_joins : (step_call m q).answer ≡ StepAnswer.Waiting → (step_call m q).memory.waiting ≡ row_with q m.waiting
+  pub waiting_joins : (step_call m q).answer ≡ Ok StepAnswer.Waiting → (step_call m q).memory.waiting ≡ row_with q m.waiting
   waiting_joins e = ap (λ (u : Memory). u.waiting) (s.otherwise.waits e)
 
-  pub waiting_again : (step_call m q).answer ≡ StepAnswer.Waiting → is_among (q + 1) m.waiting ≡ true → (step_call m q).memory ≡ m
+  pub waiting_again : (step_call m q).answer ≡ Ok StepAnswer.Waiting → is_among (q + 1) m.waiting ≡ true → (step_call m q).memory ≡ m
   waiting_again e h = s.otherwise.waits-again e h
 
-  pub refused_leaves : (n : ℕ) → (step_call m q).answer ≡ StepAnswer.Refused n → (step_call m q).memory ≡ m
+  pub refused_leaves : (n : Refusal) → (step_call m q).answer ≡ Err n → (step_call m q).memory ≡ m
   refused_leaves n e = s.otherwise.refused n e
 
 -- A party that waits for a lock is not granted it.
@@ -92,11 +92,11 @@ nothing_awaited m q e w = let f = sym e ∙ w.wanted in let z : ◌≡◌ {A = B
 
 -- ---- A begin and a withdraw
 
-pub begin_refused_leaves : (m : Memory) (q : ℕ) (o : Operation) (k : ℕ) → BeginAlters m q o k → (begin_call m q o k).answer ≡ BeginAnswer.Refused 4 → (begin_call m q o k).memory ≡ m
-begin_refused_leaves m q o k a e = a.refused 4 e
+pub begin_refused_leaves : (m : Memory) (q : ℕ) (o : Operation) (k : ℕ) → BeginAlters m q o k → (begin_call m q o k).answer ≡ Err Refusal.Busy → (begin_call m q o k).memory ≡ m
+begin_refused_leaves m q o k a e = a.refused Refusal.Busy e
 
-pub withdraw_refused_leaves : (m : Memory) (q : ℕ) → WithdrawAlters m q → (withdraw_call m q).answer ≡ WithdrawAnswer.Refused 7 → withdraw_after m q ≡ m
-withdraw_refused_leaves m q a e = a.refused 7 e
+pub withdraw_refused_leaves : (m : Memory) (q : ℕ) → WithdrawAlters m q → (withdraw_call m q).answer ≡ Err Refusal.Decided → withdraw_after m q ≡ m
+withdraw_refused_leaves m q a e = a.refused Refusal.Decided e
 
 -- ---- What the book is fed
 
@@ -116,12 +116,12 @@ module _ (m : Memory) (f : BookFed m) (q : ℕ) where
   one_withdraw_fed = f.withdraw_then q [] ∙ ap (λ (e : Event). e ∷ []) (f.of_withdraw q)
 
 -- An answer that is not the note is refused.
-pub other_answer_refused : (m : Memory) (b : Book) (q : ℕ) (a : OperationAnswer) (s : Restructuring) → BookCompares m b q → (step_call m q).answer ≡ StepAnswer.Done a s
+pub other_answer_refused : (m : Memory) (b : Book) (q : ℕ) (a : OperationAnswer) (s : Restructuring) → BookCompares m b q → (step_call m q).answer ≡ Ok (StepAnswer.Done a s)
     → is_note_of a ((note_for b q (b.entries q) (party_at m.parties q).step).entries q) ≡ false → agrees_to b (event_of m (step_for q)) ≡ false
 other_answer_refused m b q a s c e n = c.compares a s e ∙ n
 
-pub refused_withdraw_kept : (m : Memory) (b : Book) (q : ℕ) → BookLeaves m b q → (withdraw_call m q).answer ≡ WithdrawAnswer.Refused 7 → book_then b (event_of m (withdraw_for q)) ≡ b
-refused_withdraw_kept m b q l e = l.refused 7 e
+pub refused_withdraw_kept : (m : Memory) (b : Book) (q : ℕ) → BookLeaves m b q → (withdraw_call m q).answer ≡ Err Refusal.Decided → book_then b (event_of m (withdraw_for q)) ≡ b
+refused_withdraw_kept m b q l e = l.refused Refusal.Decided e
 
 -- ---- A search
 

@@ -11,6 +11,9 @@ use mathlib.Core.Option.{none, some}
 use Prim.Native.Nat.{ℕ, ◌+◌}
 use lib.Dec.{eqb}
 use lib.ListN.{get_or, replicate, length}
+use Rattle.std.specs.Prelude.{Ok, Err}
+use Rattle.model.specs.declared.Refusal.{Refusal}
+use Rattle.model.specs.Answers.{StepReply}
 use Rattle.model.specs.declared.Party.{Party}
 use Rattle.model.specs.declared.Operation.TheVariants as Operation
 use Rattle.model.specs.declared.OperationAnswer.TheVariants as OperationAnswer
@@ -58,29 +61,29 @@ at k c old = party_of 3 5 k 0 0 c old 0 3 0
 abbrev ran : ℕ → ℕ → ℕ → ℕ → Outcome
 ran w k c old = step_of k (seen w 1 0 (at k c old) 2)
 
-abbrev harm : StepAnswer
-harm = StepAnswer.Refused 6
+abbrev harm : StepReply
+harm = Err Refusal.Damage
 
 -- ---- Damage
 
 -- Links 4 to 6 name overflow pages; 3 names a primary page.
-old_at_13 : (ran 0 13 1 3).answer ∷ (ran 0 13 1 0).answer ∷ (ran 0 13 1 4).answer ∷ [] ≡ harm ∷ harm ∷ StepAnswer.Moved ∷ []
+old_at_13 : (ran 0 13 1 3).answer ∷ (ran 0 13 1 0).answer ∷ (ran 0 13 1 4).answer ∷ [] ≡ harm ∷ harm ∷ Ok StepAnswer.Moved ∷ []
 unfolding opened
 old_at_13 = refl
 
 old_at_14 :
     (ran all 14 1 3).answer ∷ (ran all 14 1 0).answer ∷ (ran all 14 1 4).answer ∷ []
-    ≡ harm ∷ harm ∷ StepAnswer.Done OperationAnswer.Deleted Restructuring.None ∷ []
+    ≡ harm ∷ harm ∷ Ok (StepAnswer.Done OperationAnswer.Deleted Restructuring.None) ∷ []
 unfolding opened
 old_at_14 = refl
 
 -- 0 passes at 29 only.
-old_at_29 : (ran all 29 1 3).answer ∷ (ran all 29 1 0).answer ∷ (ran all 29 1 4).answer ∷ [] ≡ harm ∷ StepAnswer.Moved ∷ StepAnswer.Moved ∷ []
+old_at_29 : (ran all 29 1 3).answer ∷ (ran all 29 1 0).answer ∷ (ran all 29 1 4).answer ∷ [] ≡ harm ∷ Ok StepAnswer.Moved ∷ Ok StepAnswer.Moved ∷ []
 unfolding opened
 old_at_29 = refl
 
 -- n = P: three chains.
-full_at_17 : (step_of 17 (seen all 1 1 (at 17 2 0) 2)).answer ∷ (ran all 17 2 0).answer ∷ [] ≡ harm ∷ StepAnswer.Moved ∷ []
+full_at_17 : (step_of 17 (seen all 1 1 (at 17 2 0) 2)).answer ∷ (ran all 17 2 0).answer ∷ [] ≡ harm ∷ Ok StepAnswer.Moved ∷ []
 unfolding opened
 full_at_17 = refl
 
@@ -95,21 +98,21 @@ short n = record {
   behind = false;
 }
 
-skipped_at_17 : (step_of 17 (short 0)).answer ∷ (step_of 17 (short 1)).answer ∷ [] ≡ StepAnswer.Done OperationAnswer.Deleted Restructuring.SplitSkipped ∷ StepAnswer.Moved ∷ []
+skipped_at_17 : (step_of 17 (short 0)).answer ∷ (step_of 17 (short 1)).answer ∷ [] ≡ Ok (StepAnswer.Done OperationAnswer.Deleted Restructuring.SplitSkipped) ∷ Ok StepAnswer.Moved ∷ []
 unfolding opened
 skipped_at_17 = refl
 
 -- n = N: one chain.
-few_at_26 : (step_of 26 (seen all 0 0 (at 26 1 0) 2)).answer ∷ (ran all 26 1 0).answer ∷ [] ≡ harm ∷ StepAnswer.Moved ∷ []
+few_at_26 : (step_of 26 (seen all 0 0 (at 26 1 0) 2)).answer ∷ (ran all 26 1 0).answer ∷ [] ≡ harm ∷ Ok StepAnswer.Moved ∷ []
 unfolding opened
 few_at_26 = refl
 
-few_at_27 : (step_of 27 (seen all 0 0 (at 27 1 0) 2)).answer ∷ (ran all 27 1 0).answer ∷ [] ≡ harm ∷ StepAnswer.Moved ∷ []
+few_at_27 : (step_of 27 (seen all 0 0 (at 27 1 0) 2)).answer ∷ (ran all 27 1 0).answer ∷ [] ≡ harm ∷ Ok StepAnswer.Moved ∷ []
 unfolding opened
 few_at_27 = refl
 
 -- No local level is left to lower.
-bottom_at_28 : (step_of 28 (seen all 1 0 (at 28 1 0) 0)).answer ∷ (ran all 28 1 0).answer ∷ [] ≡ harm ∷ StepAnswer.Moved ∷ []
+bottom_at_28 : (step_of 28 (seen all 1 0 (at 28 1 0) 0)).answer ∷ (ran all 28 1 0).answer ∷ [] ≡ harm ∷ Ok StepAnswer.Moved ∷ []
 unfolding opened
 bottom_at_28 = refl
 

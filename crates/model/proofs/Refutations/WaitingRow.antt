@@ -11,11 +11,13 @@ use mathlib.Core.List.{List, [], ◌∷◌}
 use mathlib.Core.Option.{none, some}
 use Prim.Native.Nat.{ℕ}
 use lib.ListN.{replicate}
+use Rattle.std.specs.Prelude.{Ok, Err}
+use Rattle.model.specs.declared.Refusal.{Refusal}
+use Rattle.model.specs.Answers.{StepReply, CallReply}
 use Rattle.model.specs.declared.Root.{Root}
 use Rattle.model.specs.declared.Party.{Party}
 use Rattle.model.specs.declared.Mode.TheVariants.{Read, Selective, Exclusive}
 use Rattle.model.specs.declared.StepAnswer.{StepAnswer}
-use Rattle.model.specs.declared.WithdrawAnswer.TheVariants as WithdrawAnswer
 use Rattle.model.specs.declared.OperationAnswer.TheVariants as OperationAnswer
 use Rattle.model.specs.declared.Restructuring.TheVariants as Restructuring
 use Rattle.model.specs.Records.{root_of_sizes, with_next, idle, begun, at_step, with_chain, with_old, find_operation, insert_operation, delete_operation}
@@ -179,27 +181,27 @@ leaves_none : row_without 0 (row_of 2 3) ≡ row_of 2 3
 unfolding opened
 leaves_none = refl
 
-after_waiting : row_after 2 (row_of 2 0) StepAnswer.Waiting ≡ row_of 2 3
+after_waiting : row_after 2 (row_of 2 0) (Ok StepAnswer.Waiting) ≡ row_of 2 3
 unfolding opened
 after_waiting = refl
 
-after_moving : row_after 1 (row_of 2 3) StepAnswer.Moved ≡ row_of 3 0
+after_moving : row_after 1 (row_of 2 3) (Ok StepAnswer.Moved) ≡ row_of 3 0
 unfolding opened
 after_moving = refl
 
-after_done : row_after 1 (row_of 2 3) (StepAnswer.Done OperationAnswer.Absent Restructuring.None) ≡ row_of 2 3
+after_done : row_after 1 (row_of 2 3) (Ok (StepAnswer.Done OperationAnswer.Absent Restructuring.None)) ≡ row_of 2 3
 unfolding opened
 after_done = refl
 
-after_refused : row_after 1 (row_of 2 3) (StepAnswer.Refused 6) ≡ row_of 2 3
+after_refused : row_after 1 (row_of 2 3) (Err Refusal.Damage) ≡ row_of 2 3
 unfolding opened
 after_refused = refl
 
-after_withdrawn : row_left 1 (row_of 2 3) WithdrawAnswer.Withdrawn ≡ row_of 3 0
+after_withdrawn : row_left 1 (row_of 2 3) (Ok tt) ≡ row_of 3 0
 unfolding opened
 after_withdrawn = refl
 
-after_kept : row_left 1 (row_of 2 3) (WithdrawAnswer.Refused 7) ≡ row_of 2 3
+after_kept : row_left 1 (row_of 2 3) (Err Refusal.Decided) ≡ row_of 2 3
 unfolding opened
 after_kept = refl
 
@@ -227,7 +229,7 @@ unfolding opened
 granted_behind = refl
 
 -- Damage goes before waiting: at 13 the old link is tested first.
-damage-first : step13 (seen 0 (row_of 2 0) 0) ≡ refuse 6 (seen 0 (row_of 2 0) 0)
+damage-first : step13 (seen 0 (row_of 2 0) 0) ≡ refuse Refusal.Damage (seen 0 (row_of 2 0) 0)
 unfolding opened
 damage-first = refl
 
@@ -264,15 +266,15 @@ saved_waiting = refl
 abbrev waiting_with : List ℕ → Memory
 waiting_with row = record { root = root; parties = parties; locks = replicate 5 0; pages = replicate 144 0; waiting = row }
 
-abbrev causes : List ℕ → List ℕ
+abbrev causes : List ℕ → List CallReply
 causes row = first_cause (step_rows (waiting_with row) 0) ∷ first_cause (withdraw_rows (waiting_with row) 0) ∷ []
 
 -- By step and withdraw alike, and as damage.
-row_passes_lem : causes (row_of 2 1) ≡ 0 ∷ 0 ∷ []
+row_passes_lem : causes (row_of 2 1) ≡ Ok tt ∷ Ok tt ∷ []
 unfolding opened
 row_passes_lem = refl
 
-row_refused : causes (row_of 2 2) ≡ 6 ∷ 6 ∷ []
+row_refused : causes (row_of 2 2) ≡ Err Refusal.Damage ∷ Err Refusal.Damage ∷ []
 unfolding opened
 row_refused = refl
 
@@ -282,60 +284,60 @@ row_refused = refl
 abbrev waiter : ℕ → Hold
 waiter q = hold q (claim 2 Selective)
 
-abbrev rightly : List Hold → StepAnswer → Bool
+abbrev rightly : List Hold → StepReply → Bool
 rightly ws a = answer_right [] ws 0 (some (claim 2 Selective)) a
 
 -- Nobody holds a lock. Party 0's request is granted where nobody waits, where it came first, or where who came first
 -- waits for another lock; else it waits.
-moved-first : rightly [] StepAnswer.Moved ≡ true
+moved-first : rightly [] (Ok StepAnswer.Moved) ≡ true
 unfolding opened
 moved-first = refl
 
-waits-first : rightly [] StepAnswer.Waiting ≡ false
+waits-first : rightly [] (Ok StepAnswer.Waiting) ≡ false
 unfolding opened
 waits-first = refl
 
-moved_behind : rightly (waiter 1 ∷ []) StepAnswer.Moved ≡ false
+moved_behind : rightly (waiter 1 ∷ []) (Ok StepAnswer.Moved) ≡ false
 unfolding opened
 moved_behind = refl
 
-waits_behind : rightly (waiter 1 ∷ waiter 0 ∷ []) StepAnswer.Waiting ≡ true
+waits_behind : rightly (waiter 1 ∷ waiter 0 ∷ []) (Ok StepAnswer.Waiting) ≡ true
 unfolding opened
 waits_behind = refl
 
-moved_ahead : rightly (waiter 0 ∷ waiter 1 ∷ []) StepAnswer.Moved ≡ true
+moved_ahead : rightly (waiter 0 ∷ waiter 1 ∷ []) (Ok StepAnswer.Moved) ≡ true
 unfolding opened
 moved_ahead = refl
 
-moved_elsewhere : rightly (hold 1 (claim 3 Selective) ∷ hold 1 (claim 2 Read) ∷ []) StepAnswer.Moved ≡ true
+moved_elsewhere : rightly (hold 1 (claim 3 Selective) ∷ hold 1 (claim 2 Read) ∷ []) (Ok StepAnswer.Moved) ≡ true
 unfolding opened
 moved_elsewhere = refl
 
 -- The ledger: a wait comes last and once, a move, an end or a withdraw takes it out, a refusal does not.
-enters_last : waits_after_step (waiter 1 ∷ []) 0 (some (claim 2 Selective)) StepAnswer.Waiting ≡ waiter 1 ∷ waiter 0 ∷ []
+enters_last : waits_after_step (waiter 1 ∷ []) 0 (some (claim 2 Selective)) (Ok StepAnswer.Waiting) ≡ waiter 1 ∷ waiter 0 ∷ []
 unfolding opened
 enters_last = refl
 
-enters_once : waits_after_step (waiter 0 ∷ waiter 1 ∷ []) 0 (some (claim 2 Selective)) StepAnswer.Waiting ≡ waiter 0 ∷ waiter 1 ∷ []
+enters_once : waits_after_step (waiter 0 ∷ waiter 1 ∷ []) 0 (some (claim 2 Selective)) (Ok StepAnswer.Waiting) ≡ waiter 0 ∷ waiter 1 ∷ []
 unfolding opened
 enters_once = refl
 
-moved_out : waits_after_step (waiter 0 ∷ waiter 1 ∷ []) 0 (some (claim 2 Selective)) StepAnswer.Moved ≡ waiter 1 ∷ []
+moved_out : waits_after_step (waiter 0 ∷ waiter 1 ∷ []) 0 (some (claim 2 Selective)) (Ok StepAnswer.Moved) ≡ waiter 1 ∷ []
 unfolding opened
 moved_out = refl
 
-done_out : waits_after_step (waiter 0 ∷ []) 0 none (StepAnswer.Done OperationAnswer.Absent Restructuring.None) ≡ []
+done_out : waits_after_step (waiter 0 ∷ []) 0 none (Ok (StepAnswer.Done OperationAnswer.Absent Restructuring.None)) ≡ []
 unfolding opened
 done_out = refl
 
-refused_in : waits_after_step (waiter 0 ∷ []) 0 none (StepAnswer.Refused 6) ≡ waiter 0 ∷ []
+refused_in : waits_after_step (waiter 0 ∷ []) 0 none (Err Refusal.Damage) ≡ waiter 0 ∷ []
 unfolding opened
 refused_in = refl
 
-withdrawn_out : waits_after_withdraw (waiter 1 ∷ waiter 0 ∷ []) 0 WithdrawAnswer.Withdrawn ≡ waiter 1 ∷ []
+withdrawn_out : waits_after_withdraw (waiter 1 ∷ waiter 0 ∷ []) 0 (Ok tt) ≡ waiter 1 ∷ []
 unfolding opened
 withdrawn_out = refl
 
-kept_in : waits_after_withdraw (waiter 1 ∷ waiter 0 ∷ []) 0 (WithdrawAnswer.Refused 7) ≡ waiter 1 ∷ waiter 0 ∷ []
+kept_in : waits_after_withdraw (waiter 1 ∷ waiter 0 ∷ []) 0 (Err Refusal.Decided) ≡ waiter 1 ∷ waiter 0 ∷ []
 unfolding opened
 kept_in = refl

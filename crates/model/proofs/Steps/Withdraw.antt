@@ -12,9 +12,9 @@ use native.Mathlib.Omega.{arith}
 use lib.ListN.{length, take, drop, set, length-reverse}
 use lib.Seq.{get_or-take}
 use lib.Dec.{eqb, leb}
+use Rattle.std.specs.Prelude.{Ok}
 use Rattle.model.specs.declared.Party.{Party}
 use Rattle.model.specs.declared.Root.{Root}
-use Rattle.model.specs.declared.WithdrawAnswer.{WithdrawAnswer}
 use Rattle.model.specs.Sizes.{lock_words, within}
 use Rattle.model.specs.Records.{idle, with_free_list}
 use Rattle.model.specs.LockWords.{Claim}
@@ -222,7 +222,7 @@ module _ (m : Memory) (b : Book) (q : ℕ) where
 
 -- What is owed of a withdraw of party q: it is accepted, and the invariant holds after it.
 pub record WithdrawKept (m : Memory) (b : Book) (q : ℕ) : Type 0 where
-  pub accepted : (withdrawn (view_of m q)).answer ≡ WithdrawAnswer.Withdrawn
+  pub accepted : (withdrawn (view_of m q)).answer ≡ Ok tt
   -- The invariant, with any waiting row that is sound then.
   pub inv : (row : List ℕ) → RowOk (withdrawn (view_of m q)).after.root (set m.parties (withdrawn (view_of m q)).after.number (withdrawn (view_of m q)).after.party) row
       → Inv (with_waiting row (after_step m (withdrawn (view_of m q)).after)) (with_entry b q none)
@@ -276,7 +276,7 @@ module _ {m : Memory} {b : Book} {q k : ℕ} (t : Turn m b q k) (x : Undecided t
 
   -- ---- What is left
 
-  goes_ahead : withdrawn (view_of m q) ≡ withdrawal WithdrawAnswer.Withdrawn (left_by (view_of m q) builts)
+  goes_ahead : withdrawn (view_of m q) ≡ withdrawal (Ok tt) (left_by (view_of m q) builts)
   unfolding withdrawn taken_back_soundly
   goes_ahead = rw (x.built, held, room, taken_back_is (view_of m q) builts) refl
 

@@ -1,7 +1,7 @@
 -- Memory that has the invariant, with nobody under way, passes take-up, and its records are the book's map: what the
 -- index leaves at rest is always taken up again.
--- Main statements: rests-saved, rests-map; chain_packed (a chain as it must be passes the test of its words), once_all
--- (each number once), in-none (a number in none of some lists).
+-- Main statements: rests_saved, rests_map; chain_packed (a chain as it must be passes the test of its words), once_all
+-- (each number once), in_none (a number in none of some lists).
 use mathlib.Core.Path.{◌≡◌, refl, sym, ap, ◌∙◌, subst}
 use mathlib.Core.Logic.{◌≢◌}
 use mathlib.Core.Bool.{Bool, true, false}

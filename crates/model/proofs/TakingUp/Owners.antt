@@ -1,6 +1,6 @@
 -- Who owns each overflow page of a saved file: the free list or a chain, found by looking for the page; where each
 -- page is once in them, these are owners as the invariant has them.
--- Main statements: owner_in, held_in; owned-once.
+-- Main statements: owner_in, held_in; owned_once.
 use mathlib.Core.Path.{◌≡◌, refl, sym, ap, ◌∙◌, subst}
 use mathlib.Core.Bool.{false, cond, ◌&&◌}
 use mathlib.Core.List.{List, [], ◌++◌}

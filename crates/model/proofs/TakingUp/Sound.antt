@@ -1,5 +1,5 @@
 -- A file that passes take-up has the invariant, beside the book with its records and nobody under way.
--- Main statement: saved-inv; fit_at (one chain of those that fit) and each_once_at (one of the numbers that are once).
+-- Main statement: saved_inv; fit_at (one chain of those that fit) and each_once_at (one of the numbers that are once).
 use mathlib.Core.Path.{◌≡◌, refl, sym, ap, ◌∙◌, subst}
 use mathlib.Core.Bool.{Bool, true, false, cond, ◌&&◌, ◌||◌}
 use mathlib.Core.List.{List, [], ◌∷◌, ◌++◌}

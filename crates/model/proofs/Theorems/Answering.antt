@@ -6,38 +6,39 @@ use mathlib.Core.Path.{◌≡◌, refl, sym, ap, ◌∙◌, subst}
 use mathlib.Core.Bool.{Bool, true, false, not}
 use mathlib.Core.Option.{Option, none, some}
 use Prim.Native.Nat.{ℕ}
-use lib.Dec.{eqb}
+use Rattle.std.specs.Prelude.{Ok, Err}
+use Rattle.model.specs.declared.Refusal.{Refusal}
 use Rattle.model.specs.declared.OperationAnswer.{OperationAnswer}
 use Rattle.model.specs.declared.Restructuring.{Restructuring}
 use Rattle.model.specs.declared.StepAnswer.{StepAnswer}
-use Rattle.model.specs.Answers.{is_moved}
+use Rattle.model.specs.Answers.{is_moved, StepReply, is_damage}
 use Rattle.model.specs.LockWords.{Claim, permits}
-use Rattle.model.specs.Outcome.{View, Outcome, refuse, damage}
+use Rattle.model.specs.Outcome.{View, Outcome, refuse}
 use Rattle.model.specs.LockRequests.{lock_word, is_granted}
 use Rattle.model.specs.Steps.Dispatch.{has_step, step_of, wants}
 use Rattle.model.specs.WaitingRow.{requests, is_some}
-use Rattle.model.proofs.Laws.Lists.{false≢true, eqb-true, right_fails}
+use Rattle.model.proofs.Laws.Lists.{false≢true, right_fails}
 use Rattle.model.proofs.Exits.Statement.{want_at, Exit, refusing, waiting, taking, moving, looking, ending}
 use Rattle.model.proofs.Exits.{step_exits}
 
 -- ---- The answers that go with a request
 
 -- Without a request a step never waits.
-unfoldable pub unasked : StepAnswer → Bool
-unasked StepAnswer.Waiting = false
-unasked StepAnswer.Moved = true
-unasked (StepAnswer.Done a s) = true
-unasked (StepAnswer.Refused n) = eqb n damage
+unfoldable pub unasked : StepReply → Bool
+unasked (Ok StepAnswer.Waiting) = false
+unasked (Ok StepAnswer.Moved) = true
+unasked (Ok (StepAnswer.Done a s)) = true
+unasked (Err c) = is_damage c
 
 -- With a request it moves where the lock is granted, and else waits.
-unfoldable pub asked : Bool → StepAnswer → Bool
-asked may StepAnswer.Waiting = not may
-asked may StepAnswer.Moved = may
-asked may (StepAnswer.Done a s) = false
-asked may (StepAnswer.Refused n) = eqb n damage
+unfoldable pub asked : Bool → StepReply → Bool
+asked may (Ok StepAnswer.Waiting) = not may
+asked may (Ok StepAnswer.Moved) = may
+asked may (Ok (StepAnswer.Done a s)) = false
+asked may (Err c) = is_damage c
 
 -- The answers that go with this request, or with none.
-unfoldable pub fairly : View → Option Claim → StepAnswer → Bool
+unfoldable pub fairly : View → Option Claim → StepReply → Bool
 fairly v none a = unasked a
 fairly v (some c) a = asked (is_granted v c) a
 
@@ -47,8 +48,8 @@ pub record Fair (v : View) (w : Option Claim) (o : Outcome) : Type 0 where
 
 -- ---- Every step
 
-refused_fair : (v : View) (w : Option Claim) → Fair v w (refuse damage v)
-unfolding fairly unasked asked
+refused_fair : (v : View) (w : Option Claim) → Fair v w (refuse Refusal.Damage v)
+unfolding fairly unasked asked is_damage
 refused_fair v none = record { fair = refl }
 refused_fair v (some c) = record { fair = refl }
 
@@ -73,32 +74,32 @@ module _ (v : View) (has : has_step v.party.operation v.party.step ≡ true) whe
   unfolding requests
   asked_wanted = rw has refl
 
-  waiting_some : (o : Option Claim) → fairly v o StepAnswer.Waiting ≡ true → is_some o ≡ true
+  waiting_some : (o : Option Claim) → fairly v o (Ok StepAnswer.Waiting) ≡ true → is_some o ≡ true
   unfolding fairly unasked asked is_some
   waiting_some none f = absurd (false≢true f)
   waiting_some (some c) f = refl
 
-  done_none : (o : Option Claim) (a : OperationAnswer) (s : Restructuring) → fairly v o (StepAnswer.Done a s) ≡ true → is_some o ≡ false
+  done_none : (o : Option Claim) (a : OperationAnswer) (s : Restructuring) → fairly v o (Ok (StepAnswer.Done a s)) ≡ true → is_some o ≡ false
   unfolding fairly unasked asked is_some
   done_none none a s f = refl
   done_none (some c) a s f = absurd (false≢true f)
 
-  fair_to : (a : StepAnswer) → (step_of v.party.step v).answer ≡ a → fairly v (wants v.root v.party) a ≡ true
-  fair_to a e = subst (λ (x : StepAnswer). fairly v (wants v.root v.party) x ≡ true) e (step_fair v).fair
+  fair_to : (a : StepReply) → (step_of v.party.step v).answer ≡ a → fairly v (wants v.root v.party) a ≡ true
+  fair_to a e = subst (λ (x : StepReply). fairly v (wants v.root v.party) x ≡ true) e (step_fair v).fair
 
-  pub waiting_asks : (step_of v.party.step v).answer ≡ StepAnswer.Waiting → is_some (requests v.root v.party) ≡ true
-  waiting_asks e = ap is_some asked_wanted ∙ waiting_some (wants v.root v.party) (fair_to StepAnswer.Waiting e)
+  pub waiting_asks : (step_of v.party.step v).answer ≡ Ok StepAnswer.Waiting → is_some (requests v.root v.party) ≡ true
+  waiting_asks e = ap is_some asked_wanted ∙ waiting_some (wants v.root v.party) (fair_to (Ok StepAnswer.Waiting) e)
 
-  pub done-asks-none : (a : OperationAnswer) (s : Restructuring) → (step_of v.party.step v).answer ≡ StepAnswer.Done a s → is_some (requests v.root v.party) ≡ false
-  done-asks-none a s e = ap is_some asked_wanted ∙ done_none (wants v.root v.party) a s (fair_to (StepAnswer.Done a s) e)
+  pub done-asks-none : (a : OperationAnswer) (s : Restructuring) → (step_of v.party.step v).answer ≡ Ok (StepAnswer.Done a s) → is_some (requests v.root v.party) ≡ false
+  done-asks-none a s e = ap is_some asked_wanted ∙ done_none (wants v.root v.party) a s (fair_to (Ok (StepAnswer.Done a s)) e)
 
-  refused_six : (o : Option Claim) (n : ℕ) → fairly v o (StepAnswer.Refused n) ≡ true → n ≡ damage
+  refused_six : (o : Option Claim) (c : Refusal) → fairly v o (Err c) ≡ true → is_damage c ≡ true
   unfolding fairly unasked asked
-  refused_six none n f = eqb-true n damage f
-  refused_six (some c) n f = eqb-true n damage f
+  refused_six none c f = f
+  refused_six (some l) c f = f
 
-  pub refused_damage : (n : ℕ) → (step_of v.party.step v).answer ≡ StepAnswer.Refused n → n ≡ damage
-  refused_damage n e = refused_six (wants v.root v.party) n (fair_to (StepAnswer.Refused n) e)
+  pub refused_damage : (c : Refusal) → (step_of v.party.step v).answer ≡ Err c → is_damage c ≡ true
+  refused_damage c e = refused_six (wants v.root v.party) c (fair_to (Err c) e)
 
 -- A step that stands behind an earlier waiting request does not move.
 pub behind_not-moved : (v : View) (c : Claim) → wants v.root v.party ≡ some c → v.behind ≡ true → is_moved (step_of v.party.step v).answer ≡ false
@@ -108,8 +109,8 @@ behind_not-moved v c w h = go (step_of v.party.step v).answer (subst (λ (o : Op
     barred : is_granted v c ≡ false
     barred = right_fails (permits (lock_word v c.word) c.mode) (ap not h)
 
-    go : (a : StepAnswer) → asked (is_granted v c) a ≡ true → is_moved a ≡ false
-    go StepAnswer.Waiting f = refl
-    go StepAnswer.Moved f = absurd (false≢true (sym barred ∙ f))
-    go (StepAnswer.Done y s) f = refl
-    go (StepAnswer.Refused n) f = refl
+    go : (a : StepReply) → asked (is_granted v c) a ≡ true → is_moved a ≡ false
+    go (Ok StepAnswer.Waiting) f = refl
+    go (Ok StepAnswer.Moved) f = absurd (false≢true (sym barred ∙ f))
+    go (Ok (StepAnswer.Done y s)) f = refl
+    go (Err n) f = refl

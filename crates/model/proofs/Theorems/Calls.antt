@@ -10,17 +10,17 @@ use native.Mathlib.Omega.{arith}
 use lib.ListN.{length, set}
 use lib.Seq.{set-get_or}
 use lib.Dec.{eqb, ltb}
+use Rattle.std.specs.Prelude.{Ok, Err}
+use Rattle.model.specs.declared.Refusal.{Refusal}
 use Rattle.model.specs.declared.Root.{Root}
 use Rattle.model.specs.declared.Party.{Party}
 use Rattle.model.specs.declared.Operation.{Operation}
 use Rattle.model.specs.declared.StepAnswer.{StepAnswer}
-use Rattle.model.specs.declared.BeginAnswer.{BeginAnswer}
-use Rattle.model.specs.declared.WithdrawAnswer.{WithdrawAnswer}
 use Rattle.model.specs.Sizes.{within_limits, lock_words, all_page_words}
 use Rattle.model.specs.Records.{idle, begun}
-use Rattle.model.specs.Answers.{operation_number, refusal_number, setting_given}
+use Rattle.model.specs.Answers.{operation_number, refusal_number, setting_given, StepReply, CallReply, is_damage}
 use Rattle.model.specs.Addresses.{span, chain_count}
-use Rattle.model.specs.Outcome.{View, Outcome, damage}
+use Rattle.model.specs.Outcome.{View, Outcome}
 use Rattle.model.specs.Withdraw.{is_decided, withdrawn}
 use Rattle.model.specs.Memory.{Memory, party_at, view_of, after_step, with_waiting}
 use Rattle.model.specs.WaitingRow.{requests, row_after, row_left, row_with, row_without}
@@ -29,9 +29,10 @@ use Rattle.model.specs.Calls.{Called, called, stepped, step_call, with_begun, be
 use Rattle.model.specs.Runs.{Call, begin_for, step_for, withdraw_for, Reply, to_begin, to_step, to_withdraw, caller_of, reply_to, after_call, event_of, events, final_memory}
 use Rattle.model.specs.Book.{Book, Entered, changed_at, enter, book_after, after_reply, after_begin, after_withdraw, agrees, agrees_with, book_agrees, book_at_end}
 use Rattle.model.specs.Steps.Dispatch.{has_step, step_of}
+use Rattle.model.proofs.Laws.Answers.{cause_some}
 use Rattle.model.proofs.Laws.Lists.{Told, holds, fails, tell, Ord, lt, ge, ord, both-and, eqb_same, eqb-diff, le-leb, lt-ltb}
 use Rattle.model.proofs.Laws.WaitingRow.{RowOk, row-waits, row_moves, row_stays, idle-asks-none}
-use Rattle.model.proofs.Theorems.Answering.{waiting_asks, done-asks-none, refused_damage}
+use Rattle.model.proofs.Theorems.Answering.{waiting_asks, done-asks-none}
 use Rattle.model.proofs.Invariant.Ghost.{nobody, old_of, free, root_extent, size}
 use Rattle.model.proofs.Invariant.Owners.{owns_nothing, kinds_apart}
 use Rattle.model.specs.Claims.{claims}
@@ -217,19 +218,19 @@ module _ (m : Memory) (b : Book) (i : Inv m b) (q : ℕ) (o : Operation) (k : �
 -- Whether a reply is not the refusal of a damaged number.
 unfoldable pub undamaged : Reply → Bool
 undamaged (to_begin a) = true
-undamaged (to_step StepAnswer.Waiting) = true
-undamaged (to_step StepAnswer.Moved) = true
-undamaged (to_step (StepAnswer.Done a s)) = true
-undamaged (to_step (StepAnswer.Refused n)) = not (eqb n damage)
-undamaged (to_withdraw WithdrawAnswer.Withdrawn) = true
-undamaged (to_withdraw (WithdrawAnswer.Refused n)) = not (eqb n damage)
+undamaged (to_step (Ok StepAnswer.Waiting)) = true
+undamaged (to_step (Ok StepAnswer.Moved)) = true
+undamaged (to_step (Ok (StepAnswer.Done a s))) = true
+undamaged (to_step (Err c)) = not (is_damage c)
+undamaged (to_withdraw (Ok _)) = true
+undamaged (to_withdraw (Err c)) = not (is_damage c)
 
-allowed_undamaged : (a : StepAnswer) → refusal_number a ≡ 0 → undamaged (to_step a) ≡ true
+allowed_undamaged : (a : StepReply) → refusal_number a ≡ 0 → undamaged (to_step a) ≡ true
 unfolding refusal_number undamaged
-allowed_undamaged StepAnswer.Waiting e = refl
-allowed_undamaged StepAnswer.Moved e = refl
-allowed_undamaged (StepAnswer.Done a s) e = refl
-allowed_undamaged (StepAnswer.Refused n) e = rw e refl
+allowed_undamaged (Ok StepAnswer.Waiting) e = refl
+allowed_undamaged (Ok StepAnswer.Moved) e = refl
+allowed_undamaged (Ok (StepAnswer.Done a s)) e = refl
+allowed_undamaged (Err c) e = absurd (cause_some c e)
 
 -- What is owed of a call.
 pub record CallOk (m : Memory) (b : Book) (c : Call) : Type 0 where
@@ -239,12 +240,12 @@ pub record CallOk (m : Memory) (b : Book) (c : Call) : Type 0 where
 
 module _ (kept : StepsKept) (m : Memory) (b : Book) (i : Inv m b) where
   -- A step refused for its party's number, or because the party is idle.
-  refused_ok : (q n : ℕ) → eqb n 6 ≡ false → step_call m q ≡ called (StepAnswer.Refused n) m → CallOk m b (step_for q)
+  refused_ok : (q : ℕ) (c : Refusal) → is_damage c ≡ false → step_call m q ≡ called (Err c) m → CallOk m b (step_for q)
   unfolding reply_to after_call book_after after_reply agrees agrees_with undamaged
-  refused_ok q n h e = record {
-    right = ap (λ (c : Called StepAnswer). agrees_with b q (party_at m.parties q).step c.answer) e;
-    sound = ap (λ (c : Called StepAnswer). undamaged (to_step c.answer)) e ∙ ap not h;
-    inv = subst (λ (c : Called StepAnswer). Inv c.memory (after_reply b q (party_at m.parties q).step c.answer)) (sym e) i;
+  refused_ok q c h e = record {
+    right = ap (λ (c : Called StepReply). agrees_with b q (party_at m.parties q).step c.answer) e;
+    sound = ap (λ (c : Called StepReply). undamaged (to_step c.answer)) e ∙ ap not h;
+    inv = subst (λ (c : Called StepReply). Inv c.memory (after_reply b q (party_at m.parties q).step c.answer)) (sym e) i;
   }
 
   -- The waiting row after a step performed.
@@ -252,18 +253,15 @@ module _ (kept : StepsKept) (m : Memory) (b : Book) (i : Inv m b) where
     abbrev left : Outcome
     left = step_of (party_at m.parties q).step (view_of m q)
 
-    pub step_row : (a : StepAnswer) → left.answer ≡ a → RowOk left.after.root (set m.parties left.after.number left.after.party) (row_after q m.waiting a)
+    pub step_row : (a : StepReply) → left.answer ≡ a → RowOk left.after.root (set m.parties left.after.number left.after.party) (row_after q m.waiting a)
     unfolding row_after refusal_number
-    step_row StepAnswer.Waiting e =
+    step_row (Ok StepAnswer.Waiting) e =
         subst (λ (v : View). RowOk v.root (set m.parties v.number v.party) (row_with q m.waiting)) (sym ((kept m b i q l h).stays e))
         (subst (λ (ps : List Party). RowOk m.root ps (row_with q m.waiting)) (sym (set-get_or m.parties q idle))
         (row-waits m.root m.parties m.waiting q i.row_ok (record { there = l; asks = waiting_asks (view_of m q) h e })))
-    step_row StepAnswer.Moved e = row_moves m.root _ m.parties _ m.waiting q i.row_ok (kept m b i q l h).asks
-    step_row (StepAnswer.Done a s) e = row_stays m.root _ m.parties _ m.waiting q i.row_ok (done-asks-none (view_of m q) h a s e) (kept m b i q l h).asks
-    step_row (StepAnswer.Refused n) e =
-        let z : refusal_number (StepAnswer.Refused n) ≡ 0 = ap refusal_number (sym e) ∙ (kept m b i q l h).allowed in
-        let six = refused_damage (view_of m q) h n e in
-        absurd (omega (arith, z, six))
+    step_row (Ok StepAnswer.Moved) e = row_moves m.root _ m.parties _ m.waiting q i.row_ok (kept m b i q l h).asks
+    step_row (Ok (StepAnswer.Done a s)) e = row_stays m.root _ m.parties _ m.waiting q i.row_ok (done-asks-none (view_of m q) h a s e) (kept m b i q l h).asks
+    step_row (Err c) e = absurd (cause_some c (ap refusal_number (sym e) ∙ (kept m b i q l h).allowed))
 
   -- A step performed.
   performed_ok : (q : ℕ) → q < m.root.parties → has_step (party_at m.parties q).operation (party_at m.parties q).step ≡ true → step_call m q ≡ stepped m q → CallOk m b (step_for q)
@@ -271,18 +269,19 @@ module _ (kept : StepsKept) (m : Memory) (b : Book) (i : Inv m b) where
   performed_ok q l h e =
       let k = kept m b i q l h in
       record {
-        right = ap (λ (c : Called StepAnswer). agrees_with b q (party_at m.parties q).step c.answer) e ∙ k.right;
-        sound = ap (λ (c : Called StepAnswer). undamaged (to_step c.answer)) e ∙ allowed_undamaged _ k.allowed;
-        inv = subst (λ (c : Called StepAnswer). Inv c.memory (after_reply b q (party_at m.parties q).step c.answer)) (sym e) (k.inv _ (step_row q l h _ refl));
+        right = ap (λ (c : Called StepReply). agrees_with b q (party_at m.parties q).step c.answer) e ∙ k.right;
+        sound = ap (λ (c : Called StepReply). undamaged (to_step c.answer)) e ∙ allowed_undamaged _ k.allowed;
+        inv = subst (λ (c : Called StepReply). Inv c.memory (after_reply b q (party_at m.parties q).step c.answer)) (sym e) (k.inv _ (step_row q l h _ refl));
       }
 
   step_ok : (q : ℕ) → Ord q m.root.parties → CallOk m b (step_for q)
-  step_ok q (ge h t) = refused_ok q 3 refl ((step_order m q).party (within_limits_lem m.root i.limits) (lengths_fit_ok m b i) h)
+  unfolding is_damage
+  step_ok q (ge h t) = refused_ok q Refusal.Party refl ((step_order m q).party (within_limits_lem m.root i.limits) (lengths_fit_ok m b i) h)
   step_ok q (lt h t) = go (i.parties_ok q h)
     where
       go : PartyOk (scene_of m i.ghost b) q (party_at m.parties q) → CallOk m b (step_for q)
       go (resting e _ _ _) =
-          refused_ok q 5 refl ((step_order m q).idle (within_limits_lem m.root i.limits) (lengths_fit_ok m b i) h (rw e refl))
+          refused_ok q Refusal.Idle refl ((step_order m q).idle (within_limits_lem m.root i.limits) (lengths_fit_ok m b i) h (rw e refl))
       go (working e k f) =
           performed_ok q h k.step_fits
           ((step_order m q).none (within_limits_lem m.root i.limits) (lengths_fit_ok m b i) h (operation_some e.operation (party_at m.parties q).operation k.same_operation)
@@ -291,70 +290,71 @@ module _ (kept : StepsKept) (m : Memory) (b : Book) (i : Inv m b) where
   -- ---- Begin
 
   -- A begin refused for its party's number, or because the party is busy.
-  begin_refused_ok_ok : (q : ℕ) (o : Operation) (k n : ℕ) → begin_call m q o k ≡ called (BeginAnswer.Refused n) m → CallOk m b (begin_for q o k)
+  begin_refused_ok_ok : (q : ℕ) (o : Operation) (k : ℕ) (c : Refusal) → begin_call m q o k ≡ called (Err c) m → CallOk m b (begin_for q o k)
   unfolding reply_to after_call book_after after_begin agrees undamaged
-  begin_refused_ok_ok q o k n e = record {
+  begin_refused_ok_ok q o k c e = record {
     right = refl;
     sound = refl;
-    inv = subst (λ (c : Called BeginAnswer). Inv c.memory (after_begin b q o k c.answer)) (sym e) i;
+    inv = subst (λ (c : Called CallReply). Inv c.memory (after_begin b q o k c.answer)) (sym e) i;
   }
 
   -- The operation is entered in the record and in the book.
   begun_ok : (q : ℕ) (o : Operation) (k : ℕ) → q < m.root.parties → party_at m.parties q ≡ idle → NoPages (scene_of m i.ghost b) q
-      → begin_call m q o k ≡ called BeginAnswer.Begun (with_begun m q o k) → CallOk m b (begin_for q o k)
+      → begin_call m q o k ≡ called (Ok tt) (with_begun m q o k) → CallOk m b (begin_for q o k)
   unfolding reply_to after_call book_after after_begin agrees undamaged with_begun
   begun_ok q o k l e none h = record {
     right = refl;
     sound = refl;
-    inv = subst (λ (c : Called BeginAnswer). Inv c.memory (after_begin b q o k c.answer)) (sym h) (begun_inv m b i q o k l e none);
+    inv = subst (λ (c : Called CallReply). Inv c.memory (after_begin b q o k c.answer)) (sym h) (begun_inv m b i q o k l e none);
   }
 
   begin_ok_ok : (q : ℕ) (o : Operation) (k : ℕ) → Ord q m.root.parties → CallOk m b (begin_for q o k)
-  begin_ok_ok q o k (ge h t) = begin_refused_ok_ok q o k 3 ((begin_order m q o k).party (within_limits_lem m.root i.limits) (lengths_fit_ok m b i) h)
+  begin_ok_ok q o k (ge h t) = begin_refused_ok_ok q o k Refusal.Party ((begin_order m q o k).party (within_limits_lem m.root i.limits) (lengths_fit_ok m b i) h)
   begin_ok_ok q o k (lt h t) = go (i.parties_ok q h)
     where
       go : PartyOk (scene_of m i.ghost b) q (party_at m.parties q) → CallOk m b (begin_for q o k)
       go (working e c f) =
-          begin_refused_ok_ok q o k 4
+          begin_refused_ok_ok q o k Refusal.Busy
           ((begin_order m q o k).busy (within_limits_lem m.root i.limits) (lengths_fit_ok m b i) h (operation_some e.operation (party_at m.parties q).operation c.same_operation))
       go (resting e _ none _) = begun_ok q o k h e none ((begin_order m q o k).none (within_limits_lem m.root i.limits) (lengths_fit_ok m b i) h (rw e refl))
 
   -- ---- Withdraw
 
   -- A withdraw refused for its party's number, because the party is idle, or because the decisive step is taken.
-  withdraw_refused_ok_ok : (q n : ℕ) → eqb n 6 ≡ false → withdraw_call m q ≡ called (WithdrawAnswer.Refused n) m → CallOk m b (withdraw_for q)
+  withdraw_refused_ok_ok : (q : ℕ) (c : Refusal) → is_damage c ≡ false → withdraw_call m q ≡ called (Err c) m → CallOk m b (withdraw_for q)
   unfolding reply_to after_call book_after after_withdraw agrees undamaged
-  withdraw_refused_ok_ok q n h e = record {
+  withdraw_refused_ok_ok q c h e = record {
     right = refl;
-    sound = ap (λ (c : Called WithdrawAnswer). undamaged (to_withdraw c.answer)) e ∙ ap not h;
-    inv = subst (λ (c : Called WithdrawAnswer). Inv c.memory (after_withdraw b q c.answer)) (sym e) i;
+    sound = ap (λ (c : Called CallReply). undamaged (to_withdraw c.answer)) e ∙ ap not h;
+    inv = subst (λ (c : Called CallReply). Inv c.memory (after_withdraw b q c.answer)) (sym e) i;
   }
 
   -- The operation is taken back, in the record and in the book.
   withdrawn_ok : (q : ℕ) → WithdrawKept m b q → withdraw_call m q ≡ withdrawn_from m q → CallOk m b (withdraw_for q)
   unfolding reply_to after_call book_after after_withdraw agrees undamaged withdrawn_from row_left
   withdrawn_ok q k e =
-      let now : withdraw_call m q ≡ called WithdrawAnswer.Withdrawn (with_waiting (row_without q m.waiting) (after_step m (withdrawn (view_of m q)).after))
-      = e ∙ ap (λ (a : WithdrawAnswer). called a (with_waiting (row_left q m.waiting a) (after_step m (withdrawn (view_of m q)).after))) k.accepted in
+      let now : withdraw_call m q ≡ called (Ok tt) (with_waiting (row_without q m.waiting) (after_step m (withdrawn (view_of m q)).after))
+      = e ∙ ap (λ (a : CallReply). called a (with_waiting (row_left q m.waiting a) (after_step m (withdrawn (view_of m q)).after))) k.accepted in
       record {
         right = refl;
-        sound = ap (λ (c : Called WithdrawAnswer). undamaged (to_withdraw c.answer)) now;
-        inv = subst (λ (c : Called WithdrawAnswer). Inv c.memory (after_withdraw b q c.answer)) (sym now) (k.inv _ (row_moves m.root _ m.parties _ m.waiting q i.row_ok k.asks));
+        sound = ap (λ (c : Called CallReply). undamaged (to_withdraw c.answer)) now;
+        inv = subst (λ (c : Called CallReply). Inv c.memory (after_withdraw b q c.answer)) (sym now) (k.inv _ (row_moves m.root _ m.parties _ m.waiting q i.row_ok k.asks));
       }
 
   withdraw_ok_ok : (q : ℕ) → Ord q m.root.parties → CallOk m b (withdraw_for q)
-  withdraw_ok_ok q (ge h t) = withdraw_refused_ok_ok q 3 refl ((withdraw_order m q).party (within_limits_lem m.root i.limits) (lengths_fit_ok m b i) h)
+  unfolding is_damage
+  withdraw_ok_ok q (ge h t) = withdraw_refused_ok_ok q Refusal.Party refl ((withdraw_order m q).party (within_limits_lem m.root i.limits) (lengths_fit_ok m b i) h)
   withdraw_ok_ok q (lt h t) = go (i.parties_ok q h)
     where
       go : PartyOk (scene_of m i.ghost b) q (party_at m.parties q) → CallOk m b (withdraw_for q)
-      go (resting e _ _ _) = withdraw_refused_ok_ok q 5 refl ((withdraw_order m q).idle (within_limits_lem m.root i.limits) (lengths_fit_ok m b i) h (rw e refl))
+      go (resting e _ _ _) = withdraw_refused_ok_ok q Refusal.Idle refl ((withdraw_order m q).idle (within_limits_lem m.root i.limits) (lengths_fit_ok m b i) h (rw e refl))
       go (working e k f) = by (tell (is_decided (party_at m.parties q)))
         where
           some_operation : (party_at m.parties q).operation ≢ 0
           some_operation = operation_some e.operation (party_at m.parties q).operation k.same_operation
 
           by : Told (is_decided (party_at m.parties q)) → CallOk m b (withdraw_for q)
-          by (holds d) = withdraw_refused_ok_ok q 7 refl ((withdraw_order m q).decided (within_limits_lem m.root i.limits) (lengths_fit_ok m b i) h some_operation d)
+          by (holds d) = withdraw_refused_ok_ok q Refusal.Decided refl ((withdraw_order m q).decided (within_limits_lem m.root i.limits) (lengths_fit_ok m b i) h some_operation d)
           by (fails d) =
               withdrawn_ok q (withdraw_kept (record { inv = i; in_row = h; is_at = refl; entered = e; busy = k; facts = f }) d)
               ((withdraw_order m q).none (within_limits_lem m.root i.limits) (lengths_fit_ok m b i) h some_operation d

@@ -1,12 +1,12 @@
 -- What holds of the view of a step, or of a withdraw, once no row of the refusal table is met.
--- Main statements: ready (of the view), row_fits (of the row of parties); withdraw_ready, withdraw-row-fits, undecided (of a withdraw).
-use mathlib.Core.Path.{◌≡◌, refl}
-use mathlib.Core.Bool.{Bool, true, false}
+-- Main statements: ready (of the view), row_fits (of the row of parties); withdraw_ready, withdraw_row_fits, undecided (of a withdraw).
+use mathlib.Core.Path.{◌≡◌, refl, ap}
+use mathlib.Core.Bool.{Bool, true, false, false≢true}
 use mathlib.Core.List.{List, [], ◌∷◌}
 use Prim.Native.Nat.{ℕ, ◌≤◌, ◌<◌}
-use native.Mathlib.Omega.{arith}
 use lib.ListN.{length}
 use borrow.Author.Tests.{leb-true, leb-false, ltb-true, eqb-true, not-false}
+use Rattle.std.specs.Prelude.{Ok, is_ok}
 use Rattle.model.specs.declared.Root.{Root}
 use Rattle.model.specs.declared.Party.{Party}
 use Rattle.model.specs.Sizes.{within_limits, most_records, lock_words, all_page_words}
@@ -19,14 +19,14 @@ use Rattle.model.specs.Ready.{Ready}
 use Rattle.model.proofs.Laws.Lists.{All}
 use Rattle.model.proofs.Laws.Booleans.{and_left, and_right}
 
--- Where there is no cause no row is met, if every row has a number.
-pub none_met : (rows : List Row) → All (λ x. 0 < x.number) rows → first_cause rows ≡ 0 → All (λ x. x.met ≡ false) rows
+-- Where there is no cause no row is met.
+pub none_met : (rows : List Row) → first_cause rows ≡ Ok tt → All (λ x. x.met ≡ false) rows
 unfolding first_cause
-none_met [] a e = tt
-none_met (x ∷ rows) a e = go x.met refl (λ k. none_met rows a.1 k)
+none_met [] e = tt
+none_met (x ∷ rows) e = go x.met refl (none_met rows)
   where
-    go : (t : Bool) → x.met ≡ t → (first_cause rows ≡ 0 → All (λ y. y.met ≡ false) rows) → All (λ y. y.met ≡ false) (x ∷ rows)
-    go true k ih = absurd (let z = rw k at e in omega (arith, a.0, z))
+    go : (t : Bool) → x.met ≡ t → (first_cause rows ≡ Ok tt → All (λ y. y.met ≡ false) rows) → All (λ y. y.met ≡ false) (x ∷ rows)
+    go true k ih = absurd (let z = rw k at e in false≢true (ap is_ok z))
     go false k ih = (k, ih (rw k at e))
 
 -- A sound record's step number and lev.
@@ -76,10 +76,10 @@ module _ (m : Memory) (q : ℕ) (limits : within_limits m.root ≡ true) (length
         other_fits = ltb-true x.other r.primaries (search (and_left, and_right));
       }
 
-module _ (m : Memory) (q : ℕ) (none : first_cause (step_rows m q) ≡ 0) where
+module _ (m : Memory) (q : ℕ) (none : first_cause (step_rows m q) ≡ Ok tt) where
   unmet : All (λ x. x.met ≡ false) (step_rows m q)
   unfolding step_rows
-  unmet = none_met (step_rows m q) (omega arith) none
+  unmet = none_met (step_rows m q) none
 
   limits : within_limits m.root ≡ true
   unfolding step_rows
@@ -105,10 +105,10 @@ module _ (m : Memory) (q : ℕ) (none : first_cause (step_rows m q) ≡ 0) where
   ready = ready_by_tests m q limits lengths number records
 
 -- The same of a withdraw; and the decisive step is not taken.
-module _ (m : Memory) (q : ℕ) (none : first_cause (withdraw_rows m q) ≡ 0) where
+module _ (m : Memory) (q : ℕ) (none : first_cause (withdraw_rows m q) ≡ Ok tt) where
   withdraw_unmet : All (λ x. x.met ≡ false) (withdraw_rows m q)
   unfolding withdraw_rows
-  withdraw_unmet = none_met (withdraw_rows m q) (omega arith) none
+  withdraw_unmet = none_met (withdraw_rows m q) none
 
   withdraw_limits : within_limits m.root ≡ true
   unfolding withdraw_rows

@@ -1,6 +1,6 @@
 -- Table I and the strongest lock held (document 02, change 5).
 -- Main statements: table_symmetric; table_monotone (what is granted beside a lock is granted beside a weaker one); strongest-is (what the strongest lock held means);
--- beside-each and each-beside (the strongest decides for every lock held); word_judged (every lock word permits what Table I has beside the strongest lock held).
+-- beside_each and each_beside (the strongest decides for every lock held); word_judged (every lock word permits what Table I has beside the strongest lock held).
 use mathlib.Core.Path.{◌≡◌, refl, sym, ap, ◌∙◌}
 use mathlib.Core.Bool.{Bool, true, false, cond, not, ◌&&◌, true≢false}
 use mathlib.Core.Option.{Option, none, some}

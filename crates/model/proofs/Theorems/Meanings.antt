@@ -1,10 +1,9 @@
 -- Definitions that the demands could lose unseen, said once more in other words: parts of the book and of the link rule that only forbid, what steps and yardstick share, the record's words,
 -- and numbers of answers.
 -- Main statements: unentered_refused, unnoted_refused (the book); grown_owes, not_grown_owes-none, emptied_owes (what is owed); few_fit, more_do_not_fit (a merge); idle-zero, begun_zeroes,
--- update_alone (a party's record); find_given, insert_given, delete_given, found_carries, others_carry_none (settings); begin_number_lem, format_number_lem, withdraw_number_lem, restructurings_in_order (numbers
--- of answers); decided_find, decided_insert, decided_delete (the decisive step taken).
+-- update_alone (a party's record); find_given, insert_given, delete_given, found_carries, others_carry_none (settings); begin_by_cause, format_by_cause, withdraw_by_cause (what refused calls
+-- answer); numbers_of_causes, refused_number, accepted_number, damage_is_six, restructurings_in_order (numbers of answers); decided_find, decided_insert, decided_delete (the decisive step taken).
 use mathlib.Core.Path.{◌≡◌, refl, sym}
-use mathlib.Core.Logic.{◌≢◌}
 use mathlib.Core.Bool.{true, false, or-false}
 use mathlib.Core.List.{List, [], ◌∷◌, ◌++◌, map}
 use mathlib.Core.Option.{none}
@@ -13,22 +12,24 @@ use native.Mathlib.Omega.{arith}
 use lib.ListN.{length, replicate, set}
 use lib.Dec.{eqb, leb}
 use borrow.Author.Tests.{ne_eqb, lt-ltb, le-ltb, le-leb, lt-leb}
+use Rattle.std.specs.Prelude.{Ok, Err}
+use Rattle.model.specs.declared.Refusal.{Refusal}
 use Rattle.model.specs.declared.Party.{Party}
 use Rattle.model.specs.declared.OperationAnswer.{OperationAnswer}
 use Rattle.model.specs.declared.Operation.{Operation}
 use Rattle.model.specs.declared.Restructuring.TheVariants as Restructuring
 use Rattle.model.specs.Records.{root_of_sizes, idle, begun, at_step, with_lev, with_chain, with_other, with_old, with_owed, with_answer}
-use Rattle.model.specs.Answers.{answer_of, setting_given, setting_found, restructuring_number, begin_refusal, format_refusal, withdraw_refusal}
+use Rattle.model.specs.Answers.{answer_of, setting_given, setting_found, restructuring_number, CallReply, cause_number, is_damage, refusal_number}
 use Rattle.model.specs.declared.Entry.{Entry}
 use Rattle.model.specs.Entries.{is_empty}
 use Rattle.model.specs.Filling.{fits_primary}
 use Rattle.model.specs.Steps.Rebuild.{split_owed, merge_owed}
-use Rattle.model.specs.Memory.{Memory}
+use Rattle.model.specs.Memory.{Memory, formatted}
 use Rattle.model.specs.Refusals.{first_cause, format_rows, begin_rows, withdraw_rows}
 use Rattle.model.specs.Withdraw.{is_decided}
-use Rattle.model.specs.Calls.{format_call, begin_call, withdraw_call}
+use Rattle.model.specs.Calls.{called, unless_refused, with_begun, format_call, begin_call, withdraw_call}
 use Rattle.model.specs.Book.{is_note, is_note_of}
-use Rattle.model.proofs.Laws.Lists.{cond_ind, Cmp, same, diff, cmp, Numbered, ◌▸◌}
+use Rattle.model.proofs.Laws.Lists.{cond_ind, Numbered, ◌▸◌}
 
 -- An answer to an operation that was not entered, or that has no note yet, does not agree.
 pub unentered_refused : (a : OperationAnswer) → is_note_of a none ≡ false
@@ -104,27 +105,51 @@ pub update_alone :
     Numbered (λ n f. (x : ℕ) (p : Party) → words (f x p) ≡ set (words p) n x) 2 (at_step ∷ with_lev ∷ with_chain ∷ with_other ∷ with_old ∷ with_owed ∷ with_answer ∷ [])
 update_alone = (λ x p. refl) ▸ (λ x p. refl) ▸ (λ x p. refl) ▸ (λ x p. refl) ▸ (λ x p. refl) ▸ (λ x p. refl) ▸ (λ x p. refl) ▸ tt
 
--- The number of a call's refusal is the first cause that it meets, and 0 where it meets none.
-pub begin_number_lem : (m : Memory) (q : ℕ) (o : Operation) (k : ℕ) → begin_refusal (begin_call m q o k).answer ≡ first_cause (begin_rows m q)
-unfolding begin_call begin_refusal
-begin_number_lem m q o k = go (cmp (first_cause (begin_rows m q)) 0)
-  where
-    go : Cmp (first_cause (begin_rows m q)) 0 → begin_refusal (begin_call m q o k).answer ≡ first_cause (begin_rows m q)
-    go (same e) = rw e refl
-    go (diff d) = rw (ne_eqb (first_cause (begin_rows m q)) 0 d) refl
+-- What a call that its first cause refuses, or lets through, answers.
+unless_by_cause : (m : Memory) (x : CallReply) (then : Memory) → (unless_refused m x (called (Ok tt) then)).answer ≡ x
+unless_by_cause m (Ok _) then = refl
+unless_by_cause m (Err c) then = refl
 
-pub format_number_lem : (m : Memory) (n b p v q : ℕ) → format_refusal (format_call m n b p v q).answer ≡ first_cause (format_rows (root_of_sizes n b p v q) m)
-unfolding format_call format_refusal
-format_number_lem m n b p v q = go (cmp (first_cause (format_rows (root_of_sizes n b p v q) m)) 0)
-  where
-    go : Cmp (first_cause (format_rows (root_of_sizes n b p v q) m)) 0 → format_refusal (format_call m n b p v q).answer ≡ first_cause (format_rows (root_of_sizes n b p v q) m)
-    go (same e) = rw e refl
-    go (diff d) = rw (ne_eqb (first_cause (format_rows (root_of_sizes n b p v q) m)) 0 d) refl
+-- A begin and a format answer the first cause that they meet, or that they meet none.
+pub begin_by_cause : (m : Memory) (q : ℕ) (o : Operation) (k : ℕ) → (begin_call m q o k).answer ≡ first_cause (begin_rows m q)
+unfolding begin_call
+begin_by_cause m q o k = unless_by_cause m (first_cause (begin_rows m q)) (with_begun m q o k)
 
--- A withdraw that meets a row of the table has its number; one that meets none may still find damage of its own.
-pub withdraw_number_lem : (m : Memory) (q : ℕ) → first_cause (withdraw_rows m q) ≢ 0 → withdraw_refusal (withdraw_call m q).answer ≡ first_cause (withdraw_rows m q)
-unfolding withdraw_call withdraw_refusal
-withdraw_number_lem m q d = rw (ne_eqb (first_cause (withdraw_rows m q)) 0 d) refl
+pub format_by_cause : (m : Memory) (n b p v q : ℕ) → (format_call m n b p v q).answer ≡ first_cause (format_rows (root_of_sizes n b p v q) m)
+unfolding format_call
+format_by_cause m n b p v q = unless_by_cause m (first_cause (format_rows (root_of_sizes n b p v q) m)) (formatted (root_of_sizes n b p v q))
+
+-- A withdraw that meets a cause answers the first; one that meets none may still find damage of its own.
+pub withdraw_by_cause : (m : Memory) (q : ℕ) (c : Refusal) → first_cause (withdraw_rows m q) ≡ Err c → (withdraw_call m q).answer ≡ Err c
+unfolding withdraw_call
+withdraw_by_cause m q c e = rw e refl
+
+-- The number of each cause, and of a call: 0 where it is not refused.
+pub numbers_of_causes :
+    map cause_number (Refusal.Length ∷ Refusal.Size ∷ Refusal.Party ∷ Refusal.Busy ∷ Refusal.Idle ∷ Refusal.Damage ∷ Refusal.Decided ∷ Refusal.Unsaved ∷ [])
+    ≡ 1 ∷ 2 ∷ 3 ∷ 4 ∷ 5 ∷ 6 ∷ 7 ∷ 8 ∷ []
+unfolding cause_number
+numbers_of_causes = refl
+
+pub refused_number : (A : Type 0) (c : Refusal) → refusal_number {A = A} (Err c) ≡ cause_number c
+unfolding refusal_number
+refused_number A c = refl
+
+pub accepted_number : {A : Type 0} (a : A) → refusal_number (Ok a) ≡ 0
+unfolding refusal_number
+accepted_number a = refl
+
+-- Damage is the cause with number 6, and no other.
+pub damage_is_six : (c : Refusal) → is_damage c ≡ eqb (cause_number c) 6
+unfolding is_damage cause_number
+damage_is_six Refusal.Size = refl
+damage_is_six Refusal.Length = refl
+damage_is_six Refusal.Unsaved = refl
+damage_is_six Refusal.Party = refl
+damage_is_six Refusal.Busy = refl
+damage_is_six Refusal.Idle = refl
+damage_is_six Refusal.Decided = refl
+damage_is_six Refusal.Damage = refl
 
 -- The decisive step is taken: "a find at 9, a change at 12 or later".
 pub decided_find : (p : Party) → p.operation ≡ 1 → is_decided p ≡ eqb p.step 9

@@ -1,5 +1,5 @@
 -- Merges on memory of any contents: at 26 a key in both chains is damage; 26 takes no overflow page, and 29 gives back what both chains had.
--- Main statements: shared_damage (a key in both chains); step26_root, takes_none; gives-back-both.
+-- Main statements: shared_damage (a key in both chains); step26_root, takes_none; gives_back_both.
 use mathlib.Core.Path.{◌≡◌, refl, sym, ap, ◌∙◌}
 use mathlib.Core.Logic.{◌≢◌}
 use mathlib.Core.Bool.{Bool, true, false, cond, not, ◌&&◌, false≢true}
@@ -8,6 +8,7 @@ use Prim.Native.Nat.{ℕ, ◌-◌}
 use native.Mathlib.Omega.{arith}
 use lib.ListN.{length, set}
 use lib.Dec.{eqb}
+use Rattle.model.specs.declared.Refusal.{Refusal}
 use Rattle.model.specs.declared.Root.{Root}
 use Rattle.model.specs.declared.Party.{Party}
 use Rattle.model.specs.declared.Restructuring.{Restructuring}
@@ -19,7 +20,7 @@ use Rattle.model.specs.Pages.{page_of, with_page, level_of, link_of, page_sound,
 use Rattle.model.specs.Chains.{Checked, damaged, sound, sound_if, and_then, Chain, chain_of, read_chain, list_from, overflow_from}
 use Rattle.model.specs.Entries.{shares_key}
 use Rattle.model.specs.Filling.{primary_of}
-use Rattle.model.specs.Outcome.{View, Outcome, refuse, damage, moved, guarded, checked}
+use Rattle.model.specs.Outcome.{View, Outcome, refuse, moved, guarded, checked}
 use Rattle.model.specs.FreeList.{room_to_give_back}
 use Rattle.model.specs.LockRequests.{is_held, lock_word, root_exclusive, without_hold, given_up, held_all}
 use Rattle.model.specs.ScratchPages.{scratch_of}
@@ -42,14 +43,14 @@ use Rattle.model.proofs.Invariant.Frame.{SameLimits, sound_sizes, linked_sizes}
 
 -- It is damage, whether or not the joined records fit.
 pub shared_damage : (v : View) (t u : Chain) → merge_stops v.root ≡ false → chain_of v.root v.pages v.party.chain ≡ sound t → chain_of v.root v.pages v.party.other ≡ sound u
-    → shares_key t.entries u.entries ≡ true → step26 v ≡ refuse damage v
+    → shares_key t.entries u.entries ≡ true → step26 v ≡ refuse Refusal.Damage v
 unfolding step26 pair_of
 shared_damage v t u goes target partner e = rw (goes, target, partner, e) refl
 
 -- ---- 26 takes no page
 
 -- What 26 can come to: refused, joined or skipped.
-step26_ends : (v : View) (P : Outcome → Type 0) → P (refuse damage v) → ((m : Pair) → P (combined v m))
+step26_ends : (v : View) (P : Outcome → Type 0) → P (refuse Refusal.Damage v) → ((m : Pair) → P (combined v m))
     → P (done (answer_of v.party.answer) Restructuring.MergeSkipped (given_up (merge_locks root_exclusive v.party) v)) → P (step26 v)
 unfolding step26 combine_with ended_with
 step26_ends v P refused joins skips =

@@ -1,6 +1,6 @@
 -- The records of a consistent file, key by key (specs/Consistency.antt says them as one list).
--- Main statements: records-ascend; in-records and in-file (a key has in the joined list what some chain has of it, and
--- nothing else); in_map, map-in-file (of the book's map).
+-- Main statements: records_ascend; in_records and in_file (a key has in the joined list what some chain has of it, and
+-- nothing else); in_map, map_in_file (of the book's map).
 use mathlib.Core.Path.{◌≡◌, sym, ap, ◌∙◌}
 use mathlib.Core.Bool.{true}
 use mathlib.Core.List.{List, []}

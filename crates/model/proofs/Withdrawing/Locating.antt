@@ -1,6 +1,6 @@
 -- Steps 1 to 8: a withdraw after one of them leaves what a withdraw before it leaves.
--- Main statements: Undoes (so it is of an outcome, or its decisive step is taken); request-undone, release-undone;
--- step01-undone to step08-undone.
+-- Main statements: Undoes (so it is of an outcome, or its decisive step is taken); request_undone, release_undone;
+-- step01_undone to step08_undone.
 use mathlib.Core.Path.{◌≡◌, refl, sym, ap, ◌∙◌, subst}
 use mathlib.Core.Logic.{◌≢◌}
 use mathlib.Core.Bool.{Bool, true, false, ◌&&◌}

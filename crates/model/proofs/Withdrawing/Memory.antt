@@ -11,10 +11,11 @@ use native.Mathlib.Nat.{add-zero}
 use native.Mathlib.Omega.{arith}
 use lib.ListN.{length, get_or, take, set}
 use lib.Seq.{get_or-take, set-set, set-get_or}
+use Rattle.std.specs.Prelude.{Ok, Err}
 use Rattle.model.specs.declared.Party.{Party}
 use Rattle.model.specs.declared.Operation.{Operation}
 use Rattle.model.specs.Records.{idle, begun}
-use Rattle.model.specs.Answers.{operation_number, setting_given}
+use Rattle.model.specs.Answers.{operation_number, setting_given, StepReply}
 use Rattle.model.specs.Pages.{with_page, scratch_page, zero_page}
 use Rattle.model.specs.FreeList.{given_back}
 use Rattle.model.specs.LockRequests.{given_up}
@@ -121,14 +122,14 @@ row-only_undone m q row e =
     ∙ ap (λ (r : List ℕ). with_waiting r (after_step m (undone (view_of m q)))) e
 
 -- The row without the party is what it was.
-pub row_undone : {m : Memory} {b : Book} {q k : ℕ} (t : Turn m b q k) (a : StepAnswer) → (step_of (party_at m.parties q).step (view_of m q)).answer ≡ a
+pub row_undone : {m : Memory} {b : Book} {q k : ℕ} (t : Turn m b q k) (a : StepReply) → (step_of (party_at m.parties q).step (view_of m q)).answer ≡ a
     → row_without q (row_after q m.waiting a) ≡ row_without q m.waiting
 unfolding row_after
-row_undone {m} {b} {q} t StepAnswer.Waiting e =
+row_undone {m} {b} {q} t (Ok StepAnswer.Waiting) e =
     with_without m.root m.parties m.waiting q t.inv.row_ok (record { there = t.in_row; asks = waiting_asks (view_of m q) t.busy.step_fits e })
-row_undone {m} {b} {q} t StepAnswer.Moved e = without_twice m.root m.parties m.waiting q t.inv.row_ok
-row_undone t (StepAnswer.Done a s) e = refl
-row_undone t (StepAnswer.Refused n) e = refl
+row_undone {m} {b} {q} t (Ok StepAnswer.Moved) e = without_twice m.root m.parties m.waiting q t.inv.row_ok
+row_undone t (Ok (StepAnswer.Done a s)) e = refl
+row_undone t (Err n) e = refl
 
 pub step_undone : {m : Memory} {b : Book} {q k : ℕ} → Turn m b q k → k < 11 → k ≢ 9 → StepUndone m (stepped m q).memory q
 unfolding step_of step_table stepped

@@ -1,7 +1,7 @@
 -- Step 10: a withdraw after it leaves what a withdraw before it leaves, or the decisive step is taken.
 -- The pages taken from the head of the free list go back in reverse order, zeroed but for their links: the free list
 -- and every page word are what they were.
--- Main statement: step10-undone.
+-- Main statement: step10_undone.
 use mathlib.Core.Path.{◌≡◌, refl, sym, ap, ◌∙◌}
 use mathlib.Core.Logic.{◌≢◌}
 use mathlib.Core.Bool.{false}

@@ -8,11 +8,12 @@
 -- crates/theory/proofs/Places.antt (old, built).
 use Rattle.std.specs.Prelude.{Bool, true, false, cond, ◌||◌, List, [], ◌∷◌, ℕ, get_or}
 use Rattle.std.proofs.Math.Option.{Option, none, some}
+use Rattle.model.specs.declared.Refusal.{Refusal}
 use Rattle.model.specs.declared.Root.{Root}
 use Rattle.model.specs.declared.Party.{Party}
 use Rattle.model.specs.LockWords.{Claim}
 use Rattle.model.specs.Addresses.{split_barred, count_of_chains}
-use Rattle.model.specs.Outcome.{View, Outcome, refuse, damage}
+use Rattle.model.specs.Outcome.{View, Outcome, refuse}
 use Rattle.model.specs.LockRequests.{root_read, chain_lock, other_lock, chain_selective, chain_exclusive, root_selective, root_exclusive, other_exclusive}
 use Rattle.model.specs.Steps.Locate.{step01, step02, step03, step04, step05}
 use Rattle.model.specs.Steps.Chase.{step06, step07, step08}
@@ -125,7 +126,7 @@ page_word = 8
 
 -- A number that names no step.
 abbrev pub no_step : View → Outcome
-no_step v = refuse damage v
+no_step v = refuse Refusal.Damage v
 
 -- Which operations have a step: given whether the operation is a find, an insert, a delete.
 abbrev pub Who : Type 0

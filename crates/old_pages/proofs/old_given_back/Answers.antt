@@ -1,108 +1,72 @@
 -- `old_pages::old_given_back` meets its contract.
-use mathlib.Core.Path.{sym, ap, subst, ◌∙◌}
+use mathlib.Core.Path.{ap, ◌∙◌}
 use Prim.Native.Nat.{◌+◌, ◌≤◌, ◌<◌}
 use native.Mathlib.Omega.{arith}
-use lib.ListN.{length, length-set}
-use Rattle.model.specs.declared.Root.{Root}
+use lib.ListN.{length}
+use Rattle.model.specs.Records.{with_old}
 use Rattle.model.specs.Chains.{list_from}
-use Rattle.records.specs.Words.{root_in, party_in}
-use Rattle.records.proofs.Words.{old_written, free_list_written, root_is}
+use Rattle.model.specs.FreeList.{pages_given_back}
+use Rattle.model.specs.Ready.{viewing}
+use Rattle.model.specs.Endings.{onward}
+use Rattle.records.specs.Work.{seen}
+use Rattle.records.proofs.Told.{told}
 use Rattle.model.proofs.Laws.Tests.{named_sound}
-use Rattle.free_list.specs.Giving.{listed, CanGive}
-use Rattle.free_list.proofs.Giving.{listed-length, same_sizes, free_list_kept, walked_at_most}
-use Rattle.endings.specs.Scratch.{HasScratch}
+use Rattle.free_list.specs.Giving.{listed, Returned}
+use Rattle.free_list.proofs.Giving.{listed-length, same_sizes, walked_at_most}
 use Rattle.endings.proofs.Scratching.{ready_has_scratch, still_has_scratch}
-use Rattle.old_pages.proofs.OldPages.{no_room_refused, not_held_refused, all_given_back}
+use Rattle.old_pages.proofs.GivenBack.{no_room_refused, not_held_refused, all_given_back}
 use Rattle.old_pages.proofs.old_given_back.Goals as goal
 
-pub overflow_add-r : goal.overflow_add-r
-overflow_add-r c =
+pub overflow_add-work : goal.overflow_add-work
+overflow_add-work c =
+    let a = c.args in
+    let few = walked_at_most a.work.now.root a.pages.now a.work.now.party.old a.n c.requires.2 in
+    omega (arith, c.requires.0.free_fits, c.requires.0.pages_fit)
+
+pub returns-then-work-n : goal.returns-then-work-n
+returns-then-work-n c =
+    let a = c.args in
+    let r = a.work.now.root in
+    let walk = list_from r a.pages.now a.work.now.party.old in
+    let count = listed-length walk a.n c.requires.2 in
+    let over : r.overflow < r.free + length (listed walk) = omega (arith, c.if-work-n.true) in
+    no_room_refused (seen a.work.now a.locks.now a.pages.now) (listed walk) over
+
+pub give_back-work-requires : goal.give_back-work-requires
+give_back-work-requires c =
     let a = c.args in
     let pre = c.requires in
-    let er = c.root_of-r.ensures in
-    let free = ap (λ (x : Root). x.free) er in
-    let r = root_in a.root.now in
-    let few = walked_at_most r a.pages.now (party_in a.party.now).old a.n pre.3 in
-    omega (arith, pre.1.ready.free_fits, pre.1.ready.pages_fit)
+    record { links = named_sound a.work.now.root a.work.now.party.old pre.1; walked = pre.2; room = omega (arith, c.if-work-n.false); fits = omega (arith, pre.0.pages_fit) }
 
-pub returns-then-r-n : goal.returns-then-r-n
-returns-then-r-n c =
+pub returns-in_err-give_up : goal.returns-in_err-give_up
+returns-in_err-give_up c =
     let a = c.args in
-    let pre = c.requires in
-    let er = c.root_of-r.ensures in
-    let free = ap (λ (x : Root). x.free) er in
-    let overflow = ap (λ (x : Root). x.overflow) er in
-    let r = root_in a.root.now in
-    let p = party_in a.party.now in
-    let walk = list_from r a.pages.now p.old in
-    let count = listed-length walk a.n pre.3 in
-    let over : r.overflow < r.free + length (listed walk) = omega (arith, pre.1.ready.free_fits, c.if-r-n.true) in
-    no_room_refused r p a.q a.locks.now a.pages.now (listed walk) over
-
-pub returns-then-not-give_up : goal.returns-then-not-give_up
-returns-then-not-give_up c =
-    let a = c.args in
-    let pre = c.requires in
-    let er = c.root_of-r.ensures in
-    let free = ap (λ (x : Root). x.free) er in
-    let overflow = ap (λ (x : Root). x.overflow) er in
-    let r = root_in a.root.now in
-    let p = party_in a.party.now in
-    let walk = list_from r a.pages.now p.old in
-    let count = listed-length walk a.n pre.3 in
-    let room : r.free + length (listed walk) ≤ r.overflow = omega (arith, pre.1.ready.free_fits, c.if-r-n.false) in
-    not_held_refused r p a.q a.locks.now a.pages.now (listed walk) room c.chain_word-word.ensures c.give_up.ensures.0 c.give_up.ensures.1 (c.if-not-give_up.true)
-
-pub give_back-after-requires : goal.give_back-after-requires
-give_back-after-requires c =
-    let a = c.args in
-    let pre = c.requires in
-    let er = c.root_of-r.ensures in
-    let free = ap (λ (x : Root). x.free) er in
-    let overflow = ap (λ (x : Root). x.overflow) er in
-    let r = root_in a.root.now in
-    let p = party_in a.party.now in
-    let can : CanGive r a.pages.now p.old a.n = record { links = named_sound r p.old pre.2; walked = pre.3; room = omega (arith, pre.1.ready.free_fits, c.if-r-n.false); fits = omega (arith, pre.1.ready.pages_fit) } in
-    subst (λ (x : Root). CanGive x a.pages.now p.old a.n) (sym er) can
-
-pub bounds-root-7 : goal.bounds-root-7
-bounds-root-7 c =
-    omega (arith, c.requires.0)
-
-pub bounds-root-8 : goal.bounds-root-8
-bounds-root-8 c =
-    simp length-set (omega (arith, c.requires.0))
-
-pub bounds-party-6-2 : goal.bounds-party-6-2
-bounds-party-6-2 c =
-    omega (arith, c.requires.1.words)
+    let r = a.work.now.root in
+    let walk = list_from r a.pages.now a.work.now.party.old in
+    let count = listed-length walk a.n c.requires.2 in
+    let room : r.free + length (listed walk) ≤ r.overflow = omega (arith, c.if-work-n.false) in
+    let held = rw c.chain-held.ensures at (c.give_up.ensures.held a.pages.now) in
+    let left = rw c.chain-held.ensures at (c.give_up.ensures.words a.pages.now) in
+    not_held_refused (seen a.work.now a.locks.now a.pages.now) (listed walk) room held left c.in_err-give_up.was (told c.from_residual.result c.from_residual.ensures)
 
 pub onward-requires : goal.onward-requires
 onward-requires c =
     let a = c.args in
-    let pre = c.requires in
-    let er = c.root_of-r.ensures in
-    let same = same_sizes _ _ a.pages.now _ _ c.give_back-after.ensures in
-    let scratch = subst (λ (x : Root). HasScratch x a.q a.pages.now) (sym er) (ready_has_scratch _ pre.1.ready) in
-    (simp length-set pre.1.words, still_has_scratch _ _ a.q a.pages.now _ same.0 same.1 c.give_back-after.auto.pages scratch)
-
-pub shape_of-party : goal.shape_of-party
-shape_of-party c = simp length-set at c.onward.auto.party
+    let same = same_sizes _ _ a.pages.now _ _ c.give_back-work.ensures in
+    still_has_scratch _ _ a.work.now.number a.pages.now _ same.0 same.1 c.give_back-work.auto.pages (ready_has_scratch _ c.requires.0)
 
 pub returns : goal.returns
+unfolding pages_given_back
 returns c =
     let a = c.args in
-    let pre = c.requires in
-    let er = c.root_of-r.ensures in
-    let free = ap (λ (x : Root). x.free) er in
-    let overflow = ap (λ (x : Root). x.overflow) er in
-    let r = root_in a.root.now in
-    let p = party_in a.party.now in
-    let walk = list_from r a.pages.now p.old in
-    let count = listed-length walk a.n pre.3 in
-    let room : r.free + length (listed walk) ≤ r.overflow = omega (arith, pre.1.ready.free_fits, c.if-r-n.false) in
-    let given = rw er at c.give_back-after.ensures in
-    let after = c.give_back-after.result in
-    root_is (free_list_written a.root.now after.head after.free pre.0 ∙ free_list_kept r after a.pages.now _ _ given)
-    ∙ c.onward.ensures _
-    ∙ all_given_back r p a.q a.locks.now a.pages.now (listed walk) room c.chain_word-word.ensures c.give_up.ensures.0 c.give_up.ensures.1 (c.if-not-give_up.false) given (old_written a.party.now 0 pre.1.words)
+    let w = a.work.now in
+    let r = w.root in
+    let locks = c.give_up.new.locks in
+    let walk = list_from r a.pages.now w.party.old in
+    let count = listed-length walk a.n c.requires.2 in
+    let room : r.free + length (listed walk) ≤ r.overflow = omega (arith, c.if-work-n.false) in
+    let held = rw c.chain-held.ensures at (c.give_up.ensures.held a.pages.now) in
+    let left = rw c.chain-held.ensures at (c.give_up.ensures.words a.pages.now) in
+    c.onward.ensures locks
+    ∙ ap (λ (x : Returned). onward (viewing x.root (with_old 0 w.party) w.number locks x.pages)) c.give_back-work.ensures
+    ∙ (all_given_back (seen w a.locks.now a.pages.now) (listed walk) room held left c.in_ok-give_up.was)

@@ -1,17 +1,20 @@
--- `old_pages::step_13` meets its contract.
-use mathlib.Core.Path.{refl}
-use Rattle.records.specs.Words.{seen}
-use Rattle.old_pages.proofs.OldLock.{named-requests, unnamed_refused}
+-- `old_pages::step_13` meets its contract: an old link that names an overflow page, and the chain requested.
+use mathlib.Core.Path.{◌≡◌, sym, ◌∙◌}
+use mathlib.Core.Bool.{true, false}
+use Rattle.model.specs.Pages.{names_overflow}
+use Rattle.model.specs.Steps.OldPages.{step13}
 use Rattle.old_pages.proofs.step_13.Goals as goal
 
 pub returns-then-not-names_overflow : goal.returns-then-not-names_overflow
+unfolding step13
 returns-then-not-names_overflow c =
-    let a = c.args in
-    let v = seen a.root a.party.now a.q a.locks.now a.pages.now in
-    unnamed_refused v c.names_overflow.ensures c.if-not-names_overflow.true
+    let w = c.args.work.now in
+    let unnamed : names_overflow w.root w.party.old ≡ false = sym c.names_overflow.ensures ∙ c.if-not-names_overflow.true in
+    rw unnamed
 
 pub returns : goal.returns
+unfolding step13
 returns c =
-    let a = c.args in
-    let v = seen a.root a.party.now a.q a.locks.now a.pages.now in
-    named-requests v c.names_overflow.ensures c.if-not-names_overflow.false c.chain_word-word.ensures refl (c.request_step.ensures a.root a.pages.now)
+    let w = c.args.work.now in
+    let named : names_overflow w.root w.party.old ≡ true = sym c.names_overflow.ensures ∙ c.if-not-names_overflow.false in
+    rw named (rw c.chain-lock.ensures at (c.request.ensures c.args.pages.now))

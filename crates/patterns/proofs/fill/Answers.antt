@@ -1,42 +1,34 @@
--- `patterns::fill` meets its contract. The loop's invariant: the text still to be put, put into the bytes as they are, gives what is promised (Put).
-use mathlib.Core.Path.{◌≡◌, sym, ap}
-use Prim.Native.Nat.{ℕ}
-use native.Mathlib.Omega.{arith}
-use lib.ListN.{length, get_or, length-append}
-use Rattle.patterns.specs.Numbers.{decimal}
-use Rattle.patterns.proofs.Filling.{none_put, filled-hole, filled_byte, hole_put, byte_put, all_put}
+-- `patterns::fill` meets its contract.
+use mathlib.Core.Path.{◌≡◌, sym}
+use borrow.Author.Rules.{rules}
+use lib.ListN.{get_or, drop}
+use Rattle.std.specs.Slice.Iter.{iter_rest}
+use Rattle.patterns.proofs.Filling.{next_number, hole_put, hole_room, byte_put, byte_room, all_put}
 use Rattle.patterns.proofs.fill.Goals as goal
 use Rattle.patterns.proofs.fill.Goals.{then-b-eq-HOLE, else-b-eq-HOLE}
 
-pub loop-i-init : goal.loop-i-init
-loop-i-init c =
-    let a = c.args in
-    none_put a.pattern.now a.numbers a.out.now a.at
+pub put_number-next-requires : goal.put_number-next-requires
+put_number-next-requires c =
+    let l = c.loop-b in
+    let number : c.unwrap_or.result ≡ get_or (iter_rest l.left) 0 0 = cc (next_number l.left c.next.new.self c.next.result c.next.ensures.steps) in
+    hole_room l.invariant c.loop-b-test.true c.if-b-eq-HOLE.true c.requires number
 
-pub put_number-j-requires : goal.put_number-j-requires
-put_number-j-requires c =
-    let l = c.loop-i in
-    let a = c.args in
-    let n = c.number_at.result in
-    let text = filled-hole a.pattern.now a.numbers l.k l.i c.loop-i-test.true c.if-b-eq-HOLE.true in
-    let same : length (decimal n) ≡ length (decimal (get_or a.numbers l.k 0)) = ap (λ (x : ℕ). length (decimal x)) c.number_at.ensures in
-    omega (arith, c.requires, l.invariant.place, l.invariant.long, simp length-append at (ap length text), same)
+pub bounds-out-next : goal.bounds-out-next
+bounds-out-next c = byte_room c.loop-b.invariant c.loop-b-test.true c.if-b-eq-HOLE.false c.requires
 
-pub bounds-out-j : goal.bounds-out-j
-bounds-out-j c =
-    let l = c.loop-i in
-    let a = c.args in
-    let text = filled_byte a.pattern.now a.numbers l.k l.i c.loop-i-test.true c.if-b-eq-HOLE.false in
-    omega (arith, c.requires, l.invariant.place, l.invariant.long, ap length text)
-
-pub loop-i-preserved : goal.loop-i-preserved
-loop-i-preserved c =
-    let l = c.loop-i in
-    let more = c.loop-i-test.true in
-    elim c.if-b-eq-HOLE.branch [ then-b-eq-HOLE w ↦ rw (w.out-is, w.k-is, w.j-is) (hole_put l.invariant more w.if-b-eq-HOLE.true w.number_at.ensures w.put_number-j.ensures.out_after w.put_number-j.ensures.value) | else-b-eq-HOLE w ↦ rw (w.out-is, w.k-is, w.j-is) (byte_put l.invariant more w.if-b-eq-HOLE.false) ]
+pub loop-b-preserved : goal.loop-b-preserved
+loop-b-preserved c =
+    let l = c.loop-b in
+    let more = c.loop-b-test.true in
+    elim c.if-b-eq-HOLE.branch [
+      | then-b-eq-HOLE w ↦
+          let number : w.unwrap_or.result ≡ get_or (iter_rest l.left) 0 0 = cc (next_number l.left w.next.new.self w.next.result w.next.ensures.steps) in
+          let others : iter_rest w.next.new.self ≡ drop 1 (iter_rest l.left) = search rules in
+          rw (w.out-is, w.left-is, w.next-is) (hole_put l.invariant more w.if-b-eq-HOLE.true number others w.put_number-next.ensures.out_after w.put_number-next.ensures.value)
+      | else-b-eq-HOLE w ↦ rw (w.out-is, w.left-is, w.next-is) (byte_put l.invariant more w.if-b-eq-HOLE.false)
+    ]
 
 pub returns : goal.returns
 returns c =
-    let l = c.loop-i in
-    let put = all_put l.invariant c.loop-i-test.false in
+    let put = all_put c.loop-b.invariant c.loop-b-test.false in
     record { value = sym put.0; out_after = sym put.1 }

@@ -1,11 +1,6 @@
--- What the loop of `patterns::match_at` keeps, and why it ends.
-use Prim.Native.Nat.{◌-◌}
-use lib.ListN.{length}
+-- What the loop of `patterns::match_at` keeps: the whole match is that of the rest of the pattern with the rest of the line.
 use Rattle.patterns.proofs.Matching.{Run}
 use Rattle.patterns.proofs.match_at.Given as goal
 
-abbrev pub invariant-loop-i : goal.invariant-loop-i
-invariant-loop-i l = Run l.pattern l.line l.at l.numbers l.k l.j l.i
-
-abbrev pub decreases-loop-i : goal.decreases-loop-i
-decreases-loop-i l = length l.pattern - l.i
+abbrev pub invariant-loop-b : goal.invariant-loop-b
+invariant-loop-b l = Run l.pattern l.line l.at l.numbers l.found l.next l.b-index

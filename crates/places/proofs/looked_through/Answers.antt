@@ -1,46 +1,54 @@
 -- `places::looked_through`: the loop looks at one entry more in each turn (Looks.seen_next), and once all are looked at
 -- it has seen where the party stands (Looks.stands_seen).
-use Rattle.std.proofs.Common.{◌≡◌, ◌<◌, ◌∙◌, length, rules, arith}
+use Rattle.std.proofs.Common.{◌≡◌, ◌<◌, ◌≤◌, ◌∙◌, sym, length, take, get_or, arith}
+use Rattle.std.proofs.Math.Seq.{length-take-le}
+use Rattle.std.proofs.lemmas.List.{get_or-take}
+use Rattle.waiting_row.specs.Entry.{named}
 use Rattle.waiting_row.proofs.Words.{waiters_fit}
-use Rattle.waiting_row.proofs.Looks.{seen_none, seen_next, stands_seen, inside_fits}
+use Rattle.waiting_row.proofs.Looks.{named_fits, named-none, named-some, seen_none, seen_next, stands_seen}
 use Rattle.places.proofs.looked_through.Goals as goal
+use Rattle.places.proofs.looked_through.Goals.{in-Some, in-None}
 
-pub loop-i-init : goal.loop-i-init
-loop-i-init c = record {
-  within = omega arith;
-  looked =
-      c.started-seen.ensures
-      ∙ rw c.gapless.ensures (seen_none c.args.root.now c.args.parties.now c.args.q _ c.args.row.now);
-}
+pub slice_bounds-word-items-end : goal.slice_bounds-word-items-end
+slice_bounds-word-items-end c = sym (length-take-le _ _ (rw c.waiters-n.ensures (waiters_fit c.args.row.now)))
 
-pub offset_bounds-row-i : goal.offset_bounds-row-i
-offset_bounds-row-i c =
-    let at : c.loop-i.i < length c.args.row.now = omega (arith, waiters_fit c.args.row.now) in search rules
+pub loop-word-init : goal.loop-word-init
+loop-word-init c =
+    c.started-seen.ensures
+    ∙ rw c.gapless-gapless.ensures (seen_none c.args.root.now c.args.parties.now c.args.q _ c.args.row.now)
 
-pub bounds-row-i : goal.bounds-row-i
-bounds-row-i c = omega (arith, waiters_fit c.args.row.now)
+pub bounds-parties-j : goal.bounds-parties-j
+bounds-parties-j c = (named_fits _ _ c.in-Some.j (sym c.named_by.ensures ∙ c.in-Some.is)).0
 
-pub offset_bounds-parties-at : goal.offset_bounds-parties-at
-offset_bounds-parties-at c =
-    let at : c.record_of-at.result < length c.args.parties.now = rw c.record_of-at.ensures (inside_fits _ _ _ c.requires) in
-    search rules
+pub meets-seen-requires : goal.meets-seen-requires
+meets-seen-requires c = (named_fits _ _ c.in-Some.j (sym c.named_by.ensures ∙ c.in-Some.is)).1
 
-pub bounds-parties-at : goal.bounds-parties-at
-bounds-parties-at c = rw c.record_of-at.ensures (inside_fits _ _ _ c.requires)
-
-pub loop-i-preserved : goal.loop-i-preserved
-loop-i-preserved c =
-    let at : c.loop-i.i < length c.args.row.now = omega (arith, waiters_fit c.args.row.now) in
-    record {
-      within = omega arith;
-      looked =
-          c.looked-seen.ensures
-          ∙ rw (c.loop-i.invariant.looked, c.record_of-at.ensures)
-          (seen_next c.args.root.now c.args.parties.now c.args.q _ c.args.row.now c.loop-i.i at);
-    }
+pub loop-word-preserved : goal.loop-word-preserved
+loop-word-preserved c =
+    let row = c.args.row.now in
+    let i = c.loop-word.word-index in
+    let n = c.waiters-n.result in
+    let fit : n ≤ length row = rw c.waiters-n.ensures (waiters_fit row) in
+    let long : length (take n row) ≡ n = length-take-le n row fit in
+    let below : i < n = omega (arith, long) in
+    let at : get_or (take n row) i 0 ≡ get_or row i 0 = get_or-take n row i 0 below in
+    let told : c.named_by.result ≡ named (get_or row i 0) (length c.args.parties.now) = rw at at c.named_by.ensures in
+    elim c.match-named_by.branch [
+      | in-Some w ↦
+          w.seen-is ∙ w.meets-seen.ensures
+          ∙ rw c.loop-word.invariant (named-some _ _ _ _ (get_or row i 0) w.in-Some.j (sym told ∙ w.in-Some.is))
+          ∙ seen_next _ _ _ _ row i (omega arith)
+      | in-None w ↦
+          w.seen-is ∙ w.damaged-seen.ensures
+          ∙ rw (at, c.loop-word.invariant) (named-none _ _ _ _ (get_or row i 0) (sym told ∙ w.in-None.is))
+          ∙ seen_next _ _ _ _ row i (omega arith)
+    ]
 
 pub returns : goal.returns
 returns c =
-    let all : c.loop-i.i ≡ c.waiters-n.result = omega arith in
-    c.placed.ensures
-    ∙ rw (c.loop-i.invariant.looked, all, c.waiters-n.ensures) (stands_seen c.args.root.now c.args.parties.now c.args.q c.args.row.now)
+    let row = c.args.row.now in
+    let n = c.waiters-n.result in
+    let fit : n ≤ length row = rw c.waiters-n.ensures (waiters_fit row) in
+    let long : length (take n row) ≡ n = length-take-le n row fit in
+    let all : c.loop-word.word-index ≡ n = omega (arith, long) in
+    c.placed.ensures ∙ rw (c.loop-word.invariant, all, c.waiters-n.ensures) (stands_seen c.args.root.now c.args.parties.now c.args.q row)

@@ -12,4 +12,4 @@ denied false e = cc
 pub returns-else-somebody : goal.returns-else-somebody
 returns-else-somebody c inside small long level =
     let zero : all_zero c.args.row.now ≡ true = denied _ (sym c.somebody.ensures ∙ c.if-somebody.false) in
-    c.nobody.ensures ∙ alone_right c.args.root.now c.args.parties.now c.args.q c.args.row.now zero
+    alone_right c.args.root.now c.args.parties.now c.args.q c.args.row.now zero

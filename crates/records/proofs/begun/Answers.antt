@@ -1,6 +1,7 @@
--- `records::begun` meets its contract.
+-- `records::begun` meets its contract: the words of a begun record, one after the other.
 use Rattle.records.proofs.begun.Goals as goal
 
 pub returns : goal.returns
 returns c =
-    rw (c.setting_given.ensures, c.operation_number.ensures, c.idle-party.ensures)
+    let (o, (k, (s, (lev, (chain, (other, (old, (owed, (answer, x))))))))) = c.default.ensures in
+    rw (c.operation_number.ensures, c.setting_given.ensures, lev, chain, other, old, owed, answer)

@@ -1,22 +1,16 @@
--- `refusals::begin_cause` meets its contract.
-use mathlib.Core.Path.{sym, ◌∙◌}
-use Rattle.refusals.proofs.Causes.{place_stands_at_begin, busy_refused, begin_passed}
+-- `refusals::begin_cause` meets its contract: past the rows that begin shares, its own row.
+use mathlib.Core.Path.{refl}
+use borrow.Author.Tests.{eq-eqb, ne_eqb}
+use Rattle.model.specs.Refusals.{first_cause}
+use Rattle.refusals.proofs.Causes.{begin_is}
 use Rattle.refusals.proofs.begin_cause.Goals as goal
 
-pub returns-then-place-ne-NO_CAUSE : goal.returns-then-place-ne-NO_CAUSE
-returns-then-place-ne-NO_CAUSE c =
-    let a = c.args in
-    let e = c.place_cause-place.ensures in
-    e ∙ place_stands_at_begin a.root a.party a.parties a.locks a.pages a.waiting a.q (λ z. c.if-place-ne-NO_CAUSE.true (e ∙ z))
-
 pub returns-then-party-ne-IDLE : goal.returns-then-party-ne-IDLE
+unfolding first_cause
 returns-then-party-ne-IDLE c =
-    let a = c.args in
-    let passed = sym c.place_cause-place.ensures ∙ c.if-place-ne-NO_CAUSE.false in
-    busy_refused a.root a.party a.parties a.locks a.pages a.waiting a.q passed c.if-party-ne-IDLE.true
+    rw (begin_is c.args.root c.args.party c.args.lengths c.args.q, ← c.in_ok-place_cause.ensures, ne_eqb c.args.party.operation 0 c.if-party-ne-IDLE.true) refl
 
 pub returns : goal.returns
+unfolding first_cause
 returns c =
-    let a = c.args in
-    let passed = sym c.place_cause-place.ensures ∙ c.if-place-ne-NO_CAUSE.false in
-    begin_passed a.root a.party a.parties a.locks a.pages a.waiting a.q passed c.if-party-ne-IDLE.false
+    rw (begin_is c.args.root c.args.party c.args.lengths c.args.q, ← c.in_ok-place_cause.ensures, eq-eqb c.args.party.operation 0 c.if-party-ne-IDLE.false) refl

@@ -1,23 +1,16 @@
--- `refusals::place_cause` meets its contract.
-use mathlib.Core.Path.{sym, ◌∙◌}
-use native.Mathlib.Omega.{arith}
-use Rattle.refusals.proofs.Causes.{file_stands, party_refused, place_passed}
+-- `refusals::place_cause` meets its contract: past the rows that every call has, the row of the party's number.
+use mathlib.Core.Path.{refl}
+use borrow.Author.Tests.{le-leb, lt-leb}
+use Rattle.model.specs.Refusals.{first_cause}
+use Rattle.refusals.proofs.Causes.{place_is}
 use Rattle.refusals.proofs.place_cause.Goals as goal
 
-pub returns-then-file-ne-NO_CAUSE : goal.returns-then-file-ne-NO_CAUSE
-returns-then-file-ne-NO_CAUSE c =
-    let a = c.args in
-    let e = c.file_cause-file.ensures in
-    e ∙ file_stands a.root a.parties a.locks a.pages a.waiting a.q (λ z. c.if-file-ne-NO_CAUSE.true (e ∙ z))
-
 pub returns-then-root-q : goal.returns-then-root-q
+unfolding first_cause
 returns-then-root-q c =
-    let a = c.args in
-    let passed = sym c.file_cause-file.ensures ∙ c.if-file-ne-NO_CAUSE.false in
-    party_refused a.root a.parties a.locks a.pages a.waiting a.q passed (omega arith)
+    rw (place_is c.args.root c.args.lengths c.args.q, ← c.in_ok-file_cause.ensures, le-leb c.args.root.parties c.args.q c.if-root-q.true) refl
 
 pub returns : goal.returns
+unfolding first_cause
 returns c =
-    let a = c.args in
-    let passed = sym c.file_cause-file.ensures ∙ c.if-file-ne-NO_CAUSE.false in
-    place_passed a.root a.parties a.locks a.pages a.waiting a.q passed (omega arith)
+    rw (place_is c.args.root c.args.lengths c.args.q, ← c.in_ok-file_cause.ensures, lt-leb c.args.root.parties c.args.q c.if-root-q.false) refl

@@ -12,4 +12,4 @@ unfolding span
 returns c =
     let level = c.args.level in
     let exact = shl_exact {a = c.args.n} 32 level 64 (search rules) (omega arith) in
-    (exact, rw exact (lt_of_lt_of_le (shl_lt 32 level (search rules)) (pow_mono {i = 32 + level} {j = 40} (omega arith))))
+    rw c.from.ensures (exact, rw exact (lt_of_lt_of_le (shl_lt 32 level (search rules)) (pow_mono {i = 32 + level} {j = 40} (omega arith))))

@@ -6,7 +6,6 @@ use lib.ListN.{length}
 use mir.Val.{bool_byte}
 use Rattle.model.specs.Pages.{records_in}
 use Rattle.model.proofs.Laws.RecordWords.{length_records}
-use Rattle.entries.proofs.Places.{one_at_most}
 use Rattle.split_few.proofs.Parting.{none-parted, one_parted}
 use Rattle.split_few.proofs.part.Goals as goal
 
@@ -35,11 +34,6 @@ loop-i-preserved c =
       back_long ∙ l.invariant.3,
       rw (c.set_record.ensures, c.set_record-in-loop-i.ensures) parted,
     )
-
-pub overflow_add-staying : goal.overflow_add-staying
-overflow_add-staying c =
-    let l = c.loop-i in
-    omega (arith, l.invariant.4.some, c.loop-i-test.true, one_at_most c.stays.result)
 
 pub returns : goal.returns
 returns c =

@@ -3,6 +3,7 @@ use mathlib.Core.Path.{◌≡◌, refl, sym}
 use Prim.Native.Nat.{◌+◌, ◌*◌, ◌≤◌}
 use native.Mathlib.Omega.{arith}
 use lib.ListN.{length, take}
+use lib.Seq.{length-take-le}
 use Rattle.model.specs.Sizes.{page_words}
 use Rattle.model.specs.Chains.{damaged, sound}
 use Rattle.model.specs.FreeList.{pages_taken}
@@ -45,69 +46,64 @@ write_chain-requires c =
     let last = c.pages_for.ensures in
     let k = c.pages_for-first.result + c.pages_for.result in
     let xs = c.take_pages.new.taken in
-    let h = c.in-Head.head in
+    let h = c.in_ok-head.head in
     let many : k ≤ length xs = omega (arith, few_taken c.requires first last, c.take_pages.auto.taken) in
-    let taken : pages_taken a.root a.pages.now k ≡ sound (record { pages = take k xs; head = h })
-    = sym c.in-Head.ensures in
+    let taken : pages_taken a.work.now.root a.pages.now k ≡ sound (record { pages = take k xs; head = h })
+    = sym c.in_ok-head.ensures in
     let fits = c.requires.can_split.can_change in
-    let fillable = go_fillable a.root a.pages.now _ _ xs many h taken fits.pages_fit fits.chains_fit_ok fits.overflow_fits a.pages.now refl in
+    let fillable = go_fillable a.work.now.root a.pages.now _ _ xs many h taken fits.pages_fit fits.chains_fit_ok fits.overflow_fits a.pages.now refl in
     (fits.keys_fit, omega (arith, c.requires.few, c.requires.go_room), fillable, omega (arith, c.requires.can_split.other_fits, fits.pages_fit))
 
-pub slice_bounds-write_chain-end-in-Head : goal.slice_bounds-write_chain-end-in-Head
-slice_bounds-write_chain-end-in-Head c =
+pub slice_bounds-taken-end : goal.slice_bounds-taken-end
+slice_bounds-taken-end c =
     let first = c.pages_for-first.ensures in
     let last = c.pages_for.ensures in
     omega (arith, few_taken c.requires first last, c.take_pages.auto.taken)
 
-pub write_chain-requires-in-Head : goal.write_chain-requires-in-Head
-write_chain-requires-in-Head c =
+pub slice_bounds-write_chain-end-2 : goal.slice_bounds-write_chain-end-2
+slice_bounds-write_chain-end-2 c =
+    let first = c.pages_for-first.ensures in
+    let last = c.pages_for.ensures in
+    sym (length-take-le c.pages_for-first.result c.take_pages.new.taken (omega (arith, few_taken c.requires first last, c.take_pages.auto.taken)))
+
+pub write_chain-requires-2 : goal.write_chain-requires-2
+write_chain-requires-2 c =
     let a = c.args in
     let first = c.pages_for-first.ensures in
     let last = c.pages_for.ensures in
     let k = c.pages_for-first.result + c.pages_for.result in
     let xs = c.take_pages.new.taken in
-    let h = c.in-Head.head in
+    let h = c.in_ok-head.head in
     let many : k ≤ length xs = omega (arith, few_taken c.requires first last, c.take_pages.auto.taken) in
-    let taken : pages_taken a.root a.pages.now k ≡ sound (record { pages = take k xs; head = h })
-    = sym c.in-Head.ensures in
+    let taken : pages_taken a.work.now.root a.pages.now k ≡ sound (record { pages = take k xs; head = h })
+    = sym c.in_ok-head.ensures in
     let fits = c.requires.can_split.can_change in
     let written = c.write_chain.new.pages in
     let long : length written ≡ length a.pages.now = c.write_chain.auto.pages in
-    let fillable = stay_fillable a.root a.pages.now _ _ xs many h taken fits.pages_fit fits.chains_fit_ok fits.overflow_fits written long in
+    let fillable = stay_fillable a.work.now.root a.pages.now _ _ xs many h taken fits.pages_fit fits.chains_fit_ok fits.overflow_fits written long in
     let has : c.scratch_page-scratch.result.0 * page_words + page_words ≤ length written = omega (arith, c.scratch_page-scratch.ensures, fits.scratch.page_fits, long) in
     (fits.keys_fit, omega (arith, c.requires.few, c.requires.stay_room), fillable, has)
 
-pub overflow_cast-result : goal.overflow_cast-result
-overflow_cast-result c =
-    let a = c.args in
-    let first = c.pages_for-first.ensures in
-    let last = c.pages_for.ensures in
-    record { fits = omega (arith, few_taken c.requires first last) }
-
-pub overflow_sub-result : goal.overflow_sub-result
-overflow_sub-result c =
-    omega (arith, c.if-root-k.false)
-
-pub returns-in-Damaged : goal.returns-in-Damaged
-returns-in-Damaged c = λ ls ch found stay go.
+pub returns-in_err-head : goal.returns-in_err-head
+returns-in_err-head c = λ ls ch found stay go.
     let a = c.args in
     let first = c.pages_for-first.ensures in
     let last = c.pages_for.ensures in
     let k = c.pages_for-first.result + c.pages_for.result in
     let xs = take k c.take_pages.new.taken in
-    let bad : pages_taken a.root a.pages.now k ≡ damaged = sym c.in-Damaged.ensures in
-    refuses c.requires first last ls ch found stay go c.if-root-k.false bad
+    let bad : pages_taken a.work.now.root a.pages.now k ≡ damaged = sym c.in_err-head.ensures in
+    refuses c.requires first last ls ch found stay go c.if-root-k.false _ c.from_residual.ensures.0 bad
 
-pub returns-in-Head : goal.returns-in-Head
-returns-in-Head c = λ ls ch found stay go.
+pub returns : goal.returns
+returns c = λ ls ch found stay go.
     let a = c.args in
     let first = c.pages_for-first.ensures in
     let last = c.pages_for.ensures in
     let k = c.pages_for-first.result + c.pages_for.result in
     let xs = c.take_pages.new.taken in
-    let h = c.in-Head.head in
+    let h = c.in_ok-head.head in
     let many : k ≤ length xs = omega (arith, few_taken c.requires first last, c.take_pages.auto.taken) in
-    let taken : pages_taken a.root a.pages.now k ≡ sound (record { pages = take k xs; head = h })
-    = sym c.in-Head.ensures in
+    let taken : pages_taken a.work.now.root a.pages.now k ≡ sound (record { pages = take k xs; head = h })
+    = sym c.in_ok-head.ensures in
     moves c.requires first last ls ch found stay go c.if-root-k.false h xs many taken _ c.scratch_page-scratch.result.0 _ _ refl c.scratch_page-scratch.ensures
-    c.write_chain.ensures c.write_chain-in-Head.ensures
+    c.write_chain.ensures c.write_chain-2.ensures

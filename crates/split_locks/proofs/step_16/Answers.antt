@@ -1,51 +1,34 @@
--- `split_locks::step_16` meets its contract.
+-- `split_locks::step_16` meets its contract: chain next is one of the chains there are.
+use mathlib.Core.Path.{sym, ◌∙◌}
 use Prim.Native.Nat.{◌<◌}
 use native.Mathlib.Omega.{arith}
-use lib.ListN.{length-set}
-use mathlib.Core.Path.{refl}
-use Rattle.model.specs.declared.Mode.TheVariants.{Selective}
-use Rattle.model.specs.Steps.SplitLocks.{splitting}
-use Rattle.records.specs.Words.{party_in, seen}
-use Rattle.lock_requests.proofs.Requests.{granted_request_moves, other_request-waits}
-use Rattle.split_locks.proofs.Splits.{next_is_chain, barred_ends, open_requests, grant_writes}
+use Rattle.model.specs.Addresses.{chain_count}
+use Rattle.model.specs.Outcome.{View}
+use Rattle.model.specs.Ready.{Ready}
+use Rattle.model.specs.Steps.SplitLocks.{step16, splitting}
 use Rattle.split_locks.proofs.step_16.Goals as goal
 
+next_is_chain : (v : View) → Ready v → v.root.next < v.root.primaries
+unfolding chain_count
+next_is_chain v ready = omega (arith, ready.next_fits, ready.count_fits)
+
+pub chain-lock-requires : goal.chain-lock-requires
+chain-lock-requires c =
+    let below = next_is_chain _ c.requires in
+    omega (arith, c.requires.chains_fit_ok)
+
+pub request_for-requires : goal.request_for-requires
+request_for-requires c =
+    let ready = c.requires in
+    let below : c.args.work.now.root.next < c.args.work.now.root.primaries = next_is_chain _ ready in
+    (rw c.chain-lock.ensures (omega (arith, ready.locks_fit)), omega (arith, ready.number_fits, ready.parties_fit_lem))
+
 pub returns-then-split_barred : goal.returns-then-split_barred
-returns-then-split_barred c =
-    let a = c.args in
-    let v = seen a.root a.party.now a.q a.locks.now a.pages.now in
-    barred_ends v c.split_barred.ensures c.if-split_barred.true c.ended_with_root.ensures
-
-pub chain_word-word-requires : goal.chain_word-word-requires
-chain_word-word-requires c =
-    let below = next_is_chain _ c.requires.ready in
-    omega (arith, c.requires.ready.chains_fit_ok)
-
-pub request-requires : goal.request-requires
-request-requires c =
-    let ready = c.requires.ready in
-    let below : c.args.root.next < c.args.root.primaries = next_is_chain _ ready in
-    (omega (arith, ready.locks_fit, c.chain_word-word.ensures), omega (arith, ready.number_fits, ready.parties_fit_lem))
-
-pub returns-then-not-request : goal.returns-then-not-request
-returns-then-not-request c =
-    let a = c.args in
-    let v = seen a.root a.party.now a.q a.locks.now a.pages.now in
-    let p = party_in a.party.now in
-    let asked = c.request.ensures in
-    let waits = other_request-waits a.root p a.q a.locks.now a.pages.now _ Selective (splitting a.root p) _ _ asked.0 c.if-not-request.true asked.1 in
-    open_requests v c.split_barred.ensures c.if-split_barred.false c.chain_word-word.ensures refl waits
-
-pub bounds-party-5 : goal.bounds-party-5
-bounds-party-5 c =
-    simp length-set (omega (arith, c.requires.words))
+unfolding step16
+returns-then-split_barred c = rw (sym c.split_barred.ensures ∙ c.if-split_barred.true) (rw c.root.ensures at c.ended_with.ensures)
 
 pub returns : goal.returns
+unfolding step16 splitting
 returns c =
-    let a = c.args in
-    let v = seen a.root a.party.now a.q a.locks.now a.pages.now in
-    let p = party_in a.party.now in
-    let asked = c.request.ensures in
-    let granted = granted_request_moves a.root p a.q a.locks.now a.pages.now _ Selective _ _ _ asked.0 c.if-not-request.false asked.1 in
-    let splits = grant_writes a.root a.party.now c.requires.words c.chain_count.ensures c.at_step.ensures in
-    open_requests v c.split_barred.ensures c.if-split_barred.false c.chain_word-word.ensures splits granted
+    rw (sym c.split_barred.ensures ∙ c.if-split_barred.false)
+    (rw (c.chain-lock.ensures, c.chain_count.ensures) at (c.request_for.ensures c.args.pages.now))

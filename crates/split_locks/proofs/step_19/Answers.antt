@@ -1,11 +1,7 @@
--- `split_locks::step_19` meets its contract.
-use mathlib.Core.Path.{refl}
-use Rattle.records.specs.Words.{seen}
-use Rattle.split_locks.proofs.Splits.{chain_left}
+-- `split_locks::step_19` meets its contract: what release ensures of the chain's lock.
+use Rattle.model.specs.Steps.SplitLocks.{step19}
 use Rattle.split_locks.proofs.step_19.Goals as goal
 
 pub returns : goal.returns
-returns c = λ r ps.
-    let a = c.args in
-    let v = seen r a.party.now a.q a.locks.now ps in
-    chain_left v c.chain_word-word.ensures refl (c.release_step.ensures r ps)
+unfolding step19
+returns c = λ ps. rw c.chain-lock.ensures at (c.release.ensures ps)

@@ -1,10 +1,10 @@
 -- `take_up::after_page` meets its contract.
-use mathlib.Core.Bool.{◌&&◌}
-use Rattle.take_up.specs.Seen.{after_page}
+use mathlib.Core.Path.{refl, sym, ◌∙◌}
+use Rattle.take_up.specs.Seen.{after_page, after_records}
 use Rattle.take_up.proofs.after_page.Goals as goal
 
-pub returns : goal.returns
-unfolding after_page
-returns c =
-    let seen = c.after_records-next.ensures in
-    λ i. record { ok = (seen i).ok && c.page_filled-filled.ensures i; least = (seen i).least }
+pub returns-then-page_filled : goal.returns-then-page_filled
+unfolding after_page after_records
+returns-then-page_filled c =
+    let filled = sym c.page_filled.ensures ∙ c.if-page_filled.true in
+    c.after_records.ensures ∙ rw filled refl

@@ -1,19 +1,12 @@
 -- `take_up::all_zero` meets its contract.
-use mathlib.Core.Path.{refl, sym, ◌∙◌}
-use Rattle.take_up.proofs.Words.{zero_passed, zero_ends}
+use Rattle.std.proofs.Common.{◌∙◌, eqb, rules, tests, true, ◌&&◌}
+use Rattle.std.proofs.lemmas.Iterator.{YieldsList-from_slice}
+use Rattle.std.proofs.lemmas.Iterator.Consumers.{fold_from_yields_List}
+use Rattle.take_up.proofs.Words.{all_looked_at}
 use Rattle.take_up.proofs.all_zero.Goals as goal
-
-pub loop-i-init : goal.loop-i-init
-loop-i-init c = refl
-
-pub loop-i-preserved : goal.loop-i-preserved
-loop-i-preserved c =
-    let l = c.loop-i in
-    let ws = c.args.words.now in
-    l.invariant ∙ zero_passed l.clear ws l.i c.loop-i-test.true
 
 pub returns : goal.returns
 returns c =
-    let l = c.loop-i in
-    let ws = c.args.words.now in
-    sym (l.invariant ∙ zero_ends l.clear ws l.i c.loop-i-test.false)
+    let words = c.args.words.now in
+    fold_from_yields_List _ (λ clear w. clear && eqb w 0) _ _ c.fold.ensures.ran (YieldsList-from_slice words cc) (λ a x b q k. search (rules, tests))
+    ∙ all_looked_at true words

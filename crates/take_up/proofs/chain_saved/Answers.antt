@@ -3,11 +3,11 @@ use mathlib.Core.Path.{◌≡◌, sym, ◌∙◌}
 use mathlib.Core.Bool.{Bool, true, false}
 use Prim.Native.Nat.{◌<◌}
 use native.Mathlib.Omega.{arith}
+use Rattle.std.specs.Prelude.{Ok}
 use Rattle.chains.specs.Walks.{counted}
-use Rattle.chains.specs.declared.Walked.TheVariants as Walked
 use Rattle.chain_keys.specs.Gathering.{overflow_of}
 use Rattle.take_up.specs.declared.Home.{Home}
-use Rattle.take_up.specs.Seen.{pages_seen}
+use Rattle.take_up.specs.Seen.{HomeFits, pages_seen}
 use Rattle.take_up.proofs.Chain.{facts, level_small, home_of, walked_chain, chain_saved_ok, chain_unsaved, chain_unwalked}
 use Rattle.take_up.proofs.chain_saved.Goals as goal
 
@@ -26,26 +26,31 @@ pages_saved-requires c =
     let a = c.args in
     let ps = a.pages.now in
     let f = facts a.root ps c.requires.0 in
-    let n = c.in-Pages.n in
-    let walked : counted (overflow_of a.root ps a.c) ≡ Walked.Pages n = sym c.in-Pages.ensures in
+    let n = c.in-Ok.n in
+    let walked : counted (overflow_of a.root ps a.c) ≡ Ok n = sym c.in-Ok.ensures in
     let w = walked_chain a.root ps a.c n f walked in
     let inside : a.c < a.root.primaries = omega (arith, f.count_fits, c.requires.1) in
     let small = level_small a.root a.c f.level_fits in
     let level = c.level_at.ensures in
-    (f.limits.some_original, omega (arith, f.limits.originals_fit, f.limits.chains_fit_ok), omega (arith, small, level), omega (arith, f.pages_fit, inside), w.few, w.followed)
+    let home : HomeFits (record { originals = a.root.originals; level = c.level_at.result; chain = a.c }) = record {
+      some_original = f.limits.some_original;
+      originals_fit = omega (arith, f.limits.originals_fit, f.limits.chains_fit_ok);
+      level_fits = omega (arith, small, level);
+    } in
+    (home, omega (arith, f.pages_fit, inside), w.few, w.followed)
 
-pub returns-in-Damaged : goal.returns-in-Damaged
-returns-in-Damaged c =
+pub returns-in_default : goal.returns-in_default
+returns-in_default c =
     let a = c.args in
-    chain_unwalked a.root a.pages.now a.c (sym c.in-Damaged.ensures)
+    chain_unwalked a.root a.pages.now a.c c.in_default.ensures
 
 pub returns-then-pages_saved : goal.returns-then-pages_saved
 returns-then-pages_saved c =
     let a = c.args in
     let ps = a.pages.now in
     let f = facts a.root ps c.requires.0 in
-    let n = c.in-Pages.n in
-    let walked : counted (overflow_of a.root ps a.c) ≡ Walked.Pages n = sym c.in-Pages.ensures in
+    let n = c.in-Ok.n in
+    let walked : counted (overflow_of a.root ps a.c) ≡ Ok n = sym c.in-Ok.ensures in
     let w = walked_chain a.root ps a.c n f walked in
     let inside : a.c < a.root.primaries = omega (arith, f.count_fits, c.requires.1) in
     let home : Home → Bool = λ k. pages_seen a.root k n ps in
@@ -59,8 +64,8 @@ returns-else-pages_saved c =
     let a = c.args in
     let ps = a.pages.now in
     let f = facts a.root ps c.requires.0 in
-    let n = c.in-Pages.n in
-    let walked : counted (overflow_of a.root ps a.c) ≡ Walked.Pages n = sym c.in-Pages.ensures in
+    let n = c.in-Ok.n in
+    let walked : counted (overflow_of a.root ps a.c) ≡ Ok n = sym c.in-Ok.ensures in
     let w = walked_chain a.root ps a.c n f walked in
     let inside : a.c < a.root.primaries = omega (arith, f.count_fits, c.requires.1) in
     let home : Home → Bool = λ k. pages_seen a.root k n ps in

@@ -15,19 +15,20 @@ loop-c-init c =
     let a = c.args in
     let whole : a.count ≡ a.count - 0 = omega arith in
     let counted : pages_counted a.root a.pages.now a.count 0 ≡ pages_counted a.root a.pages.now (a.count - 0) 0 = ap (λ (k : ℕ). pages_counted a.root a.pages.now k 0) whole in
-    (omega arith, omega arith, ap (λ (k : ℕ). chains_fit a.root a.pages.now k 0) whole, omega (arith, counted))
+    (omega arith, ap (λ (k : ℕ). chains_fit a.root a.pages.now k 0) whole, omega (arith, counted))
 
 pub chain_saved-requires : goal.chain_saved-requires
 chain_saved-requires c = let start = c in (start.requires.0, omega (arith, c.loop-c-test.true, start.requires.1))
 
-pub returns-in-Damaged : goal.returns-in-Damaged
-returns-in-Damaged c =
+pub returns-in_err-total : goal.returns-in_err-total
+returns-in_err-total c =
     let l = c.loop-c in
     let a = c.args in
     let ps = a.pages.now in
     let more = c.loop-c-test.true in
-    let bad = unsaved_fails a.root ps l.c (sym c.in-Damaged.ensures) in
-    some_unsaved a.root ps a.count (l.invariant.2 ∙ fits_next a.root ps (a.count - l.c) l.c (omega (arith, more)) ∙ left_fails (chains_fit a.root ps (a.count - l.c - 1) (l.c + 1)) bad)
+    let bad = unsaved_fails a.root ps l.c (sym c.in_err-total.ensures) in
+    c.from_residual.ensures
+    ∙ some_unsaved a.root ps a.count (l.invariant.1 ∙ fits_next a.root ps (a.count - l.c) l.c (omega (arith, more)) ∙ left_fails (chains_fit a.root ps (a.count - l.c - 1) (l.c + 1)) bad)
 
 pub overflow_add-total : goal.overflow_add-total
 overflow_add-total c =
@@ -35,11 +36,11 @@ overflow_add-total c =
     let a = c.args in
     let ps = a.pages.now in
     let more = c.loop-c-test.true in
-    let n = c.in-Pages.n in
+    let n = c.in_ok-total.field-0 in
     let f = facts a.root ps c.requires.0 in
-    let one = saved_fits a.root ps l.c n (sym c.in-Pages.ensures) in
+    let one = saved_fits a.root ps l.c n (sym c.in_ok-total.ensures) in
     let few = chain_bounded a.root ps l.c in
-    omega (arith, one.1, few, l.invariant.1, more, c.requires.1, f.count_fits, f.limits.chains_fit_ok, f.limits.overflow_fits)
+    omega (arith, one.1, few, l.invariant.0, more, c.requires.1, f.count_fits, f.limits.chains_fit_ok, f.limits.overflow_fits)
 
 pub loop-c-preserved : goal.loop-c-preserved
 loop-c-preserved c =
@@ -47,15 +48,14 @@ loop-c-preserved c =
     let a = c.args in
     let ps = a.pages.now in
     let more = c.loop-c-test.true in
-    let n = c.in-Pages.n in
+    let n = c.in_ok-total.field-0 in
     let f = facts a.root ps c.requires.0 in
-    let one = saved_fits a.root ps l.c n (sym c.in-Pages.ensures) in
+    let one = saved_fits a.root ps l.c n (sym c.in_ok-total.ensures) in
     let few = chain_bounded a.root ps l.c in
     let next : a.count - l.c - 1 ≡ a.count - (l.c + 1) = omega arith in (
-      omega (arith, more),
-      omega (arith, l.invariant.1, one.1, few, f.limits.overflow_fits),
-      l.invariant.2 ∙ fits_next a.root ps (a.count - l.c) l.c (omega (arith, more)) ∙ (λ i. one.0 i && chains_fit a.root ps (next i) (l.c + 1)),
-      l.invariant.3 ∙ ap (λ (k : ℕ). l.total + k) (counted_next a.root ps (a.count - l.c) l.c (omega (arith, more)) ∙ (λ i. one.1 i + pages_counted a.root ps (next i) (l.c + 1))) ∙ omega arith,
+      omega (arith, l.invariant.0, one.1, few, f.limits.overflow_fits),
+      l.invariant.1 ∙ fits_next a.root ps (a.count - l.c) l.c (omega (arith, more)) ∙ (λ i. one.0 i && chains_fit a.root ps (next i) (l.c + 1)),
+      l.invariant.2 ∙ ap (λ (k : ℕ). l.total + k) (counted_next a.root ps (a.count - l.c) l.c (omega (arith, more)) ∙ (λ i. one.1 i + pages_counted a.root ps (next i) (l.c + 1))) ∙ omega arith,
     )
 
 pub returns : goal.returns
@@ -64,4 +64,4 @@ returns c =
     let a = c.args in
     let ps = a.pages.now in
     let none = none_fits a.root ps (a.count - l.c) l.c (omega (arith, c.loop-c-test.false)) in
-    all_saved a.root ps a.count l.total (l.invariant.2 ∙ none.0) (omega (arith, l.invariant.3, none.1))
+    all_saved a.root ps a.count l.total (l.invariant.1 ∙ none.0) (omega (arith, l.invariant.2, none.1))

@@ -1,63 +1,41 @@
 -- `take_up::pages_saved` meets its contract.
-use mathlib.Core.Path.{◌≡◌, refl, sym, ap, ◌∙◌}
+use mathlib.Core.Path.{◌≡◌, sym, ap, ◌∙◌}
 use Prim.Native.Nat.{◌-◌}
-use native.Mathlib.Omega.{arith}
-use Rattle.model.specs.Pages.{page_of, count_of, link_of}
-use Rattle.chains.specs.Links.{linked_pages}
+use Rattle.model.specs.Pages.{page_of, link_of}
 use Rattle.chains.proofs.Links.{next_page}
-use Rattle.take_up.specs.declared.Seen.{Seen}
-use Rattle.take_up.specs.Seen.{started, fewest_on, after_page, after_listed, pages_seen}
-use Rattle.take_up.proofs.Records.{one_listed, none-listed}
+use Rattle.take_up.proofs.Records.{page_listed, page_unlisted, none-listed, primary_seen, primary_unseen}
 use Rattle.take_up.proofs.pages_saved.Goals as goal
 
-pub load-first-requires : goal.load-first-requires
-load-first-requires c = c.requires.3
-
-pub after_page-seen-requires : goal.after_page-seen-requires
-after_page-seen-requires c = let start = c in let few = ap count_of c.load-first.ensures in (start.requires.0, start.requires.1, start.requires.2, omega (arith, few, start.requires.4))
-
-pub loop-left-init : goal.loop-left-init
-loop-left-init c =
-    let link : c.link_of-l.result ≡ link_of (page_of c.args.pages.now c.args.home.chain) = c.link_of-l.ensures ∙ ap link_of c.load-first.ensures in
-    (rw link c.requires.5, refl)
-
-pub overflow_sub-l : goal.overflow_sub-l
-overflow_sub-l c = let l = c.loop-left in let ps = c.args.pages.now in omega (arith, (next_page ps c.loop-left-test.true l.invariant.0).linked)
-
-pub load-w-requires : goal.load-w-requires
-load-w-requires c = let l = c.loop-left in let ps = c.args.pages.now in (next_page ps c.loop-left-test.true l.invariant.0).page.fits
-
-pub after_page-seen-requires-in-loop-left : goal.after_page-seen-requires-in-loop-left
-after_page-seen-requires-in-loop-left c =
-    let l = c.loop-left in
-    let few = (next_page c.args.pages.now c.loop-left-test.true l.invariant.0).page.few in
-    let page = ap count_of c.load-w.ensures in
-    (c.requires.0, c.requires.1, c.requires.2, omega (arith, few, page))
+pub returns-in_default : goal.returns-in_default
+returns-in_default c =
+    let a = c.args in
+    sym (primary_unseen a.root a.home a.n a.pages.now c.load-first.result _ c.load-first.ensures c.fewest_on-fewest.ensures (sym c.in_default.ensures))
 
 pub loop-left-preserved : goal.loop-left-preserved
 loop-left-preserved c =
+    let l = c.loop-left in
     let a = c.args in
     let ps = a.pages.now in
-    let l = c.loop-left in
     let more = c.loop-left-test.true in
-    let page = c.load-w.ensures in
-    let link : c.link_of-l-in-loop-left.result ≡ link_of (page_of ps (l.l - 1)) = c.link_of-l-in-loop-left.ensures ∙ ap link_of page in
-    let seen : c.after_page-seen-in-loop-left.result ≡ after_page a.home l.seen (page_of ps (l.l - 1)) 0 (fewest_on a.root.capacity (l.left - 1) 1)
-    = c.after_page-seen-in-loop-left.ensures ∙ (λ i. after_page a.home l.seen (page i) 0 (c.fewest_on-in-loop-left.ensures i)) in (
+    let link : c.link_of-l-in-loop-left.result ≡ link_of (page_of ps (l.l - 1)) = c.link_of-l-in-loop-left.ensures ∙ ap link_of c.load-w.ensures in
+    let listed = page_listed a.home a.root.capacity l.least ps l.left l.l more c.load-w.result _ c.load-w.ensures c.fewest_on.ensures in (
       rw link (next_page ps more l.invariant.0).rest,
-      l.invariant.1 ∙ one_listed a.home a.root.capacity l.seen ps l.left l.l more
-          ∙ (λ i. after_listed a.home a.root.capacity (sym seen i) ps (linked_pages ps (l.left - 1) (sym link i))),
+      l.invariant.1 ∙ listed c.link_of-l-in-loop-left.ensures (sym c.in-Some-after_page.ensures),
     )
 
-pub returns : goal.returns
-unfolding pages_seen
-returns c =
+pub returns-in_default-after_page : goal.returns-in_default-after_page
+returns-in_default-after_page c =
+    let l = c.loop-left in
     let a = c.args in
     let ps = a.pages.now in
+    let first = primary_seen a.root a.home a.n ps c.load-first.result _ c.load-first.ensures c.fewest_on-fewest.ensures c.link_of-l.ensures (sym c.in-Some.ensures) in
+    let stops = page_unlisted a.home a.root.capacity l.least ps l.left l.l c.loop-left-test.true c.load-w.result _ c.load-w.ensures c.fewest_on.ensures (sym c.in_default-after_page.ensures) in
+    sym (first ∙ l.invariant.1 ∙ stops)
+
+pub returns : goal.returns
+returns c =
     let l = c.loop-left in
-    let page = c.load-first.ensures in
-    let link : c.link_of-l.result ≡ link_of (page_of ps a.home.chain) = c.link_of-l.ensures ∙ ap link_of page in
-    let seen : c.after_page-seen.result ≡ after_page a.home started (page_of ps a.home.chain) a.home.level (fewest_on a.root.capacity a.n 0)
-    = c.after_page-seen.ensures ∙ (λ i. after_page a.home started (page i) a.home.level (c.fewest_on.ensures i)) in
-    let whole = l.invariant.1 ∙ none-listed a.home a.root.capacity l.seen ps l.left l.l c.loop-left-test.false in
-    sym (ap (λ (s : Seen). s.ok) ((λ i. after_listed a.home a.root.capacity (sym seen i) ps (linked_pages ps a.n (sym link i))) ∙ whole))
+    let a = c.args in
+    let ps = a.pages.now in
+    let first = primary_seen a.root a.home a.n ps c.load-first.result _ c.load-first.ensures c.fewest_on-fewest.ensures c.link_of-l.ensures (sym c.in-Some.ensures) in
+    sym (first ∙ l.invariant.1 ∙ none-listed a.home a.root.capacity l.least ps l.left l.l c.loop-left-test.false)

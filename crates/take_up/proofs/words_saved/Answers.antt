@@ -93,22 +93,23 @@ overflow_add-counted c =
     let root : root_sound a.root ≡ true = sym c.root_sound.ensures ∙ c.if-not-root_sound.false in
     let can : CanSurvey a.root ps = record { sizes_fit = c.requires.0; root_sound_ok = root; pages_many = c.requires.2 } in
     let f = facts a.root ps can in
-    let n = c.in-Pages.n in
+    let n = c.in-Some.n in
     let e = c.chain_count-count.ensures in
-    let g = chains_fit_ok a.root ps c.chain_count-count.result n (sym c.in-Pages.ensures) in
+    let g = chains_fit_ok a.root ps c.chain_count-count.result n (sym c.in-Some.ensures) in
     let few = counted_bounded a.root ps f.limits.overflow_fits c.chain_count-count.result 0 in
     omega (arith, g.1, few, e, f.count_fits, f.limits.chains_fit_ok, f.free_fits, f.limits.overflow_fits)
 
-pub returns-then-counted-root : goal.returns-then-counted-root
-returns-then-counted-root c =
+pub returns-else-counted-root : goal.returns-else-counted-root
+returns-else-counted-root c =
     let a = c.args in
     let ps = a.pages.now in
     let root : root_sound a.root ≡ true = sym c.root_sound.ensures ∙ c.if-not-root_sound.false in
     let can : CanSurvey a.root ps = record { sizes_fit = c.requires.0; root_sound_ok = root; pages_many = c.requires.2 } in
     let f = facts a.root ps can in
-    let n = c.in-Pages.n in
-    let g = chains_fit_ok a.root ps (count_of_chains a.root) n (ap (λ (k : ℕ). chains_saved a.root ps k 0) (sym c.chain_count-count.ensures) ∙ sym c.in-Pages.ensures) in
-    count_fails a.root a.locks.now ps can g.0 (eqb-diff (pages_counted a.root ps (count_of_chains a.root) 0 + a.root.free) a.root.overflow (λ e. c.if-counted-root.true (omega (arith, e, g.1))))
+    let n = c.in-Some.n in
+    let g = chains_fit_ok a.root ps (count_of_chains a.root) n (ap (λ (k : ℕ). chains_saved a.root ps k 0) (sym c.chain_count-count.ensures) ∙ sym c.in-Some.ensures) in
+    eqb-diff (n + a.root.free) a.root.overflow c.if-counted-root.false
+    ∙ count_fails a.root a.locks.now ps can g.0 (eqb-diff (pages_counted a.root ps (count_of_chains a.root) 0 + a.root.free) a.root.overflow (λ e. c.if-counted-root.false (omega (arith, e, g.1))))
 
 pub free_saved-requires : goal.free_saved-requires
 free_saved-requires c =
@@ -119,22 +120,22 @@ free_saved-requires c =
     let f = facts a.root ps can in
     (f.pages_fit, f.limits.overflow_fits)
 
-pub returns-in-Damaged : goal.returns-in-Damaged
-returns-in-Damaged c =
+pub returns-in_default : goal.returns-in_default
+returns-in_default c =
     let a = c.args in
     let ps = a.pages.now in
-    let saved = ap (λ (k : ℕ). chains_saved a.root ps k 0) (sym c.chain_count-count.ensures) ∙ sym c.in-Damaged.ensures in
+    let saved = ap (λ (k : ℕ). chains_saved a.root ps k 0) (sym c.chain_count-count.ensures) ∙ sym c.in_default.ensures in
     chains_fail a.root a.locks.now ps (chains_unfit a.root ps (count_of_chains a.root) saved)
 
-pub returns-else-counted-root : goal.returns-else-counted-root
-returns-else-counted-root c =
+pub returns-then-counted-root : goal.returns-then-counted-root
+returns-then-counted-root c =
     let a = c.args in
     let ps = a.pages.now in
     let root : root_sound a.root ≡ true = sym c.root_sound.ensures ∙ c.if-not-root_sound.false in
     let can : CanSurvey a.root ps = record { sizes_fit = c.requires.0; root_sound_ok = root; pages_many = c.requires.2 } in
     let f = facts a.root ps can in
-    let n = c.in-Pages.n in
-    let g = chains_fit_ok a.root ps (count_of_chains a.root) n (ap (λ (k : ℕ). chains_saved a.root ps k 0) (sym c.chain_count-count.ensures) ∙ sym c.in-Pages.ensures) in
+    let n = c.in-Some.n in
+    let g = chains_fit_ok a.root ps (count_of_chains a.root) n (ap (λ (k : ℕ). chains_saved a.root ps k 0) (sym c.chain_count-count.ensures) ∙ sym c.in-Some.ensures) in
     let many : a.root.primaries + a.root.overflow + a.root.parties - (a.root.primaries + a.root.overflow) ≡ a.root.parties = omega arith in
     let from : a.root.primaries + a.root.overflow ≡ scratch_page a.root 0 = omega arith in
     let e = c.chain_count-count.ensures in
@@ -142,4 +143,4 @@ returns-else-counted-root c =
     ∙ free_decides a.root a.locks.now ps can g.0 (sym c.all_zero.ensures ∙ c.if-not-all_zero.false)
     ((λ i. zero_pages ps (sym many i) (sym from i)) ∙ sym c.pages_zero.ensures ∙ c.if-not-pages_zero.false)
     ((λ i. zero_pages ps (a.root.primaries - sym e i) (sym e i)) ∙ sym c.pages_zero-2.ensures ∙ c.if-not-pages_zero-2.false)
-    (eqb_same (pages_counted a.root ps (count_of_chains a.root) 0 + a.root.free) a.root.overflow (omega (arith, c.if-counted-root.false, g.1)))
+    (eqb_same (pages_counted a.root ps (count_of_chains a.root) 0 + a.root.free) a.root.overflow (omega (arith, c.if-counted-root.true, g.1)))

@@ -1,5 +1,5 @@
 -- Every call, under the invariant, is a turn; so every list of calls has an order.
--- Main statements: step-turn (a call of step), begin-turn (a begin), withdraw-turn (a withdraw), call_turn; run_suffix (a list of calls).
+-- Main statements: step_turn (a call of step), begin_turn (a begin), withdraw_turn (a withdraw), call_turn; run_suffix (a list of calls).
 use mathlib.Core.Path.{◌≡◌, refl, sym, ap, ◌∙◌, subst}
 use mathlib.Core.Logic.{◌≢◌}
 use mathlib.Core.Bool.{Bool, true, false, cond, false≢true}
@@ -9,14 +9,15 @@ use Prim.Native.Nat.{ℕ, ◌+◌, ◌<◌}
 use native.Mathlib.Omega.{arith}
 use lib.ListN.{length-set}
 use lib.Dec.{eqb}
+use Rattle.std.specs.Prelude.{Ok, Err}
+use Rattle.model.proofs.Laws.Answers.{not_refused}
+use Rattle.model.specs.declared.Refusal.{Refusal}
 use Rattle.model.specs.declared.Party.{Party}
 use Rattle.model.specs.declared.Operation.{Operation}
 use Rattle.model.specs.declared.OperationAnswer.{OperationAnswer}
 use Rattle.model.specs.declared.StepAnswer.{StepAnswer}
-use Rattle.model.specs.declared.BeginAnswer.{BeginAnswer}
-use Rattle.model.specs.declared.WithdrawAnswer.{WithdrawAnswer}
 use Rattle.model.specs.Records.{idle, begun, at_step}
-use Rattle.model.specs.Answers.{operation_number, answer_number, answer_of, performs, setting_given}
+use Rattle.model.specs.Answers.{operation_number, answer_number, answer_of, performs, setting_given, StepReply, CallReply}
 use Rattle.model.specs.declared.Entry.{Entry}
 use Rattle.model.specs.Entries.{has_key}
 use Rattle.model.specs.Pages.{with_page, page_sound, primary_page}
@@ -39,7 +40,7 @@ use Rattle.model.proofs.Theorems.Calls.{within_limits_lem, operation_some, recor
 use Rattle.model.proofs.Theorems.AllSteps.{steps_kept}
 use Rattle.model.proofs.Steps.Withdraw.{left_by}
 use Rattle.theory.proofs.Alters.{nothing_altered}
-use Rattle.theory.proofs.Withdraws.{WithdrawTested, turned_away, let_through, withdraw_tested, withdrawn-not_refused, WithdrawMet, stranger, unbegun, too_late, taken_back, withdraw_meets}
+use Rattle.theory.proofs.Withdraws.{WithdrawTested, turned_away, let_through, withdraw_tested, WithdrawMet, stranger, unbegun, too_late, taken_back, withdraw_meets}
 use Rattle.theory.proofs.Linearization.Ordering.{away, looking, unwithdrawn, Begun, Suffix, nothing_left}
 use Rattle.theory.proofs.Linearization.Leads.{is_behind, is_past, past_decided, Passage, searches, at_six, at_ten, at_eleven, goes_on, Leads, stays, moves, ends, step_leads}
 use Rattle.theory.proofs.Linearization.Turns.{Turn, still, begins, withdraws, turn_on}
@@ -123,7 +124,7 @@ module _ (m : Memory) (b : Book) (i : Inv m b) (q : ℕ) (in_row : q < m.root.pa
   no_find n h lacks = not_find e.operation n lacks (subst (λ (k : ℕ). has_step k n ≡ true) (sym busy.same_operation) (subst (λ (k : ℕ). has_step (party_at m.parties q).operation k ≡ true) h busy.step_fits))
 
   -- An 11 makes a change: the note is inserted or deleted.
-  eleven_made : number ≡ 11 → out.answer ≡ StepAnswer.Moved → out.after.number ≡ q → out.after.party.step ≡ 12
+  eleven_made : number ≡ 11 → out.answer ≡ Ok StepAnswer.Moved → out.after.number ≡ q → out.after.party.step ≡ 12
       → is_change (answer_number (note_at_eleven e.operation (has_key e.key b.contents))) ≡ true
   unfolding after_reply
   eleven_made k goes number= step= = written at_twelve.facts
@@ -151,7 +152,7 @@ module _ (m : Memory) (b : Book) (i : Inv m b) (q : ℕ) (in_row : q < m.root.pa
 
       entry_then : book_then.entries q ≡ some (noted e a)
       entry_then =
-          ap (λ (x : StepAnswer). (after_reply b q number x).entries q) goes ∙ ap (λ (n : ℕ). (note_for b q (b.entries q) n).entries q) k
+          ap (λ (x : StepReply). (after_reply b q number x).entries q) goes ∙ ap (λ (n : ℕ). (note_for b q (b.entries q) n).entries q) k
           ∙ ap (λ (c : Book). c.entries q) (after_eleven b q e busy.entry) ∙ changed_here b.entries q (some (noted e a)) q refl
 
       note_then : at_twelve.entered.note ≡ some a
@@ -163,8 +164,8 @@ module _ (m : Memory) (b : Book) (i : Inv m b) (q : ℕ) (in_row : q < m.root.pa
           ap (λ (x : OperationAnswer). is_change (answer_number x)) (ap note_or (sym note_then ∙ l.noted))
           ∙ ap (λ (n : ℕ). is_change (answer_number (answer_of n))) l.made ∙ made_is_change (eqb (party_at then.parties q).operation 2)
 
-  moves_turn : out.answer ≡ StepAnswer.Moved → out.after.number ≡ q → Passage (party_at m.parties q).operation number out.after.party.step
-      → StepTurn m b q (called StepAnswer.Moved then)
+  moves_turn : out.answer ≡ Ok StepAnswer.Moved → out.after.number ≡ q → Passage (party_at m.parties q).operation number out.after.party.step
+      → StepTurn m b q (called (Ok StepAnswer.Moved) then)
   unfolding status_of
   moves_turn a n (searches was not_eleven now) = searches_turn m b i q in_row out.after n e busy.entry was not_eleven now
   moves_turn a n (at_six k find now) = six_turn m b i q in_row out.after n e busy.entry k (find_only e.operation (busy.same_operation ∙ find)) now
@@ -175,24 +176,24 @@ module _ (m : Memory) (b : Book) (i : Inv m b) (q : ℕ) (in_row : q < m.root.pa
   performs_turn : step_call m q ≡ called out.answer then → Leads (view_of m q) number out → StepTurn m b q (step_call m q)
   unfolding status_of
   performs_turn x (stays p s) =
-      let h : performs (step_call m q).answer ≡ false = ap (λ (c : Called StepAnswer). performs c.answer) x ∙ p in
+      let h : performs (step_call m q).answer ≡ false = ap (λ (c : Called StepReply). performs c.answer) x ∙ p in
       subst (λ (n : Memory). StepTurn m b q (called (step_call m q).answer n)) (sym (nothing_altered m q h)) (waits_turn m b q (step_call m q).answer h)
-  performs_turn x (moves a n p) = subst (StepTurn m b q) (sym (x ∙ ap (λ (z : StepAnswer). called z then) a)) (moves_turn a n p)
+  performs_turn x (moves a n p) = subst (StepTurn m b q) (sym (x ∙ ap (λ (z : StepReply). called z then) a)) (moves_turn a n p)
   performs_turn x (ends y r a n z was) =
-      let right = subst (λ (w : StepAnswer). agrees_with b q number w ≡ true) a (steps_kept m b i q in_row busy.step_fits).right in
-      subst (StepTurn m b q) (sym (x ∙ ap (λ (w : StepAnswer). called w then) a)) (done_turn m b i q in_row out.after n e busy.entry y r was z right)
+      let right = subst (λ (w : StepReply). agrees_with b q number w ≡ true) a (steps_kept m b i q in_row busy.step_fits).right in
+      subst (StepTurn m b q) (sym (x ∙ ap (λ (w : StepReply). called w then) a)) (done_turn m b i q in_row out.after n e busy.entry y r was z right)
 
 module _ (m : Memory) (b : Book) (i : Inv m b) (q : ℕ) where
-  refused_turn : (n : ℕ) → step_call m q ≡ called (StepAnswer.Refused n) m → StepTurn m b q (step_call m q)
+  refused_turn : (n : Refusal) → step_call m q ≡ called (Err n) m → StepTurn m b q (step_call m q)
   unfolding performs
-  refused_turn n x = subst (StepTurn m b q) (sym x) (waits_turn m b q (StepAnswer.Refused n) refl)
+  refused_turn n x = subst (StepTurn m b q) (sym x) (waits_turn m b q (Err n) refl)
 
   pub step_turn : StepTurn m b q (step_call m q)
   unfolding stepped
   step_turn = go (ord q m.root.parties)
     where
       inside : q < m.root.parties → PartyOk (scene_of m i.ghost b) q (party_at m.parties q) → StepTurn m b q (step_call m q)
-      inside h (resting e _ _ _) = refused_turn 5 ((step_order m q).idle (within_limits_lem m.root i.limits) (lengths_fit_ok m b i) h (rw e refl))
+      inside h (resting e _ _ _) = refused_turn Refusal.Idle ((step_order m q).idle (within_limits_lem m.root i.limits) (lengths_fit_ok m b i) h (rw e refl))
       inside h (working e k f) =
           performs_turn m b i q h e k
           ((step_order m q).none (within_limits_lem m.root i.limits) (lengths_fit_ok m b i) h (operation_some e.operation (party_at m.parties q).operation k.same_operation)
@@ -200,26 +201,26 @@ module _ (m : Memory) (b : Book) (i : Inv m b) (q : ℕ) where
           (step_leads (view_of m q))
 
       go : Ord q m.root.parties → StepTurn m b q (step_call m q)
-      go (ge h t) = refused_turn 3 ((step_order m q).party (within_limits_lem m.root i.limits) (lengths_fit_ok m b i) h)
+      go (ge h t) = refused_turn Refusal.Party ((step_order m q).party (within_limits_lem m.root i.limits) (lengths_fit_ok m b i) h)
       go (lt h t) = inside h (i.parties_ok q h)
 
 -- ---- A begin
 
 -- A begin with this answer and memory is a turn.
-abbrev pub BeginTurn : Memory → Book → ℕ → Operation → ℕ → Called BeginAnswer → Type 0
+abbrev pub BeginTurn : Memory → Book → ℕ → Operation → ℕ → Called CallReply → Type 0
 BeginTurn m b q o k x =
     Turn (status_of m b) (map_of b) (record { call = begin_for q o k; number = (party_at m.parties q).step; reply = to_begin x.answer })
     (status_of x.memory (after_begin b q o k x.answer)) (map_of (after_begin b q o k x.answer))
 
 module _ (m : Memory) (b : Book) (i : Inv m b) (q : ℕ) (o : Operation) (k : ℕ) where
-  begin_refused_turn : (n : ℕ) → begin_call m q o k ≡ called (BeginAnswer.Refused n) m → BeginTurn m b q o k (begin_call m q o k)
+  begin_refused_turn : (n : Refusal) → begin_call m q o k ≡ called (Err n) m → BeginTurn m b q o k (begin_call m q o k)
   unfolding after_begin entering end_to marks step_marks
   begin_refused_turn n x = subst (BeginTurn m b q o k) (sym x) (still (λ j es rest. refl) (λ p. refl) (λ p u l a h. refl) refl refl)
 
   abbrev view_then : View
   view_then = record { root = m.root; party = begun (operation_number o) k (setting_given o); number = q; locks = m.locks; pages = m.pages; behind = false }
 
-  begun_turn : q < m.root.parties → b.entries q ≡ none → begin_call m q o k ≡ called BeginAnswer.Begun (with_begun m q o k) → BeginTurn m b q o k (begin_call m q o k)
+  begun_turn : q < m.root.parties → b.entries q ≡ none → begin_call m q o k ≡ called (Ok tt) (with_begun m q o k) → BeginTurn m b q o k (begin_call m q o k)
   unfolding after_begin with_begun enter status_of is_behind
   begun_turn in_row was x =
       subst (BeginTurn m b q o k) (sym x)
@@ -233,32 +234,32 @@ module _ (m : Memory) (b : Book) (i : Inv m b) (q : ℕ) (o : Operation) (k : �
     where
       inside : q < m.root.parties → PartyOk (scene_of m i.ghost b) q (party_at m.parties q) → BeginTurn m b q o k (begin_call m q o k)
       inside h (working e c f) =
-          begin_refused_turn 4
+          begin_refused_turn Refusal.Busy
           ((begin_order m q o k).busy (within_limits_lem m.root i.limits) (lengths_fit_ok m b i) h (operation_some e.operation (party_at m.parties q).operation c.same_operation))
       inside h (resting e unentered _ _) = begun_turn h unentered ((begin_order m q o k).none (within_limits_lem m.root i.limits) (lengths_fit_ok m b i) h (rw e refl))
 
       go : Ord q m.root.parties → BeginTurn m b q o k (begin_call m q o k)
-      go (ge h t) = begin_refused_turn 3 ((begin_order m q o k).party (within_limits_lem m.root i.limits) (lengths_fit_ok m b i) h)
+      go (ge h t) = begin_refused_turn Refusal.Party ((begin_order m q o k).party (within_limits_lem m.root i.limits) (lengths_fit_ok m b i) h)
       go (lt h t) = inside h (i.parties_ok q h)
 
 -- ---- A withdraw
 
 -- A withdraw with this answer and memory is a turn.
-abbrev pub WithdrawTurn : Memory → Book → ℕ → Called WithdrawAnswer → Type 0
+abbrev pub WithdrawTurn : Memory → Book → ℕ → Called CallReply → Type 0
 WithdrawTurn m b q x =
     Turn (status_of m b) (map_of b) (record { call = withdraw_for q; number = (party_at m.parties q).step; reply = to_withdraw x.answer })
     (status_of x.memory (after_withdraw b q x.answer)) (map_of (after_withdraw b q x.answer))
 
 module _ (m : Memory) (b : Book) (i : Inv m b) (q : ℕ) where
-  withdraw_refused_turn : (n : ℕ) → withdraw_call m q ≡ called (WithdrawAnswer.Refused n) m → WithdrawTurn m b q (withdraw_call m q)
+  withdraw_refused_turn : (n : Refusal) → withdraw_call m q ≡ called (Err n) m → WithdrawTurn m b q (withdraw_call m q)
   unfolding after_withdraw entering end_in marks step_marks
   withdraw_refused_turn n x =
-      subst (WithdrawTurn m b q) (sym x) (still (λ j es rest. refl) (λ p. unwithdrawn q p (to_withdraw (WithdrawAnswer.Refused n)) refl) (λ p u l a h. refl) refl refl)
+      subst (WithdrawTurn m b q) (sym x) (still (λ j es rest. refl) (λ p. unwithdrawn q p (to_withdraw (Err n)) refl) (λ p u l a h. refl) refl refl)
 
   withdrawn_turn : q < m.root.parties → (e : Entered) → Busy (scene_of m i.ghost b) q (party_at m.parties q) e → is_decided (party_at m.parties q) ≡ false
-      → (withdraw_call m q).answer ≡ WithdrawAnswer.Withdrawn → WithdrawTested m q → WithdrawTurn m b q (withdraw_call m q)
+      → (withdraw_call m q).answer ≡ Ok tt → WithdrawTested m q → WithdrawTurn m b q (withdraw_call m q)
   unfolding after_withdraw status_of
-  withdrawn_turn in_row e k d a (turned_away n x) = absurd (withdrawn-not_refused n (sym a ∙ ap (λ (c : Called WithdrawAnswer). c.answer) x))
+  withdrawn_turn in_row e k d a (turned_away n x) = absurd (not_refused tt n (sym a ∙ ap (λ (c : Called CallReply). c.answer) x))
   withdrawn_turn in_row e k d a (let_through xs _ _ _ _ x) =
       let past = past_decided (party_at m.parties q) k.step_fits ∙ d in
       subst (WithdrawTurn m b q) (sym x)
@@ -271,9 +272,9 @@ module _ (m : Memory) (b : Book) (i : Inv m b) (q : ℕ) where
   withdraw_turn = go (withdraw_meets m b i q)
     where
       go : WithdrawMet m b i q → WithdrawTurn m b q (withdraw_call m q)
-      go (stranger h n e) = withdraw_refused_turn 3 e
-      go (unbegun h n e) = withdraw_refused_turn 5 e
-      go (too_late h e k d c) = withdraw_refused_turn 7 c
+      go (stranger h n e) = withdraw_refused_turn Refusal.Party e
+      go (unbegun h n e) = withdraw_refused_turn Refusal.Idle e
+      go (too_late h e k d c) = withdraw_refused_turn Refusal.Decided c
       go (taken_back h e k t d a) = withdrawn_turn h e k d a (withdraw_tested m q)
 
 -- ---- A list of calls

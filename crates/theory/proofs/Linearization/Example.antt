@@ -10,12 +10,11 @@ use mathlib.Core.Bool.{Bool, true, false, ◌&&◌}
 use mathlib.Core.List.{List, [], ◌∷◌}
 use mathlib.Core.Option.{none, some}
 use Prim.Native.Nat.{ℕ}
+use Rattle.std.specs.Prelude.{Ok}
 use Rattle.model.specs.declared.Operation.TheVariants as Operation
 use Rattle.model.specs.declared.OperationAnswer.{OperationAnswer}
 use Rattle.model.specs.declared.Restructuring.TheVariants as Restructuring
 use Rattle.model.specs.declared.StepAnswer.TheVariants as StepAnswer
-use Rattle.model.specs.declared.BeginAnswer.TheVariants as BeginAnswer
-use Rattle.model.specs.declared.WithdrawAnswer.TheVariants as WithdrawAnswer
 use Rattle.model.specs.Answers.{answer_number, found_or_absent, same_answer, setting_found}
 use Rattle.model.specs.Entries.{entry_of, has_key, inserted_into, setting_in}
 use Rattle.model.specs.Memory.{formatted}
@@ -42,34 +41,34 @@ happened c n x = record { call = c; number = n; reply = x }
 -- The calls, with the step number at each and the reply.
 abbrev transcript : List Event
 transcript =
-    happened (begin_for 0 (Operation.Insert 9) 5) 0 (to_begin BeginAnswer.Begun)
-    ∷ happened (begin_for 1 Operation.Find 5) 0 (to_begin BeginAnswer.Begun)
-    ∷ happened (step_for 1) 1 (to_step StepAnswer.Moved)
-    ∷ happened (step_for 1) 2 (to_step StepAnswer.Moved)
-    ∷ happened (step_for 1) 3 (to_step StepAnswer.Moved)
-    ∷ happened (step_for 1) 4 (to_step StepAnswer.Moved)
-    ∷ happened (step_for 1) 5 (to_step StepAnswer.Moved)
-    ∷ happened (step_for 1) 6 (to_step StepAnswer.Moved)
-    ∷ happened (step_for 0) 1 (to_step StepAnswer.Moved)
-    ∷ happened (step_for 0) 2 (to_step StepAnswer.Moved)
-    ∷ happened (step_for 0) 3 (to_step StepAnswer.Moved)
-    ∷ happened (step_for 0) 4 (to_step StepAnswer.Moved)
-    ∷ happened (step_for 0) 5 (to_step StepAnswer.Moved)
-    ∷ happened (step_for 0) 6 (to_step StepAnswer.Moved)
-    ∷ happened (step_for 0) 10 (to_step StepAnswer.Moved)
-    ∷ happened (step_for 0) 11 (to_step StepAnswer.Moved)
-    ∷ happened (step_for 1) 9 (to_step (StepAnswer.Done OperationAnswer.Absent Restructuring.None))
-    ∷ happened (begin_for 1 Operation.Find 5) 0 (to_begin BeginAnswer.Begun)
-    ∷ happened (step_for 1) 1 (to_step StepAnswer.Moved)
-    ∷ happened (step_for 1) 2 (to_step StepAnswer.Moved)
-    ∷ happened (step_for 1) 3 (to_step StepAnswer.Moved)
-    ∷ happened (step_for 1) 4 (to_step StepAnswer.Moved)
-    ∷ happened (step_for 1) 5 (to_step StepAnswer.Moved)
-    ∷ happened (step_for 1) 6 (to_step StepAnswer.Moved)
-    ∷ happened (step_for 1) 9 (to_step (StepAnswer.Done (OperationAnswer.Found 9) Restructuring.None))
-    ∷ happened (begin_for 1 Operation.Delete 5) 0 (to_begin BeginAnswer.Begun)
-    ∷ happened (step_for 1) 1 (to_step StepAnswer.Moved)
-    ∷ happened (withdraw_for 1) 2 (to_withdraw WithdrawAnswer.Withdrawn)
+    happened (begin_for 0 (Operation.Insert 9) 5) 0 (to_begin (Ok tt))
+    ∷ happened (begin_for 1 Operation.Find 5) 0 (to_begin (Ok tt))
+    ∷ happened (step_for 1) 1 (to_step (Ok StepAnswer.Moved))
+    ∷ happened (step_for 1) 2 (to_step (Ok StepAnswer.Moved))
+    ∷ happened (step_for 1) 3 (to_step (Ok StepAnswer.Moved))
+    ∷ happened (step_for 1) 4 (to_step (Ok StepAnswer.Moved))
+    ∷ happened (step_for 1) 5 (to_step (Ok StepAnswer.Moved))
+    ∷ happened (step_for 1) 6 (to_step (Ok StepAnswer.Moved))
+    ∷ happened (step_for 0) 1 (to_step (Ok StepAnswer.Moved))
+    ∷ happened (step_for 0) 2 (to_step (Ok StepAnswer.Moved))
+    ∷ happened (step_for 0) 3 (to_step (Ok StepAnswer.Moved))
+    ∷ happened (step_for 0) 4 (to_step (Ok StepAnswer.Moved))
+    ∷ happened (step_for 0) 5 (to_step (Ok StepAnswer.Moved))
+    ∷ happened (step_for 0) 6 (to_step (Ok StepAnswer.Moved))
+    ∷ happened (step_for 0) 10 (to_step (Ok StepAnswer.Moved))
+    ∷ happened (step_for 0) 11 (to_step (Ok StepAnswer.Moved))
+    ∷ happened (step_for 1) 9 (to_step (Ok (StepAnswer.Done OperationAnswer.Absent Restructuring.None)))
+    ∷ happened (begin_for 1 Operation.Find 5) 0 (to_begin (Ok tt))
+    ∷ happened (step_for 1) 1 (to_step (Ok StepAnswer.Moved))
+    ∷ happened (step_for 1) 2 (to_step (Ok StepAnswer.Moved))
+    ∷ happened (step_for 1) 3 (to_step (Ok StepAnswer.Moved))
+    ∷ happened (step_for 1) 4 (to_step (Ok StepAnswer.Moved))
+    ∷ happened (step_for 1) 5 (to_step (Ok StepAnswer.Moved))
+    ∷ happened (step_for 1) 6 (to_step (Ok StepAnswer.Moved))
+    ∷ happened (step_for 1) 9 (to_step (Ok (StepAnswer.Done (OperationAnswer.Found 9) Restructuring.None)))
+    ∷ happened (begin_for 1 Operation.Delete 5) 0 (to_begin (Ok tt))
+    ∷ happened (step_for 1) 1 (to_step (Ok StepAnswer.Moved))
+    ∷ happened (withdraw_for 1) 2 (to_withdraw (Ok tt))
     ∷ []
 
 abbrev calls_of : List Event → List Call

@@ -6,6 +6,7 @@ use mathlib.Core.Logic.{◌≢◌, ◌⊎◌, inl, inr}
 use mathlib.Core.Bool.{Bool, true, false, not, ◌&&◌, ◌||◌, false≢true}
 use Prim.Native.Nat.{ℕ}
 use lib.Dec.{eqb, leb}
+use Rattle.std.specs.Prelude.{Ok}
 use Rattle.model.specs.declared.Party.{Party}
 use Rattle.model.specs.declared.OperationAnswer.{OperationAnswer}
 use Rattle.model.specs.declared.Restructuring.{Restructuring}
@@ -62,8 +63,8 @@ pub data Passage (operation k n : ℕ) : Type 0 where
 -- What an outcome at step number k does: nothing; it moves on; it ends the operation, whose decisive step is done.
 pub data Leads (v : View) (k : ℕ) (o : Outcome) : Type 0 where
   stays : performs o.answer ≡ false → o.after ≡ v → Leads v k o
-  moves : o.answer ≡ StepAnswer.Moved → o.after.number ≡ v.number → Passage v.party.operation k o.after.party.step → Leads v k o
-  ends : (a : OperationAnswer) (s : Restructuring) → o.answer ≡ StepAnswer.Done a s → o.after.number ≡ v.number → o.after.party ≡ idle → is_behind k ≡ true → Leads v k o
+  moves : o.answer ≡ Ok StepAnswer.Moved → o.after.number ≡ v.number → Passage v.party.operation k o.after.party.step → Leads v k o
+  ends : (a : OperationAnswer) (s : Restructuring) → o.answer ≡ Ok (StepAnswer.Done a s) → o.after.number ≡ v.number → o.after.party ≡ idle → is_behind k ≡ true → Leads v k o
 
 -- ---- Every step
 

@@ -1,7 +1,7 @@
 -- The book's notes at 6, 10 and 11 are answers of the plain map that its contents are, and the contents after them are
 -- what that map becomes.
 -- Main statements: map_of; six_plain, six_left, ten_plain, ten_left, eleven_plain, eleven_left; ten_decides, eleven_decides
--- (the decisive step); noted-elsewhere, noted-contents, noted-own (what a note leaves); after-six, after-ten, after-eleven
+-- (the decisive step); noted_elsewhere, noted_contents, noted_own (what a note leaves); after_six, after_ten, after_eleven
 -- (the book then); note_is_answer.
 use mathlib.Core.Path.{◌≡◌, refl, sym, ap, subst}
 use mathlib.Core.Logic.{◌≢◌}

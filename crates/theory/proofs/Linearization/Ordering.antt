@@ -1,8 +1,8 @@
 -- How an order of operations grows by one event, over events and states of parties alone.
 -- A party is away, looking (under way, its decisive step to come) or fixed (its decisive step done, with its answer); an
 -- event leaves that, begins, decides, ends or withdraws an operation.
--- Main statements: Status, Suffix (an order for the rest of a run), nothing_left (the rest is empty); still-on, begins-on,
--- decides-on, ends_on, withdraws-on (an event more in front).
+-- Main statements: Status, Suffix (an order for the rest of a run), nothing_left (the rest is empty); still_on, begins_on,
+-- decides_on, ends_on, withdraws_on (an event more in front).
 use mathlib.Core.Path.{◌≡◌, refl, sym, ap, ◌∙◌, subst}
 use mathlib.Core.Logic.{◌≢◌, ◌⊎◌, inl, inr}
 use mathlib.Core.Bool.{Bool, true, false, cond}
@@ -12,12 +12,12 @@ use mathlib.Core.Option.{Option, none, some}
 use Prim.Native.Nat.{ℕ, ◌+◌, ◌≤◌, ◌<◌}
 use native.Mathlib.Omega.{arith}
 use lib.Dec.{eqb, leb}
+use Rattle.std.specs.Prelude.{Ok, Err}
+use Rattle.model.specs.Answers.{StepReply}
 use Rattle.model.specs.declared.Operation.{Operation}
 use Rattle.model.specs.declared.OperationAnswer.{OperationAnswer}
 use Rattle.model.specs.declared.Restructuring.{Restructuring}
 use Rattle.model.specs.declared.StepAnswer.{StepAnswer}
-use Rattle.model.specs.declared.BeginAnswer.TheVariants as BeginAnswer
-use Rattle.model.specs.declared.WithdrawAnswer.TheVariants as WithdrawAnswer
 use Rattle.model.specs.Runs.{Call, begin_for, step_for, withdraw_for, Reply, to_begin, to_step, to_withdraw, Event}
 use Rattle.model.specs.Book.{changed_at}
 use Rattle.theory.specs.PlainMap.{PlainMap, answers_as_map, map_left_by}
@@ -71,7 +71,7 @@ pub record PlacedFrom (n : ℕ) (begun : ℕ → ℕ) (st : ℕ → Status) (es 
   pub before_end : (y : Ended) → x.operated.ended ≡ some y → x.point < y.call
   pub same_answer_lem : (y : Ended) → x.operated.ended ≡ some y → y.answer ≡ some x.answer
   pub decisive : event_from n es x.point
-      ≡ some (record { call = step_for x.operated.party; number = decisive_step x.operated.operation x.answer; reply = to_step StepAnswer.Moved })
+      ≡ some (record { call = step_for x.operated.party; number = decisive_step x.operated.operation x.answer; reply = to_step (Ok StepAnswer.Moved) })
   pub last : (j : ℕ) → x.point < j → is_before j x.operated.ended ≡ true → marks x.operated.party (event_from n es j) ≡ false
 
 -- What the rest holds for a party that is fixed, at the end in state s.
@@ -198,7 +198,7 @@ module _ (n : ℕ) (begun : ℕ → ℕ) (st : ℕ → Status) (s : PlainMap) (e
 module _ (n : ℕ) (begun : ℕ → ℕ) (st : ℕ → Status) (s : PlainMap) (q : ℕ) (o : Operation) (k number : ℕ) (es : List Event) (stₑ : ℕ → Status) (sₑ : PlainMap)
     (was_away : st q ≡ away) where
   abbrev begin_event : Event
-  begin_event = record { call = begin_for q o k; number = number; reply = to_begin BeginAnswer.Begun }
+  begin_event = record { call = begin_for q o k; number = number; reply = to_begin (Ok tt) }
 
   abbrev begun_then : ℕ → ℕ
   begun_then = changed_at begun q n
@@ -273,8 +273,8 @@ module _ (n : ℕ) (es : List Event) (rest : List Operated) (o : Operated) (late
 
   entering_late : (c : Call) (r : Reply) → Memᴰ o (entering n c r es rest) → n ≤ o.begun
   unfolding entering
-  entering_late (begin_for q x k) (to_begin BeginAnswer.Begun) t = first_late _ refl (Memᴰ.cases_cons t)
-  entering_late (begin_for q x k) (to_begin (BeginAnswer.Refused z)) t = later t
+  entering_late (begin_for q x k) (to_begin (Ok _)) t = first_late _ refl (Memᴰ.cases_cons t)
+  entering_late (begin_for q x k) (to_begin (Err z)) t = later t
   entering_late (begin_for q x k) (to_step a) t = later t
   entering_late (begin_for q x k) (to_withdraw a) t = later t
   entering_late (step_for q) r t = later t
@@ -295,7 +295,7 @@ withdraw_elsewhere : (q p : ℕ) → p ≢ q → (r : Reply) → end_to p (withd
 unfolding end_to
 withdraw_elsewhere q p d r = rw (eqb-diff q p (λ i. d (sym i))) refl
 
-pub mark_elsewhere : (q p number : ℕ) → p ≢ q → (a : StepAnswer) → step_marks p number (step_for q) (to_step a) ≡ false
+pub mark_elsewhere : (q p number : ℕ) → p ≢ q → (a : StepReply) → step_marks p number (step_for q) (to_step a) ≡ false
 unfolding step_marks
 mark_elsewhere q p number d a = rw (eqb-diff q p (λ i. d (sym i))) refl
 
@@ -340,7 +340,7 @@ module _ (st : ℕ → Status) (q : ℕ) (t : Status) (not_looking : (u : Operat
 module _ (n : ℕ) (begun : ℕ → ℕ) (st : ℕ → Status) (s : PlainMap) (q : ℕ) (o : Operation) (k : ℕ) (a : OperationAnswer) (es : List Event) (stₑ : ℕ → Status) (sₑ : PlainMap)
     (begins : Begun n begun st) (was_looking : st q ≡ looking o k) (plain : answers_as_map s o k a ≡ true) where
   abbrev decisive_event : Event
-  decisive_event = record { call = step_for q; number = decisive_step o a; reply = to_step StepAnswer.Moved }
+  decisive_event = record { call = step_for q; number = decisive_step o a; reply = to_step (Ok StepAnswer.Moved) }
 
   abbrev fixed_then : ℕ → Status
   fixed_then = changed_at st q (fixed o k a)
@@ -348,9 +348,9 @@ module _ (n : ℕ) (begun : ℕ → ℕ) (st : ℕ → Status) (s : PlainMap) (q
   abbrev its_place : Linearized
   its_place = record { operated = under_way begun q o k (n + 1) es; point = n; answer = a }
 
-  moved_none : (p : ℕ) → end_to p (step_for q) (to_step StepAnswer.Moved) ≡ none
+  moved_none : (p : ℕ) → end_to p (step_for q) (to_step (Ok StepAnswer.Moved)) ≡ none
   unfolding end_in
-  moved_none p = unended q p (to_step StepAnswer.Moved) refl
+  moved_none p = unended q p (to_step (Ok StepAnswer.Moved)) refl
 
   busy : (p : ℕ) (u : Operation) (l : ℕ) → st p ≡ looking u l → st p ≢ away
   busy p u l h i = away_not_looking u l (sym i ∙ h)
@@ -424,7 +424,7 @@ module _ (n : ℕ) (begun : ℕ → ℕ) (st : ℕ → Status) (s : PlainMap) (q
           times_elsewhere j (f q o k was_looking) ∙ x.no_other j (omega arith) (λ p u i h. f p u i (looked_before st q (fixed o k a) no_more_looking p u i h));
       decided = λ p u l b h.
           let d = not_fixed_yet p u l b h in
-          decided_later n decisive_event es p b (stₑ p) (moved_none p) (mark_elsewhere q p (decisive_step o a) d StepAnswer.Moved)
+          decided_later n decisive_event es p b (stₑ p) (moved_none p) (mark_elsewhere q p (decisive_step o a) d (Ok StepAnswer.Moved))
           (x.decided p u l b (changed_elsewhere st q (fixed o k a) p d ∙ h));
     }
 
@@ -433,7 +433,7 @@ module _ (n : ℕ) (begun : ℕ → ℕ) (st : ℕ → Status) (s : PlainMap) (q
 module _ (n : ℕ) (begun : ℕ → ℕ) (st : ℕ → Status) (s : PlainMap) (q : ℕ) (o : Operation) (k : ℕ) (a : OperationAnswer) (number : ℕ) (r : Restructuring) (es : List Event)
     (stₑ : ℕ → Status) (sₑ : PlainMap) (was_fixed : st q ≡ fixed o k a) where
   abbrev done_event : Event
-  done_event = record { call = step_for q; number = number; reply = to_step (StepAnswer.Done a r) }
+  done_event = record { call = step_for q; number = number; reply = to_step (Ok (StepAnswer.Done a r)) }
 
   abbrev away_then : ℕ → Status
   away_then = changed_at st q away
@@ -490,7 +490,7 @@ module _ (n : ℕ) (begun : ℕ → ℕ) (st : ℕ → Status) (s : PlainMap) (q
 module _ (n : ℕ) (begun : ℕ → ℕ) (st : ℕ → Status) (s : PlainMap) (q : ℕ) (o : Operation) (k number : ℕ) (es : List Event) (stₑ : ℕ → Status) (sₑ : PlainMap)
     (begins : Begun n begun st) (was_looking : st q ≡ looking o k) where
   abbrev withdraw_event : Event
-  withdraw_event = record { call = withdraw_for q; number = number; reply = to_withdraw WithdrawAnswer.Withdrawn }
+  withdraw_event = record { call = withdraw_for q; number = number; reply = to_withdraw (Ok tt) }
 
   abbrev gone_then : ℕ → Status
   gone_then = changed_at st q away

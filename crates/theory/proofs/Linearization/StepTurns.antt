@@ -1,7 +1,7 @@
 -- A call of step as a turn, by what it answered and where it led; what the parties are doing is read off the memory and
 -- the book.
--- Main statements: status_of (what a party is doing), StepTurn; waits_turn, searches-turn, goes-on-turn, done-turn, six-turn,
--- ten-turn, eleven-turn.
+-- Main statements: status_of (what a party is doing), StepTurn; waits_turn, searches_turn, goes_on_turn, done_turn, six_turn,
+-- ten_turn, eleven_turn.
 use mathlib.Core.Path.{◌≡◌, refl, sym, ap, ◌∙◌, fun_ext}
 use mathlib.Core.Logic.{◌≢◌}
 use mathlib.Core.Bool.{Bool, true, false, ◌&&◌, ◌||◌, false≢true}
@@ -10,13 +10,14 @@ use Prim.Native.Nat.{ℕ, ◌<◌}
 use native.Mathlib.Omega.{arith}
 use lib.ListN.{set}
 use lib.Dec.{eqb, leb}
+use Rattle.std.specs.Prelude.{Ok, Err}
 use Rattle.model.specs.declared.Party.{Party}
 use Rattle.model.specs.declared.Operation.{Operation}
 use Rattle.model.specs.declared.OperationAnswer.{OperationAnswer}
 use Rattle.model.specs.declared.Restructuring.{Restructuring}
 use Rattle.model.specs.declared.StepAnswer.{StepAnswer}
 use Rattle.model.specs.Records.{idle}
-use Rattle.model.specs.Answers.{answer_number, performs, found_or_absent}
+use Rattle.model.specs.Answers.{answer_number, performs, found_or_absent, StepReply}
 use Rattle.model.specs.Outcome.{View}
 use Rattle.model.specs.Steps.Write.{is_change}
 use Rattle.model.specs.Memory.{Memory, party_at, after_step}
@@ -74,27 +75,27 @@ module _ (n : ℕ) (behind : is_behind n ≡ true) where
 -- ---- A call of step
 
 -- A call of step with this answer and memory is a turn.
-abbrev pub StepTurn : Memory → Book → ℕ → Called StepAnswer → Type 0
+abbrev pub StepTurn : Memory → Book → ℕ → Called StepReply → Type 0
 StepTurn m b q x =
     Turn (status_of m b) (map_of b) (record { call = step_for q; number = (party_at m.parties q).step; reply = to_step x.answer })
     (status_of x.memory (after_reply b q (party_at m.parties q).step x.answer)) (map_of (after_reply b q (party_at m.parties q).step x.answer))
 
 -- One that performs no step.
-unmarked_call : (q p number : ℕ) (a : StepAnswer) → performs a ≡ false → step_marks p number (step_for q) (to_step a) ≡ false
+unmarked_call : (q p number : ℕ) (a : StepReply) → performs a ≡ false → step_marks p number (step_for q) (to_step a) ≡ false
 unfolding step_marks
 unmarked_call q p number a h = left_fails _ (right_fails (eqb q p) h)
 
 -- A step whose number the book does not note.
-unmarked_number : (q p number : ℕ) (a : StepAnswer) → (eqb number 6 || eqb number 10 || eqb number 11) ≡ false → step_marks p number (step_for q) (to_step a) ≡ false
+unmarked_number : (q p number : ℕ) (a : StepReply) → (eqb number 6 || eqb number 10 || eqb number 11) ≡ false → step_marks p number (step_for q) (to_step a) ≡ false
 unfolding step_marks
 unmarked_number q p number a h = right_fails (eqb q p && performs a) h
 
-pub waits_turn : (m : Memory) (b : Book) (q : ℕ) (a : StepAnswer) → performs a ≡ false → StepTurn m b q (called a m)
+pub waits_turn : (m : Memory) (b : Book) (q : ℕ) (a : StepReply) → performs a ≡ false → StepTurn m b q (called a m)
 unfolding performs after_reply entering end_in marks
-waits_turn m b q StepAnswer.Waiting h = still (λ n es rest. refl) (λ p. unended q p _ refl) (λ p o k a _. unmarked_call q p _ StepAnswer.Waiting refl) refl refl
-waits_turn m b q (StepAnswer.Refused n) h = still (λ n es rest. refl) (λ p. unended q p _ refl) (λ p o k a _. unmarked_call q p _ (StepAnswer.Refused n) refl) refl refl
-waits_turn m b q StepAnswer.Moved h = absurd (false≢true (sym h))
-waits_turn m b q (StepAnswer.Done a r) h = absurd (false≢true (sym h))
+waits_turn m b q (Ok StepAnswer.Waiting) h = still (λ n es rest. refl) (λ p. unended q p _ refl) (λ p o k a _. unmarked_call q p _ (Ok StepAnswer.Waiting) refl) refl refl
+waits_turn m b q (Err n) h = still (λ n es rest. refl) (λ p. unended q p _ refl) (λ p o k a _. unmarked_call q p _ (Err n) refl) refl refl
+waits_turn m b q (Ok StepAnswer.Moved) h = absurd (false≢true (sym h))
+waits_turn m b q (Ok (StepAnswer.Done a r)) h = absurd (false≢true (sym h))
 
 -- One that performs a step and leaves the view v.
 module _ (m : Memory) (b : Book) (i : Inv m b) (q : ℕ) (in_row : q < m.root.parties) (v : View) (number= : v.number ≡ q) where
@@ -142,7 +143,7 @@ module _ (m : Memory) (b : Book) (i : Inv m b) (q : ℕ) (in_row : q < m.root.pa
 
   -- ---- It moves, its decisive step still to come
 
-  pub searches_turn : is_behind number ≡ false → number ≢ 11 → is_behind v.party.step ≡ false → StepTurn m b q (called StepAnswer.Moved now)
+  pub searches_turn : is_behind number ≡ false → number ≢ 11 → is_behind v.party.step ≡ false → StepTurn m b q (called (Ok StepAnswer.Moved) now)
   unfolding after_reply entering end_in marks
   searches_turn was not_eleven then =
       let c = note_for b q (b.entries q) number in
@@ -154,17 +155,17 @@ module _ (m : Memory) (b : Book) (i : Inv m b) (q : ℕ) (in_row : q < m.root.pa
       own : status_by ((note_for b q (b.entries q) number).entries q) (is_past v.party) ≡ looking e.operation e.key
       own = let k = noted_own b q e entry number in rw (then, k.is, k.operation=, k.key=) refl
 
-      elsewhere : (p : ℕ) (o : Operation) (k : ℕ) (a : OperationAnswer) → status_of m b p ≡ fixed o k a → Cmp p q → step_marks p number (step_for q) (to_step StepAnswer.Moved) ≡ false
+      elsewhere : (p : ℕ) (o : Operation) (k : ℕ) (a : OperationAnswer) → status_of m b p ≡ fixed o k a → Cmp p q → step_marks p number (step_for q) (to_step (Ok StepAnswer.Moved)) ≡ false
       elsewhere p o k a h (same j) = absurd (fixed_not_looking o k a e.operation e.key (sym h ∙ ap (status_of m b) j ∙ was_looking was))
-      elsewhere p o k a h (diff d) = mark_elsewhere q p number d StepAnswer.Moved
+      elsewhere p o k a h (diff d) = mark_elsewhere q p number d (Ok StepAnswer.Moved)
 
   -- ---- It moves, its decisive step being done
 
-  pub goes_on_turn : is_behind number ≡ true → is_behind v.party.step ≡ true → StepTurn m b q (called StepAnswer.Moved now)
+  pub goes_on_turn : is_behind number ≡ true → is_behind v.party.step ≡ true → StepTurn m b q (called (Ok StepAnswer.Moved) now)
   unfolding after_reply entering end_in marks
   goes_on_turn was then =
       let same_book = behind_unnoted number was b q (b.entries q) in
-      still (λ n es rest. refl) (λ p. unended q p _ refl) (λ p o k a h. unmarked_number q p number StepAnswer.Moved (behind_unmarked number was))
+      still (λ n es rest. refl) (λ p. unended q p _ refl) (λ p o k a h. unmarked_number q p number (Ok StepAnswer.Moved) (behind_unmarked number was))
       (ap (status_of now) same_book
       ∙ states b (fixed e.operation e.key (note_or e.note)) (λ p d. refl) own
       ∙ changed_back (status_of m b) q (fixed e.operation e.key (note_or e.note)) (was_fixed was))
@@ -175,8 +176,8 @@ module _ (m : Memory) (b : Book) (i : Inv m b) (q : ℕ) (in_row : q < m.root.pa
 
   -- ---- It is done
 
-  pub done_turn : (a : OperationAnswer) (r : Restructuring) → is_behind number ≡ true → v.party ≡ idle → agrees_with b q number (StepAnswer.Done a r) ≡ true
-      → StepTurn m b q (called (StepAnswer.Done a r) now)
+  pub done_turn : (a : OperationAnswer) (r : Restructuring) → is_behind number ≡ true → v.party ≡ idle → agrees_with b q number (Ok (StepAnswer.Done a r)) ≡ true
+      → StepTurn m b q (called (Ok (StepAnswer.Done a r)) now)
   unfolding after_reply agrees_with is_note_of
   done_turn a r was then right =
       let same_book = behind_unnoted number was b q (b.entries q) in
@@ -192,20 +193,20 @@ module _ (m : Memory) (b : Book) (i : Inv m b) (q : ℕ) (in_row : q < m.root.pa
       → status_by (c.entries q) (is_past v.party) ≡ fixed e.operation e.key a
   decided_then a c h then = rw (h, then) refl
 
-  pub six_turn : number ≡ 6 → e.operation ≡ Operation.Find → v.party.step ≡ 9 → StepTurn m b q (called StepAnswer.Moved now)
+  pub six_turn : number ≡ 6 → e.operation ≡ Operation.Find → v.party.step ≡ 9 → StepTurn m b q (called (Ok StepAnswer.Moved) now)
   unfolding after_reply decisive_step is_behind
   six_turn k find then =
       let a = found_or_absent (setting_in e.key b.contents) in
       let book = ap (note_for b q (b.entries q)) k ∙ after_six b q e entry find in
       let c = with_entry b q (some (noted e a)) in
-      decides q Operation.Find e.key a (ap (λ (n : ℕ). record { call = step_for q; number = n; reply = to_step StepAnswer.Moved }) k)
+      decides q Operation.Find e.key a (ap (λ (n : ℕ). record { call = step_for q; number = n; reply = to_step (Ok StepAnswer.Moved) }) k)
       (was_looking (ap is_behind k) ∙ ap (λ (o : Operation). looking o e.key) find) (six_plain (map_of b) e.key)
       (ap (status_of now) book
       ∙ states c (fixed Operation.Find e.key a) (λ p d. changed_elsewhere b.entries q _ p d)
       (decided_then a c (changed_here b.entries q _ q refl) (ap is_behind then) ∙ ap (λ (o : Operation). fixed o e.key a) find))
       (ap map_of book ∙ sym (six_left (map_of b) e.key (setting_in e.key b.contents)))
 
-  pub ten_turn : number ≡ 10 → e.operation ≢ Operation.Find → v.party.step ≡ 12 → StepTurn m b q (called StepAnswer.Moved now)
+  pub ten_turn : number ≡ 10 → e.operation ≢ Operation.Find → v.party.step ≡ 12 → StepTurn m b q (called (Ok StepAnswer.Moved) now)
   unfolding after_reply is_behind
   ten_turn k change then =
       let there = has_key e.key b.contents in
@@ -213,7 +214,7 @@ module _ (m : Memory) (b : Book) (i : Inv m b) (q : ℕ) (in_row : q < m.root.pa
       let book = ap (note_for b q (b.entries q)) k ∙ after_ten b q e entry in
       let c = with_entry b q (some (noted e a)) in
       decides q e.operation e.key a
-      (ap (λ (n : ℕ). record { call = step_for q; number = n; reply = to_step StepAnswer.Moved }) (k ∙ sym (ten_decides e.operation there change)))
+      (ap (λ (n : ℕ). record { call = step_for q; number = n; reply = to_step (Ok StepAnswer.Moved) }) (k ∙ sym (ten_decides e.operation there change)))
       (was_looking (ap is_behind k)) (ten_plain (map_of b) e.operation e.key there change refl)
       (ap (status_of now) book
       ∙ states c (fixed e.operation e.key a) (λ p d. changed_elsewhere b.entries q _ p d)
@@ -221,7 +222,7 @@ module _ (m : Memory) (b : Book) (i : Inv m b) (q : ℕ) (in_row : q < m.root.pa
       (ap map_of book ∙ ten_left (map_of b) e.operation e.key there change refl)
 
   pub eleven_turn : number ≡ 11 → e.operation ≢ Operation.Find → is_change (answer_number (note_at_eleven e.operation (has_key e.key b.contents))) ≡ true
-      → v.party.step ≡ 12 → StepTurn m b q (called StepAnswer.Moved now)
+      → v.party.step ≡ 12 → StepTurn m b q (called (Ok StepAnswer.Moved) now)
   unfolding after_reply is_behind
   eleven_turn k change made then =
       let there = has_key e.key b.contents in
@@ -229,7 +230,7 @@ module _ (m : Memory) (b : Book) (i : Inv m b) (q : ℕ) (in_row : q < m.root.pa
       let book = ap (note_for b q (b.entries q)) k ∙ after_eleven b q e entry in
       let c = with_contents (with_entry b q (some (noted e a))) (contents_at_eleven e.operation e.key b.contents) in
       decides q e.operation e.key a
-      (ap (λ (n : ℕ). record { call = step_for q; number = n; reply = to_step StepAnswer.Moved }) (k ∙ sym (eleven_decides e.operation a change made)))
+      (ap (λ (n : ℕ). record { call = step_for q; number = n; reply = to_step (Ok StepAnswer.Moved) }) (k ∙ sym (eleven_decides e.operation a change made)))
       (was_looking (ap is_behind k)) (eleven_plain (map_of b) e.operation e.key there change refl)
       (ap (status_of now) book
       ∙ states c (fixed e.operation e.key a) (λ p d. changed_elsewhere b.entries q _ p d)

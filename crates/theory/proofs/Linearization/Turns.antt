@@ -8,12 +8,11 @@ use mathlib.Core.List.{List, ◌∷◌}
 use mathlib.Core.Option.{none, some}
 use Prim.Native.Nat.{ℕ, ◌+◌, ◌<◌}
 use native.Mathlib.Omega.{arith}
+use Rattle.std.specs.Prelude.{Ok}
 use Rattle.model.specs.declared.Operation.{Operation}
 use Rattle.model.specs.declared.OperationAnswer.{OperationAnswer}
 use Rattle.model.specs.declared.Restructuring.{Restructuring}
 use Rattle.model.specs.declared.StepAnswer.TheVariants as StepAnswer
-use Rattle.model.specs.declared.BeginAnswer.TheVariants as BeginAnswer
-use Rattle.model.specs.declared.WithdrawAnswer.TheVariants as WithdrawAnswer
 use Rattle.model.specs.Runs.{begin_for, step_for, withdraw_for, to_begin, to_step, to_withdraw, Event}
 use Rattle.model.specs.Book.{changed_at}
 use Rattle.theory.specs.PlainMap.{PlainMap, answers_as_map, map_left_by}
@@ -26,13 +25,13 @@ use Rattle.theory.proofs.Linearization.Ordering.{Status, away, looking, fixed, a
 pub data Turn (st : ℕ → Status) (s : PlainMap) (e : Event) (st' : ℕ → Status) (s' : PlainMap) : Type 0 where
   still : ((n : ℕ) (es : List Event) (rest : List Operated) → entering n e.call e.reply es rest ≡ rest) → ((p : ℕ) → end_to p e.call e.reply ≡ none)
       → ((p : ℕ) (o : Operation) (k : ℕ) (a : OperationAnswer) → st p ≡ fixed o k a → marks p (some e) ≡ false) → st' ≡ st → s' ≡ s → Turn st s e st' s'
-  begins : (q : ℕ) (o : Operation) (k number : ℕ) → e ≡ record { call = begin_for q o k; number = number; reply = to_begin BeginAnswer.Begun } → st q ≡ away
+  begins : (q : ℕ) (o : Operation) (k number : ℕ) → e ≡ record { call = begin_for q o k; number = number; reply = to_begin (Ok tt) } → st q ≡ away
       → st' ≡ changed_at st q (looking o k) → s' ≡ s → Turn st s e st' s'
-  decides : (q : ℕ) (o : Operation) (k : ℕ) (a : OperationAnswer) → e ≡ record { call = step_for q; number = decisive_step o a; reply = to_step StepAnswer.Moved } → st q ≡ looking o k
+  decides : (q : ℕ) (o : Operation) (k : ℕ) (a : OperationAnswer) → e ≡ record { call = step_for q; number = decisive_step o a; reply = to_step (Ok StepAnswer.Moved) } → st q ≡ looking o k
       → answers_as_map s o k a ≡ true → st' ≡ changed_at st q (fixed o k a) → s' ≡ map_left_by s o k a → Turn st s e st' s'
   ends : (q : ℕ) (o : Operation) (k : ℕ) (a : OperationAnswer) (number : ℕ) (r : Restructuring)
-      → e ≡ record { call = step_for q; number = number; reply = to_step (StepAnswer.Done a r) } → st q ≡ fixed o k a → st' ≡ changed_at st q away → s' ≡ s → Turn st s e st' s'
-  withdraws : (q : ℕ) (o : Operation) (k number : ℕ) → e ≡ record { call = withdraw_for q; number = number; reply = to_withdraw WithdrawAnswer.Withdrawn } → st q ≡ looking o k
+      → e ≡ record { call = step_for q; number = number; reply = to_step (Ok (StepAnswer.Done a r)) } → st q ≡ fixed o k a → st' ≡ changed_at st q away → s' ≡ s → Turn st s e st' s'
+  withdraws : (q : ℕ) (o : Operation) (k number : ℕ) → e ≡ record { call = withdraw_for q; number = number; reply = to_withdraw (Ok tt) } → st q ≡ looking o k
       → st' ≡ changed_at st q away → s' ≡ s → Turn st s e st' s'
 
 -- ---- The begins of the operations under way, after a turn

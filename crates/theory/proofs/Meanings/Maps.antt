@@ -1,8 +1,8 @@
 -- Equations of maps said once more, key by key: each implies what stands here.
--- Main statements: left_setting (what an operation leaves of each key); linearized-in-file, linearized-in-map (the map
--- that a linearization leaves, and the chains of the file); stays-in-file, no-more-in-file (a call that leaves the
+-- Main statements: left_setting (what an operation leaves of each key); linearized_in_file, linearized_in_map (the map
+-- that a linearization leaves, and the chains of the file); stays_in_file, no_more_in_file (a call that leaves the
 -- map);
--- home-answers, home-before, home_after, home-left (an operation run singly, by each key's home chain);
+-- home_answers, home_before, home_after, home_left (an operation run singly, by each key's home chain);
 -- start_ascends, reached_ascends, left_ascends, after_ascends (every one of these lists strictly ascends).
 use mathlib.Core.Path.{◌≡◌, refl, sym, ap, ◌∙◌}
 use mathlib.Core.Bool.{Bool, true, false, cond}

@@ -1,6 +1,6 @@
 -- Merges that fit, said once more: the definitions of specs/FittingMerges.antt only forbid, so a wider one would make `merges_right` weaker and its proof would still stand.
--- Main statements: performed-right, right-26, right-28, right-29, right-30 (which test is for which step); unfit-joined, fit-skipped, head-moved, count-moved (26); other-pages, other-count (29);
--- same_pages_lem, one_page, damaged_none (what the tests mean); had-noted, had-of-others, had-elsewhere, had-at-begin, had-at-withdraw (what both chains had).
+-- Main statements: performed_right, right_26, right_28, right_29, right_30 (which test is for which step); unfit_joined, fit_skipped, head_moved, count-moved (26); other_pages, other_count (29);
+-- same_pages_lem, one_page, damaged_none (what the tests mean); had_noted, had_of_others, had_elsewhere, had_at_begin, had_at_withdraw (what both chains had).
 use mathlib.Core.Path.{◌≡◌, refl, ap₂}
 use mathlib.Core.Logic.{◌≢◌}
 use mathlib.Core.Bool.{Bool, true, false, cond, not, ◌&&◌, and-false, false≢true}

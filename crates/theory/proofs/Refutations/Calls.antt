@@ -1,21 +1,22 @@
 -- Runs with more calls than the bound, and others that calls_bounded calls wrong, beside those that it calls right; and
 -- the runs of programs that do in many calls what a step does in one, or do it again.
 -- Main statements: find_last, find_late; insert_last, insert_late; delete_last, delete_late and their like by the
--- sizes; chase-stays, page_copied_lem, old_pages_singly, split-again; what counts and what does not; others-wrong,
--- others-uncounted (a reply to a call of another kind).
+-- sizes; chase-stays, page_copied_lem, old_pages_singly, split-again; what counts and what does not; others_wrong,
+-- others_uncounted (a reply to a call of another kind).
 use mathlib.Core.Path.{◌≡◌, refl}
 use mathlib.Core.Bool.{Bool, true, false}
 use mathlib.Core.List.{List, [], ◌∷◌, ◌++◌}
 use mathlib.Core.Option.{Option}
 use Prim.Native.Nat.{ℕ}
 use lib.ListN.{replicate}
+use Rattle.std.specs.Prelude.{Ok, Err}
+use Rattle.model.specs.declared.Refusal.{Refusal}
+use Rattle.model.specs.Answers.{StepReply, CallReply}
 use Rattle.model.specs.declared.Root.{Root}
 use Rattle.model.specs.declared.Operation.{Operation}
 use Rattle.model.specs.declared.OperationAnswer.TheVariants as OperationAnswer
 use Rattle.model.specs.declared.Restructuring.TheVariants as Restructuring
 use Rattle.model.specs.declared.StepAnswer.{StepAnswer}
-use Rattle.model.specs.declared.BeginAnswer.{BeginAnswer}
-use Rattle.model.specs.declared.WithdrawAnswer.{WithdrawAnswer}
 use Rattle.model.specs.Records.{root_of_sizes}
 use Rattle.model.specs.Runs.{Call, begin_for, step_for, withdraw_for, Reply, to_begin, to_step, to_withdraw, Event}
 use Rattle.theory.specs.CallsBounded.{most_calls, most_by_sizes, Counted, none_counted, call_bounded, counted_after, calls_bounded}
@@ -23,21 +24,21 @@ use Rattle.theory.proofs.Refutations.Opened.{opened}
 
 -- ---- Runs
 
-abbrev begins : ℕ → Operation → BeginAnswer → Event
+abbrev begins : ℕ → Operation → CallReply → Event
 begins q o a = record { call = begin_for q o 4; number = 0; reply = to_begin a }
 
-abbrev steps : ℕ → StepAnswer → Event
+abbrev steps : ℕ → StepReply → Event
 steps q a = record { call = step_for q; number = 1; reply = to_step a }
 
-abbrev withdraws : ℕ → WithdrawAnswer → Event
+abbrev withdraws : ℕ → CallReply → Event
 withdraws q a = record { call = withdraw_for q; number = 1; reply = to_withdraw a }
 
-abbrev is_done : StepAnswer
-is_done = StepAnswer.Done OperationAnswer.Absent Restructuring.None
+abbrev is_done : StepReply
+is_done = Ok (StepAnswer.Done OperationAnswer.Absent Restructuring.None)
 
 -- Party 0 begins an operation and is moved on n times; then come these.
 abbrev moved_then : Operation → ℕ → List Event → List Event
-moved_then o n es = begins 0 o BeginAnswer.Begun ∷ (replicate n (steps 0 StepAnswer.Moved) ++ es)
+moved_then o n es = begins 0 o (Ok tt) ∷ (replicate n (steps 0 (Ok StepAnswer.Moved)) ++ es)
 
 -- From 1 chain to 256, with 3 overflow pages: R is 8, and a find takes at most 34 calls. From 5 to 12: R is 2. Of 5 in
 -- 5: R is 0.
@@ -95,7 +96,7 @@ done_late = refl
 
 -- A step of party 0 with this number, moved.
 abbrev moves : ℕ → Event
-moves k = record { call = step_for 0; number = k; reply = to_step StepAnswer.Moved }
+moves k = record { call = step_for 0; number = k; reply = to_step (Ok StepAnswer.Moved) }
 
 -- The first calls of every operation, up to 6.
 abbrev locates : List Event
@@ -105,7 +106,7 @@ abbrev splits : List Event
 splits = moves 15 ∷ moves 16 ∷ moves 17 ∷ moves 18 ∷ moves 19 ∷ moves 20 ∷ moves 21 ∷ moves 22 ∷ []
 
 abbrev run_of : Operation → List Event → List Event
-run_of o es = begins 0 o BeginAnswer.Begun ∷ (locates ++ es)
+run_of o es = begins 0 o (Ok tt) ∷ (locates ++ es)
 
 -- The most overflow pages that there can be.
 abbrev roomiest : Root
@@ -168,11 +169,11 @@ find_late_fixed = refl
 -- ---- What counts
 
 -- Waiting and refused calls do not, nor another party's.
-waits_aside : by_sizes fixed (moved_then Operation.Find 9 (steps 0 StepAnswer.Waiting ∷ steps 0 (StepAnswer.Refused 5) ∷ steps 1 (StepAnswer.Refused 5) ∷ steps 0 is_done ∷ [])) ≡ true
+waits_aside : by_sizes fixed (moved_then Operation.Find 9 (steps 0 (Ok StepAnswer.Waiting) ∷ steps 0 (Err Refusal.Idle) ∷ steps 1 (Err Refusal.Idle) ∷ steps 0 is_done ∷ [])) ≡ true
 unfolding opened
 waits_aside = refl
 
-others_aside : by_sizes fixed (begins 1 Operation.Find BeginAnswer.Begun ∷ moved_then Operation.Find 9 (steps 1 StepAnswer.Moved ∷ steps 0 is_done ∷ steps 1 is_done ∷ [])) ≡ true
+others_aside : by_sizes fixed (begins 1 Operation.Find (Ok tt) ∷ moved_then Operation.Find 9 (steps 1 (Ok StepAnswer.Moved) ∷ steps 0 is_done ∷ steps 1 is_done ∷ [])) ≡ true
 unfolding opened
 others_aside = refl
 
@@ -181,22 +182,22 @@ done_anew : by_sizes fixed (moved_then Operation.Find 9 (steps 0 is_done ∷ mov
 unfolding opened
 done_anew = refl
 
-withdrawn_anew : by_sizes fixed (moved_then Operation.Find 9 (withdraws 0 WithdrawAnswer.Withdrawn ∷ moved_then Operation.Find 9 (steps 0 is_done ∷ []))) ≡ true
+withdrawn_anew : by_sizes fixed (moved_then Operation.Find 9 (withdraws 0 (Ok tt) ∷ moved_then Operation.Find 9 (steps 0 is_done ∷ []))) ≡ true
 unfolding opened
 withdrawn_anew = refl
 
 -- A withdraw refused leaves it, and so does a begin refused.
-refused_last : by_sizes fixed (moved_then Operation.Find 9 (withdraws 0 (WithdrawAnswer.Refused 7) ∷ begins 0 Operation.Find (BeginAnswer.Refused 4) ∷ steps 0 is_done ∷ [])) ≡ true
+refused_last : by_sizes fixed (moved_then Operation.Find 9 (withdraws 0 (Err Refusal.Decided) ∷ begins 0 Operation.Find (Err Refusal.Busy) ∷ steps 0 is_done ∷ [])) ≡ true
 unfolding opened
 refused_last = refl
 
-refused_late : by_sizes fixed (moved_then Operation.Find 9 (withdraws 0 (WithdrawAnswer.Refused 7) ∷ begins 0 Operation.Find (BeginAnswer.Refused 4) ∷ steps 0 StepAnswer.Moved ∷ [])) ≡ false
+refused_late : by_sizes fixed (moved_then Operation.Find 9 (withdraws 0 (Err Refusal.Decided) ∷ begins 0 Operation.Find (Err Refusal.Busy) ∷ steps 0 (Ok StepAnswer.Moved) ∷ [])) ≡ false
 unfolding opened
 refused_late = refl
 
 -- ---- Answers that nothing under way gets
 
-moved_unbegun : asked widest (steps 0 StepAnswer.Moved ∷ []) ≡ false
+moved_unbegun : asked widest (steps 0 (Ok StepAnswer.Moved) ∷ []) ≡ false
 unfolding opened
 moved_unbegun = refl
 
@@ -204,26 +205,26 @@ done_unbegun : asked widest (steps 0 is_done ∷ []) ≡ false
 unfolding opened
 done_unbegun = refl
 
-moved_behind_done : asked widest (moved_then Operation.Find 8 (steps 0 is_done ∷ steps 0 StepAnswer.Moved ∷ [])) ≡ false
+moved_behind_done : asked widest (moved_then Operation.Find 8 (steps 0 is_done ∷ steps 0 (Ok StepAnswer.Moved) ∷ [])) ≡ false
 unfolding opened
 moved_behind_done = refl
 
-moved-withdrawn : asked widest (moved_then Operation.Find 8 (withdraws 0 WithdrawAnswer.Withdrawn ∷ steps 0 StepAnswer.Moved ∷ [])) ≡ false
+moved-withdrawn : asked widest (moved_then Operation.Find 8 (withdraws 0 (Ok tt) ∷ steps 0 (Ok StepAnswer.Moved) ∷ [])) ≡ false
 unfolding opened
 moved-withdrawn = refl
 
-begun_twice : asked widest (moved_then Operation.Find 8 (begins 0 Operation.Find BeginAnswer.Begun ∷ [])) ≡ false
+begun_twice : asked widest (moved_then Operation.Find 8 (begins 0 Operation.Find (Ok tt) ∷ [])) ≡ false
 unfolding opened
 begun_twice = refl
 
 -- Waiting is not counted, begun or not.
-waiting_unbegun : asked widest (steps 0 StepAnswer.Waiting ∷ []) ≡ true
+waiting_unbegun : asked widest (steps 0 (Ok StepAnswer.Waiting) ∷ []) ≡ true
 unfolding opened
 waiting_unbegun = refl
 
 -- ---- A reply to a call of another kind is wrong, and counts nothing
 
-module _ (w : ℕ → Option Counted) (most : Operation → ℕ) (q k : ℕ) (o : Operation) (b : BeginAnswer) (s : StepAnswer) (d : WithdrawAnswer) where
+module _ (w : ℕ → Option Counted) (most : Operation → ℕ) (q k : ℕ) (o : Operation) (b : CallReply) (s : StepReply) (d : CallReply) where
   abbrev to_others : {A : Type 0} → (Call → Reply → A) → List A
   to_others f =
       f (begin_for q o k) (to_step s) ∷ f (begin_for q o k) (to_withdraw d) ∷ f (step_for q) (to_begin b) ∷ f (step_for q) (to_withdraw d) ∷ f (withdraw_for q) (to_begin b) ∷ f (withdraw_for q) (to_step s)

@@ -1,7 +1,7 @@
 -- What the demands give their reader of a single call or chain: each takes a field that nothing else reads, so that
 -- none can be emptied unseen.
--- Main statements: first-granted (grants), last-no-page (no page), within-figures (calls), none-withdrawn-late
--- (withdraws), chain-after (an operation run alone), earlier-first (real time), read_by_eleven (traces).
+-- Main statements: first_granted (grants), last_no_page (no page), within_figures (calls), none-withdrawn_late
+-- (withdraws), chain_after (an operation run alone), earlier_first (real time), read_by_eleven (traces).
 use mathlib.Core.Path.{◌≡◌, sym, ◌∙◌}
 use mathlib.Core.Logic.{◌≢◌}
 use mathlib.Core.Bool.{true, false, false≢true}

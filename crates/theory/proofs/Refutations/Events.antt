@@ -1,18 +1,18 @@
 -- Events that the definitions call wrong, beside those that they call right.
 -- Main statements: no_page_early, no_page_late, no_page_again (no page after an 11); withdrawn_early, withdrawn_late,
--- withdrawn-again (a withdraw after an 11); writes-begin, writes-step, writes-withdraw (which calls alter the map);
+-- withdrawn-again (a withdraw after an 11); writes_begin, writes-step, writes_withdraw (which calls alter the map);
 -- taken_told, taken_always (take-up).
 use mathlib.Core.Path.{◌≡◌, refl}
 use mathlib.Core.Bool.{Bool, true, false, ◌&&◌}
 use mathlib.Core.List.{List, [], ◌∷◌}
 use Prim.Native.Nat.{ℕ}
 use lib.Dec.{eqb}
+use Rattle.std.specs.Prelude.{Ok, Err}
+use Rattle.model.specs.declared.Refusal.{Refusal}
 use Rattle.model.specs.declared.Operation.{Operation}
 use Rattle.model.specs.declared.OperationAnswer.TheVariants as OperationAnswer
 use Rattle.model.specs.declared.StepAnswer.{StepAnswer}
-use Rattle.model.specs.declared.WithdrawAnswer.{WithdrawAnswer}
-use Rattle.model.specs.declared.BeginAnswer.{BeginAnswer}
-use Rattle.model.specs.Answers.{performs}
+use Rattle.model.specs.Answers.{performs, StepReply, CallReply}
 use Rattle.model.specs.Records.{idle}
 use Rattle.model.specs.Memory.{Memory, party_at}
 use Rattle.model.specs.Book.{empty_book}
@@ -48,12 +48,12 @@ no_page_again : no_page_kept none_wrote (inserts (moves 11 ∷ ends 14 Operation
 unfolding opened
 no_page_again = refl
 
-no_page_beside : no_page_kept none_wrote (inserts (happened (step_for 2) 11 (to_step StepAnswer.Moved) ∷ ends 14 OperationAnswer.NoPage ∷ [])) ≡ true
+no_page_beside : no_page_kept none_wrote (inserts (happened (step_for 2) 11 (to_step (Ok StepAnswer.Moved)) ∷ ends 14 OperationAnswer.NoPage ∷ [])) ≡ true
 unfolding opened
 no_page_beside = refl
 
 -- Nor is a begin that was refused the start of another operation.
-no_page_refused : no_page_kept none_wrote (inserts (moves 11 ∷ happened (begin_for 1 Operation.Find 5) 12 (to_begin (BeginAnswer.Refused 4)) ∷ ends 14 OperationAnswer.NoPage ∷ [])) ≡ false
+no_page_refused : no_page_kept none_wrote (inserts (moves 11 ∷ happened (begin_for 1 Operation.Find 5) 12 (to_begin (Err Refusal.Busy)) ∷ ends 14 OperationAnswer.NoPage ∷ [])) ≡ false
 unfolding opened
 no_page_refused = refl
 
@@ -106,7 +106,7 @@ taken_always = refl
 
 -- ---- A reply to a call of another kind says nothing of an 11, nor of no page
 
-module _ (w : ℕ → Bool) (q n : ℕ) (o : Operation) (k : ℕ) (b : BeginAnswer) (s : StepAnswer) (d : WithdrawAnswer) where
+module _ (w : ℕ → Bool) (q n : ℕ) (o : Operation) (k : ℕ) (b : CallReply) (s : StepReply) (d : CallReply) where
   pub others_write_none :
       wrote_after w (begin_for q o k) n (to_step s) ∷ wrote_after w (begin_for q o k) n (to_withdraw d) ∷ wrote_after w (step_for q) n (to_begin b) ∷ wrote_after w (step_for q) n (to_withdraw d) ∷ [] ≡ w ∷ w ∷ w ∷ w ∷ []
   unfolding wrote_after

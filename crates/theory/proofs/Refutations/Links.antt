@@ -1,5 +1,5 @@
 -- The link rule: pages followed after they were given back, and the clock that says so.
--- Main statements: given-noted, given-before, read-noted, read-before, old-noted, old-before, calls-counted (the clock,
+-- Main statements: given-noted, given_before, read_noted, read_before, old_noted, old_before, calls_counted (the clock,
 -- call by call); given-first, followed_first (9 beside 14), taken_back_first, read_back_first (9 beside a withdraw),
 -- clock_at_start.
 use mathlib.Core.Path.{◌≡◌, refl, ap}

@@ -6,6 +6,7 @@ use mathlib.Core.Bool.{true, false, cond}
 use mathlib.Core.List.{[], ◌∷◌}
 use Prim.Native.Nat.{ℕ}
 use lib.Dec.{eqb}
+use Rattle.std.specs.Prelude.{Ok}
 use Rattle.model.specs.declared.StepAnswer.TheVariants as StepAnswer
 use Rattle.model.specs.declared.OperationAnswer.TheVariants as OperationAnswer
 use Rattle.model.specs.declared.Restructuring.TheVariants as Restructuring
@@ -39,7 +40,7 @@ not-joined : merges_fit nothing_had (merging 26 0 0) (step_for 0 ∷ []) ≡ tru
 unfolding opened
 not-joined = refl
 
-its_reply : reply_to (merging 26 0 0) (step_for 0) ≡ to_step (StepAnswer.Done OperationAnswer.Deleted Restructuring.MergeSkipped)
+its_reply : reply_to (merging 26 0 0) (step_for 0) ≡ to_step (Ok (StepAnswer.Done OperationAnswer.Deleted Restructuring.MergeSkipped))
 unfolding opened
 its_reply = refl
 

@@ -8,8 +8,8 @@ unfolding Rattle.model.specs.Addresses.span Rattle.model.specs.Addresses.hash_of
     Rattle.model.specs.Addresses.merge_target Rattle.model.specs.Addresses.merge_level Rattle.model.specs.Addresses.split_barred Rattle.model.specs.Addresses.merge_barred
     Rattle.model.specs.Answers.operation_number Rattle.model.specs.Answers.setting_given Rattle.model.specs.Answers.answer_number Rattle.model.specs.Answers.answer_of
     Rattle.model.specs.Answers.found_or_absent Rattle.model.specs.Answers.setting_found Rattle.model.specs.Answers.same_answer Rattle.model.specs.Answers.restructuring_number
-    Rattle.model.specs.Answers.restructuring_of Rattle.model.specs.Answers.refusal_number Rattle.model.specs.Answers.begin_refusal Rattle.model.specs.Answers.withdraw_refusal
-    Rattle.model.specs.Answers.format_refusal Rattle.model.specs.Answers.is_moved Rattle.model.specs.Answers.performs Rattle.model.specs.Book.empty_book Rattle.model.specs.Book.changed_at
+    Rattle.model.specs.Answers.restructuring_of Rattle.model.specs.Answers.cause_number Rattle.model.specs.Answers.is_damage Rattle.model.specs.Answers.refusal_number
+    Rattle.model.specs.Answers.is_moved Rattle.model.specs.Answers.performs Rattle.model.specs.Book.empty_book Rattle.model.specs.Book.changed_at
     Rattle.model.specs.Book.enter Rattle.model.specs.Book.note_at_six Rattle.model.specs.Book.note_at_ten Rattle.model.specs.Book.note_at_eleven Rattle.model.specs.Book.contents_at_eleven
     Rattle.model.specs.Book.noted_if_find Rattle.model.specs.Book.note_step Rattle.model.specs.Book.note_for Rattle.model.specs.Book.after_reply Rattle.model.specs.Book.after_begin
     Rattle.model.specs.Book.after_withdraw Rattle.model.specs.Book.book_after Rattle.model.specs.Book.is_note Rattle.model.specs.Book.is_note_of Rattle.model.specs.Book.agrees_with
@@ -32,8 +32,8 @@ unfolding Rattle.model.specs.Addresses.span Rattle.model.specs.Addresses.hash_of
     Rattle.model.specs.Holds.gives_up_withdrawn Rattle.model.specs.Holds.holds_after_withdraw Rattle.model.specs.Holds.holds_after Rattle.model.specs.Holds.waits_in
     Rattle.model.specs.Holds.joins Rattle.model.specs.Holds.leaves Rattle.model.specs.Holds.waits_after_step Rattle.model.specs.Holds.waits_after_withdraw Rattle.model.specs.Holds.waits_after
     Rattle.model.specs.Holds.waits_before Rattle.model.specs.Holds.grant_right Rattle.model.specs.Holds.never_waits Rattle.model.specs.Holds.answer_right Rattle.model.specs.Holds.refused_with
-    Rattle.model.specs.Holds.begin_refused_with Rattle.model.specs.Holds.is_begun Rattle.model.specs.Holds.idle_right Rattle.model.specs.Holds.begin_right
-    Rattle.model.specs.Holds.withdraw_refused_with Rattle.model.specs.Holds.is_withdrawn Rattle.model.specs.Holds.withdraw_right Rattle.model.specs.Holds.step_right
+    Rattle.model.specs.Holds.idle_right Rattle.model.specs.Holds.begin_right
+    Rattle.model.specs.Holds.withdraw_right Rattle.model.specs.Holds.step_right
     Rattle.model.specs.Holds.call_right Rattle.model.specs.Holds.grants_right Rattle.model.specs.LockRequests.mode_of Rattle.model.specs.LockRequests.is_granted
     Rattle.model.specs.LockRequests.with_hold Rattle.model.specs.LockRequests.request Rattle.model.specs.LockRequests.is_held Rattle.model.specs.LockRequests.held_all
     Rattle.model.specs.LockRequests.without_hold Rattle.model.specs.LockRequests.given_up Rattle.model.specs.LockRequests.release Rattle.model.specs.LockWords.field_of
@@ -75,7 +75,7 @@ unfolding Rattle.model.specs.Addresses.span Rattle.model.specs.Addresses.hash_of
     Rattle.model.specs.TakeUp.locks_clear Rattle.model.specs.TakeUp.scratch_clear Rattle.model.specs.TakeUp.level_at Rattle.model.specs.TakeUp.all_home Rattle.model.specs.TakeUp.packed
     Rattle.model.specs.TakeUp.chain_fits Rattle.model.specs.TakeUp.fits_if_sound Rattle.model.specs.TakeUp.chains_fit Rattle.model.specs.TakeUp.chains_saved
     Rattle.model.specs.TakeUp.beyond_clear Rattle.model.specs.TakeUp.all_free Rattle.model.specs.TakeUp.free_if_sound Rattle.model.specs.TakeUp.free_saved Rattle.model.specs.TakeUp.each_once
-    Rattle.model.specs.TakeUp.pages_once Rattle.model.specs.TakeUp.row_clear Rattle.model.specs.TakeUp.is_saved Rattle.model.specs.TakeUp.take_up_rows Rattle.model.specs.TakeUp.take_up_answer
+    Rattle.model.specs.TakeUp.pages_once Rattle.model.specs.TakeUp.row_clear Rattle.model.specs.TakeUp.is_saved Rattle.model.specs.TakeUp.take_up_rows
     Rattle.model.specs.TakeUp.take_up_call Rattle.model.specs.TakeUp.records_saved Rattle.model.specs.TakeUp.open_book Rattle.model.specs.WaitingRow.requests
     Rattle.model.specs.WaitingRow.is_some Rattle.model.specs.WaitingRow.waiters_in Rattle.model.specs.WaitingRow.all_zero Rattle.model.specs.WaitingRow.none_twice
     Rattle.model.specs.WaitingRow.all_request Rattle.model.specs.WaitingRow.row_sound Rattle.model.specs.WaitingRow.conflicts Rattle.model.specs.WaitingRow.one_before

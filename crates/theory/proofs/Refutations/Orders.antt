@@ -1,7 +1,7 @@
 -- Operations in an order: places that are wrong, beside the right one; and what was added last.
 -- Main statements: placed; too_early, too_late, other_answer, other_step, not_last, not-begun (a find that looks
 -- twice); added_last, removed_since, other_insert, never_added (a setting found); orders_ascend, each_once_lem,
--- answers_told (whole orders); answered-stands, withdrawn-stands-not, found-came, stands_between, first-is-first (every
+-- answers_told (whole orders); answered_stands, withdrawn_stands_not, found_came, stands_between, first-is-first (every
 -- linearization).
 use mathlib.Core.Path.{◌≡◌, refl, sym, ap, ◌∙◌}
 use mathlib.Core.Bool.{Bool, true, false, false≢true}
@@ -11,11 +11,10 @@ use mathlib.Core.Option.{Option, none, some}
 use Prim.Native.Nat.{ℕ, ◌+◌, ◌<◌}
 use native.Mathlib.Omega.{arith}
 use lib.Dec.{leb}
+use Rattle.model.specs.Answers.{CallReply}
 use Rattle.model.specs.declared.Operation.{Operation}
 use Rattle.model.specs.declared.OperationAnswer.{OperationAnswer}
 use Rattle.model.specs.Entries.{entry_of}
-use Rattle.model.specs.declared.BeginAnswer.{BeginAnswer}
-use Rattle.model.specs.declared.WithdrawAnswer.{WithdrawAnswer}
 use Rattle.model.specs.Runs.{Call, step_for, to_begin, to_withdraw, Event, events}
 use Rattle.theory.specs.Demands.{Start, start}
 use Rattle.theory.specs.Linearization.{Ended, Operated, operations_of, event_at, Linearized, ascending_from, times_in, answers_in_order, step_marks, marks, is_before, Placed, IsOneOf, has_taken_effect, Linearization}
@@ -203,6 +202,6 @@ first-is-first s cs l x y zs e =
     omega (arith, next)
 
 -- A reply to a call of another kind marks nothing.
-pub others_mark_none : (q n j : ℕ) (x : BeginAnswer) (y : WithdrawAnswer) → step_marks q n (step_for j) (to_begin x) ∷ step_marks q n (step_for j) (to_withdraw y) ∷ [] ≡ false ∷ false ∷ []
+pub others_mark_none : (q n j : ℕ) (x : CallReply) (y : CallReply) → step_marks q n (step_for j) (to_begin x) ∷ step_marks q n (step_for j) (to_withdraw y) ∷ [] ≡ false ∷ false ∷ []
 unfolding step_marks
 others_mark_none q n j x y = refl

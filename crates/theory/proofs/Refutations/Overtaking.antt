@@ -2,7 +2,7 @@
 -- lock while an earlier request waits.
 -- Main statements: wait_begins to wait_of_another, moved_ends to other-ends (who waits, by the events); arrived,
 -- nobody-waits (the run up to the first wait); second_waits, third_wants, table-permits, third_held_back, row_then,
--- second_moves (nobody overtaken); not_waiting, earlier_waiting, wait_ended, other_word, both-read (each premise left
+-- second_moves (nobody overtaken); not_waiting, earlier_waiting, wait_ended, other_word, both_read (each premise left
 -- out: granted); conflict_told, reader_told, other_told, idle_told (what clashes); passed_twice, passed_by_each,
 -- moved_unpassed (how often one is passed); ledger_told, row_told.
 use mathlib.Core.Path.{◌≡◌, refl}
@@ -11,14 +11,15 @@ use mathlib.Core.List.{List, [], ◌∷◌, ◌++◌}
 use mathlib.Core.Option.{Option, none, some}
 use Prim.Native.Nat.{ℕ}
 use lib.ListN.{get_or, replicate}
+use Rattle.std.specs.Prelude.{Ok, Err}
+use Rattle.model.specs.declared.Refusal.{Refusal}
+use Rattle.model.specs.Answers.{StepReply}
 use Rattle.model.specs.declared.Root.{Root}
 use Rattle.model.specs.declared.Mode.TheVariants.{Read, Selective, Exclusive}
 use Rattle.model.specs.declared.Operation.TheVariants as Operation
 use Rattle.model.specs.declared.OperationAnswer.TheVariants as OperationAnswer
 use Rattle.model.specs.declared.Restructuring.TheVariants as Restructuring
 use Rattle.model.specs.declared.StepAnswer.{StepAnswer}
-use Rattle.model.specs.declared.BeginAnswer.TheVariants as BeginAnswer
-use Rattle.model.specs.declared.WithdrawAnswer.TheVariants as WithdrawAnswer
 use Rattle.model.specs.Records.{root_of_sizes, begun, at_step, insert_operation}
 use Rattle.model.specs.LockWords.{Claim, claim, permits}
 use Rattle.model.specs.Memory.{Memory, formatted}
@@ -33,14 +34,14 @@ use Rattle.theory.proofs.Refutations.Opened.{opened}
 abbrev told : Call → Reply → Event
 told c a = record { call = c; number = 4; reply = a }
 
-abbrev stepped : ℕ → StepAnswer → Event
+abbrev stepped : ℕ → StepReply → Event
 stepped q a = told (step_for q) (to_step a)
 
 abbrev waiting : ℕ → Event
-waiting q = stepped q StepAnswer.Waiting
+waiting q = stepped q (Ok StepAnswer.Waiting)
 
-abbrev is_done : StepAnswer
-is_done = StepAnswer.Done OperationAnswer.Absent Restructuring.None
+abbrev is_done : StepReply
+is_done = Ok (StepAnswer.Done OperationAnswer.Absent Restructuring.None)
 
 -- Whether party 1 waits after a waiting step of its own and one event more.
 abbrev still_waits : Event → Bool
@@ -54,7 +55,7 @@ wait_of_another : waits_on 1 false (waiting 2 ∷ []) ≡ false
 unfolding opened
 wait_of_another = refl
 
-moved_ends : still_waits (stepped 1 StepAnswer.Moved) ≡ false
+moved_ends : still_waits (stepped 1 (Ok StepAnswer.Moved)) ≡ false
 unfolding opened
 moved_ends = refl
 
@@ -62,20 +63,20 @@ done_ends : still_waits (stepped 1 is_done) ≡ false
 unfolding opened
 done_ends = refl
 
-withdrawn_ends : still_waits (told (withdraw_for 1) (to_withdraw WithdrawAnswer.Withdrawn)) ≡ false
+withdrawn_ends : still_waits (told (withdraw_for 1) (to_withdraw (Ok tt))) ≡ false
 unfolding opened
 withdrawn_ends = refl
 
 -- A refused call ends no wait, nor does another waiting call, nor what is another's.
-refused_ends_not : still_waits (told (withdraw_for 1) (to_withdraw (WithdrawAnswer.Refused 7))) ≡ true
+refused_ends_not : still_waits (told (withdraw_for 1) (to_withdraw (Err Refusal.Decided))) ≡ true
 unfolding opened
 refused_ends_not = refl
 
-begun_ends_not : still_waits (told (begin_for 1 Operation.Find 5) (to_begin (BeginAnswer.Refused 4))) ≡ true
+begun_ends_not : still_waits (told (begin_for 1 Operation.Find 5) (to_begin (Err Refusal.Busy))) ≡ true
 unfolding opened
 begun_ends_not = refl
 
-step_ends_not : still_waits (stepped 1 (StepAnswer.Refused 6)) ≡ true
+step_ends_not : still_waits (stepped 1 (Err Refusal.Damage)) ≡ true
 unfolding opened
 step_ends_not = refl
 
@@ -83,16 +84,16 @@ again_ends_not : still_waits (waiting 1) ≡ true
 unfolding opened
 again_ends_not = refl
 
-other_ends_not : still_waits (stepped 2 StepAnswer.Moved) ≡ true
+other_ends_not : still_waits (stepped 2 (Ok StepAnswer.Moved)) ≡ true
 unfolding opened
 other_ends_not = refl
 
 -- The same of a list in which a wait does not end.
-stays_on : wait_stays 1 (waiting 1 ∷ stepped 2 StepAnswer.Moved ∷ []) ≡ true
+stays_on : wait_stays 1 (waiting 1 ∷ stepped 2 (Ok StepAnswer.Moved) ∷ []) ≡ true
 unfolding opened
 stays_on = refl
 
-stays-not : wait_stays 1 (waiting 1 ∷ stepped 1 StepAnswer.Moved ∷ []) ≡ false
+stays-not : wait_stays 1 (waiting 1 ∷ stepped 1 (Ok StepAnswer.Moved) ∷ []) ≡ false
 unfolding opened
 stays-not = refl
 
@@ -132,7 +133,7 @@ nobody-waits = refl
 -- ---- Nobody overtaken
 
 -- The answer to party q's step after these calls.
-abbrev answer_after : List Call → ℕ → StepAnswer
+abbrev answer_after : List Call → ℕ → StepReply
 answer_after cs q = (step_call (final_memory there cs) q).answer
 
 abbrev want_after : List Call → ℕ → Option Claim
@@ -169,7 +170,7 @@ table-permits : permits (get_or (final_memory there freed).locks 1 0) Selective 
 unfolding opened
 table-permits = refl
 
-third_held_back : answer_after freed 2 ≡ StepAnswer.Waiting
+third_held_back : answer_after freed 2 ≡ Ok StepAnswer.Waiting
 unfolding opened
 third_held_back = refl
 
@@ -177,24 +178,24 @@ row_then : (final_memory there (freed ++ (step_for 2 ∷ []))).waiting ≡ 2 ∷
 unfolding opened
 row_then = refl
 
-second_moves : answer_after (freed ++ (step_for 2 ∷ [])) 1 ≡ StepAnswer.Moved
+second_moves : answer_after (freed ++ (step_for 2 ∷ [])) 1 ≡ Ok StepAnswer.Moved
 unfolding opened
 second_moves = refl
 
 -- ---- Each premise left out: then it is granted
 
 -- Party 1 wants the chain and does not wait.
-not_waiting : answer_after (withdraw_for 0 ∷ []) 2 ≡ StepAnswer.Moved
+not_waiting : answer_after (withdraw_for 0 ∷ []) 2 ≡ Ok StepAnswer.Moved
 unfolding opened
 not_waiting = refl
 
 -- Party 1 waited before party 2 did.
-earlier_waiting : answer_after (step_for 1 ∷ step_for 2 ∷ withdraw_for 0 ∷ []) 1 ≡ StepAnswer.Moved
+earlier_waiting : answer_after (step_for 1 ∷ step_for 2 ∷ withdraw_for 0 ∷ []) 1 ≡ Ok StepAnswer.Moved
 unfolding opened
 earlier_waiting = refl
 
 -- Party 1's wait ends.
-wait_ended : answer_after (freed ++ (withdraw_for 1 ∷ [])) 2 ≡ StepAnswer.Moved
+wait_ended : answer_after (freed ++ (withdraw_for 1 ∷ [])) 2 ≡ Ok StepAnswer.Moved
 unfolding opened
 wait_ended = refl
 
@@ -206,7 +207,7 @@ other_wanted : want_after anew 2 ≡ some (claim 0 Read)
 unfolding opened
 other_wanted = refl
 
-other_word : answer_after anew 2 ≡ StepAnswer.Moved
+other_word : answer_after anew 2 ≡ Ok StepAnswer.Moved
 unfolding opened
 other_word = refl
 
@@ -218,7 +219,7 @@ reader_wants : want_after reading 2 ≡ some (claim 1 Read)
 unfolding opened
 reader_wants = refl
 
-reader_passes : answer_after reading 2 ≡ StepAnswer.Moved
+reader_passes : answer_after reading 2 ≡ Ok StepAnswer.Moved
 unfolding opened
 reader_passes = refl
 

@@ -1,6 +1,6 @@
 -- What a call reads: which pages are shut, that memories which differ on them there are, and what is not alike.
--- Main statements: pages_told, open_told, overflow-is, primary-is-not, scratch-is-not (which pages are overflow pages);
--- shut-page (those that are not listed are shut); shut-rewritten (every memory differs, on a shut page, from another),
+-- Main statements: pages_told, open_told, overflow_is, primary_is-not, scratch_is-not (which pages are overflow pages);
+-- shut_page (those that are not listed are shut); shut_rewritten (every memory differs, on a shut page, from another),
 -- shut_unread (which a step that is accepted does not notice); open_differs, other_row, other_answer, open_left,
 -- shut_written (what is not alike); copy_leads (a copy); chains_unread, chains_read (a chain that does not read as sound).
 use mathlib.Core.Path.{◌≡◌, refl, ap, sym, ◌∙◌}
@@ -11,6 +11,8 @@ use Prim.Native.Nat.{ℕ, zero, suc, ◌+◌, ◌≤◌, ◌<◌}
 use native.Mathlib.Omega.{arith}
 use lib.ListN.{length}
 use lib.Dec.{leb}
+use Rattle.std.specs.Prelude.{Ok}
+use Rattle.model.specs.Answers.{StepReply}
 use Rattle.model.specs.declared.Root.{Root}
 use Rattle.model.specs.declared.StepAnswer.{StepAnswer}
 use Rattle.model.specs.Sizes.{page_words}
@@ -128,7 +130,7 @@ shut_differs d = counts_differ (sym (d.open= 1 refl))
 
 -- Another answer; an open page that is left otherwise; a shut page that is written.
 abbrev moving : Memory → Type 0
-moving m = ReadAlike [] (holding 5) (holding 5) (called StepAnswer.Moved (holding 5)) (called StepAnswer.Moved m)
+moving m = ReadAlike {A = StepReply} [] (holding 5) (holding 5) (called (Ok StepAnswer.Moved) (holding 5)) (called (Ok StepAnswer.Moved) m)
 
 alike : moving (holding 5)
 alike = record {
@@ -150,10 +152,10 @@ other_row a = row_longer a.waiting=
     row_longer : ◌≡◌ {A = List ℕ} (3 ∷ []) [] → ⊥
     row_longer e = let z : ◌≡◌ {A = ℕ} 1 0 = ap length e in omega arith
 
-other_answer : ReadAlike [] (holding 5) (holding 5) (called StepAnswer.Moved (holding 5)) (called StepAnswer.Waiting (holding 5)) → ⊥
+other_answer : ReadAlike {A = StepReply} [] (holding 5) (holding 5) (called (Ok StepAnswer.Moved) (holding 5)) (called (Ok StepAnswer.Waiting) (holding 5)) → ⊥
 other_answer a = moved-waits a.answer=
   where
-    moved-waits : StepAnswer.Waiting ≡ StepAnswer.Moved → ⊥
+    moved-waits : ◌≡◌ {A = StepReply} (Ok StepAnswer.Waiting) (Ok StepAnswer.Moved) → ⊥
     moved-waits e = let z : ◌≡◌ {A = Bool} true false = cc in false≢true (sym z)
 
 open_left : moving (holding 6) → ⊥

@@ -1,27 +1,26 @@
 -- What is no call, no look, no way in and no run: each wrong claim beside the right one that differs from it in one
 -- place, on memory that has no words; and on reachable memory that no step which performs leaves all as it was.
 -- Main statements: step_made and step_wrong, begin_made and begin_wrong, withdraw_made and withdraw_wrong; look_made
--- and look_wrong; bare_shut (no way into a run); call_left_out, event_made_up; look-right and
--- look-in-between (looks_right); performed-altered.
+-- and look_wrong; bare_shut (no way into a run); call_left_out, event_made_up; look_right and
+-- look_in_between (looks_right); performed_altered.
 use mathlib.Core.Path.{◌≡◌, refl, sym, ◌∙◌, ap}
 use mathlib.Core.Bool.{true, false, false≢true}
 use mathlib.Core.List.{List, [], ◌∷◌}
 use mathlib.Core.Option.{none, some}
 use Prim.Native.Nat.{ℕ}
 use native.Mathlib.Omega.{arith}
+use Rattle.std.specs.Prelude.{Ok, Err}
+use Rattle.model.specs.declared.Refusal.{Refusal}
 use Rattle.model.specs.declared.Operation.TheVariants as Operation
-use Rattle.model.specs.declared.BeginAnswer.{BeginAnswer}
 use Rattle.model.specs.declared.StepAnswer.{StepAnswer}
-use Rattle.model.specs.declared.WithdrawAnswer.{WithdrawAnswer}
-use Rattle.model.specs.declared.TakeUpAnswer.{TakeUpAnswer}
 use Rattle.model.specs.Sizes.{within_limits}
 use Rattle.model.specs.Records.{root_of_sizes}
 use Rattle.model.specs.Memory.{Memory, party_at}
 use Rattle.model.specs.Refusals.{first_cause, begin_rows, step_rows, withdraw_rows}
 use Rattle.model.specs.Calls.{Called, begin_call, step_call, withdraw_call}
-use Rattle.model.specs.Answers.{performs}
+use Rattle.model.specs.Answers.{performs, StepReply, refusal_number}
 use Rattle.model.specs.Effects.{AltersOwn, own_record, own_scratch, scratch_link, StepAlters}
-use Rattle.model.specs.TakeUp.{take_up_rows, take_up_answer, take_up_call}
+use Rattle.model.specs.TakeUp.{take_up_rows, take_up_call}
 use Rattle.model.specs.Runs.{Call, begin_for, step_for, withdraw_for, Reply, to_begin, to_step, to_withdraw, Event}
 use Rattle.model.specs.Book.{Book, empty_book, changed_at, with_entry}
 use Rattle.model.specs.Progress.{is_entered, under_way, some_below}
@@ -41,32 +40,32 @@ module _ {c : Call} {x y : Reply} (wrong : Made bare c x bare) (right : Made bar
   same_reply : x ≡ y
   same_reply = (made_once wrong right).0
 
-pub step_made : Made bare (step_for 0) (to_step (StepAnswer.Refused 2)) bare
+pub step_made : Made bare (step_for 0) (to_step (Err Refusal.Size)) bare
 unfolding step_call step_rows first_cause within_limits
-step_made = stepped 0 (StepAnswer.Refused 2) refl
+step_made = stepped 0 (Err Refusal.Size) refl
 
-pub step_wrong : Made bare (step_for 0) (to_step StepAnswer.Moved) bare → ⊥
+pub step_wrong : Made bare (step_for 0) (to_step (Ok StepAnswer.Moved)) bare → ⊥
 step_wrong w = let e = same_reply w step_made in let z : ◌≡◌ {A = ℕ} 0 1 = cc in omega arith
 
-pub begin_made : Made bare (begin_for 0 Operation.Find 0) (to_begin (BeginAnswer.Refused 2)) bare
+pub begin_made : Made bare (begin_for 0 Operation.Find 0) (to_begin (Err Refusal.Size)) bare
 unfolding begin_call begin_rows first_cause within_limits
-begin_made = begun 0 Operation.Find 0 (BeginAnswer.Refused 2) refl
+begin_made = begun 0 Operation.Find 0 (Err Refusal.Size) refl
 
-pub begin_wrong : Made bare (begin_for 0 Operation.Find 0) (to_begin BeginAnswer.Begun) bare → ⊥
+pub begin_wrong : Made bare (begin_for 0 Operation.Find 0) (to_begin (Ok tt)) bare → ⊥
 begin_wrong w = let e = same_reply w begin_made in let z : ◌≡◌ {A = ℕ} 0 1 = cc in omega arith
 
-pub withdraw_made : Made bare (withdraw_for 0) (to_withdraw (WithdrawAnswer.Refused 2)) bare
+pub withdraw_made : Made bare (withdraw_for 0) (to_withdraw (Err Refusal.Size)) bare
 unfolding withdraw_call withdraw_rows first_cause within_limits
-withdraw_made = withdrew 0 (WithdrawAnswer.Refused 2) refl
+withdraw_made = withdrew 0 (Err Refusal.Size) refl
 
-pub withdraw_wrong : Made bare (withdraw_for 0) (to_withdraw WithdrawAnswer.Withdrawn) bare → ⊥
+pub withdraw_wrong : Made bare (withdraw_for 0) (to_withdraw (Ok tt)) bare → ⊥
 withdraw_wrong w = let e = same_reply w withdraw_made in let z : ◌≡◌ {A = ℕ} 0 1 = cc in omega arith
 
-pub look_made : Looked bare (TakeUpAnswer.Refused 2) bare
-unfolding take_up_call take_up_rows take_up_answer first_cause within_limits
+pub look_made : Looked bare (Err Refusal.Size) bare
+unfolding take_up_call take_up_rows first_cause within_limits
 look_made = refl
 
-pub look_wrong : Looked bare TakeUpAnswer.TakenUp bare → ⊥
+pub look_wrong : Looked bare (Ok tt) bare → ⊥
 look_wrong w = let e = (looked_once bare w look_made).0 in let z : ◌≡◌ {A = ℕ} 0 1 = cc in omega arith
 
 -- No way leads into a run from it.
@@ -92,18 +91,18 @@ one_busy = with_entry empty_book 0 (some (record { operation = Operation.Find; k
 -- A look answered taken up is right where nobody is under way, and wrong where party 0 is.
 module _ (s : Start) where
   pub look_right : looks_right 1 empty_book (looked (start_taken s) ended) ≡ true
-  unfolding looks_right empty_book under_way some_below is_entered
+  unfolding looks_right refusal_number empty_book under_way some_below is_entered
   look_right = refl
 
   pub look_in_between : looks_right 1 one_busy (looked (start_taken s) ended) ≡ false
-  unfolding looks_right empty_book under_way some_below is_entered changed_at
+  unfolding looks_right refusal_number empty_book under_way some_below is_entered changed_at
   look_in_between = refl
 
 -- ---- Reachable memory
 
 -- No step that moved or is done leaves all memory as it was.
 module _ (s : Start) (cs : List Call) (q : ℕ) where
-  pub performed_altered : (a : StepAnswer) → performs a ≡ true → Made (Reached s cs) (step_for q) (to_step a) (Reached s cs) → ⊥
+  pub performed_altered : (a : StepReply) → performs a ≡ true → Made (Reached s cs) (step_for q) (to_step a) (Reached s cs) → ⊥
   performed_altered a moves w = go (Reached s cs) (run_alters s cs q) refl w
     where
       altered : (m : Memory) → AltersOwn m q → (step_call m q).memory ≡ m → ⊥
@@ -112,4 +111,4 @@ module _ (s : Start) (cs : List Call) (q : ℕ) where
 
       go : (m : Memory) → StepAlters m q → {m' : Memory} → m' ≡ m → Made m (step_for q) (to_step a) m' → ⊥
       go m alters same (stepped _ _ e) =
-          altered m (alters.performed (ap (λ (c : Called StepAnswer). performs c.answer) (sym e) ∙ moves)) (sym (ap (λ (c : Called StepAnswer). c.memory) e) ∙ same)
+          altered m (alters.performed (ap (λ (c : Called StepReply). performs c.answer) (sym e) ∙ moves)) (sym (ap (λ (c : Called StepReply). c.memory) e) ∙ same)

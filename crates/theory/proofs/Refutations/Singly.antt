@@ -7,6 +7,8 @@ use mathlib.Core.List.{List, [], ◌∷◌, map}
 use Prim.Native.Nat.{ℕ, ◌<◌}
 use lib.Dec.{ltb}
 use borrow.Author.Tests.{lt-ltb}
+use Rattle.std.specs.Prelude.{Ok}
+use Rattle.model.specs.Answers.{StepReply}
 use Rattle.model.specs.declared.Operation.{Operation}
 use Rattle.model.specs.declared.OperationAnswer.{OperationAnswer}
 use Rattle.model.specs.declared.Restructuring.TheVariants as Restructuring
@@ -21,14 +23,14 @@ use Rattle.theory.proofs.Refutations.Opened.{opened}
 abbrev wanted : Operation → ℕ → Wanted
 wanted o k = record { party = 1; operation = o; key = k }
 
-abbrev answered : OperationAnswer → StepAnswer
-answered a = StepAnswer.Done a Restructuring.None
+abbrev answered : OperationAnswer → StepReply
+answered a = Ok (StepAnswer.Done a Restructuring.None)
 
 -- A find of 7, an insert of 5 with setting 4 and a find of 5, where 7 is in with setting 9.
 abbrev three : List Wanted
 three = wanted Operation.Find 7 ∷ wanted (Operation.Insert 4) 5 ∷ wanted Operation.Find 5 ∷ []
 
-abbrev three_answered : OperationAnswer → OperationAnswer → OperationAnswer → List StepAnswer
+abbrev three_answered : OperationAnswer → OperationAnswer → OperationAnswer → List StepReply
 three_answered a b c = answered a ∷ answered b ∷ answered c ∷ []
 
 -- The right answers; another in each place; one too few; one too many.

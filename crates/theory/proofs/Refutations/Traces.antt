@@ -5,6 +5,8 @@ use mathlib.Core.Bool.{true, false}
 use mathlib.Core.List.{List, [], ◌∷◌, ◌++◌}
 use Prim.Native.Nat.{ℕ}
 use lib.ListN.{replicate}
+use Rattle.std.specs.Prelude.{Ok}
+use Rattle.model.specs.Answers.{StepReply}
 use Rattle.model.specs.declared.OperationAnswer.TheVariants as OperationAnswer
 use Rattle.model.specs.declared.Restructuring.TheVariants as Restructuring
 use Rattle.model.specs.declared.StepAnswer.{StepAnswer}
@@ -30,25 +32,25 @@ view = record {
 }
 
 -- In call 9; the scratch link was read in call 4, the old link in call 6.
-abbrev at : ℕ → StepAnswer → ℕ → Trace
+abbrev at : ℕ → StepReply → ℕ → Trace
 at k a next = trace_of 9 k view a next 4 6
 
-abbrev done : StepAnswer
-done = StepAnswer.Done OperationAnswer.Absent Restructuring.None
+abbrev done : StepReply
+done = Ok (StepAnswer.Done OperationAnswer.Absent Restructuring.None)
 
 traced :
-    at 6 StepAnswer.Moved 9
-    ∷ at 9 StepAnswer.Moved 9
+    at 6 (Ok StepAnswer.Moved) 9
+    ∷ at 9 (Ok StepAnswer.Moved) 9
     ∷ at 9 done 0
-    ∷ at 10 StepAnswer.Moved 11
-    ∷ at 10 StepAnswer.Moved 12
-    ∷ at 14 StepAnswer.Moved 15
-    ∷ at 17 StepAnswer.Moved 18
+    ∷ at 10 (Ok StepAnswer.Moved) 11
+    ∷ at 10 (Ok StepAnswer.Moved) 12
+    ∷ at 14 (Ok StepAnswer.Moved) 15
+    ∷ at 17 (Ok StepAnswer.Moved) 18
     ∷ at 17 done 0
-    ∷ at 26 StepAnswer.Moved 27
+    ∷ at 26 (Ok StepAnswer.Moved) 27
     ∷ at 26 done 0
-    ∷ at 29 StepAnswer.Moved 30
-    ∷ at 11 StepAnswer.Moved 12 ∷ []
+    ∷ at 29 (Ok StepAnswer.Moved) 30
+    ∷ at 11 (Ok StepAnswer.Moved) 12 ∷ []
     ≡ trace [] true false []
     ∷ trace (follow 4 4 ∷ []) true false []
     ∷ no_trace

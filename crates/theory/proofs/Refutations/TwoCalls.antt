@@ -2,8 +2,9 @@
 -- Main statement: second_refused.
 use mathlib.Core.Path.{refl}
 use mathlib.Core.List.{[], ◌∷◌}
+use Rattle.std.specs.Prelude.{Ok, Err}
+use Rattle.model.specs.declared.Refusal.{Refusal}
 use Rattle.model.specs.declared.Operation.TheVariants as Operation
-use Rattle.model.specs.declared.BeginAnswer.TheVariants as BeginAnswer
 use Rattle.model.specs.Records.{root_of_sizes}
 use Rattle.model.specs.Memory.{Memory, formatted}
 use Rattle.model.specs.Calls.{begin_call}
@@ -21,11 +22,11 @@ begin_find = begin_for 0 Operation.Find 0
 abbrev entered : Memory
 entered = (begin_call smallest 0 Operation.Find 0).memory
 
--- Each call is made on the memory that the one before it left: a second begin of the party is refused 4.
+-- Each call is made on the memory that the one before it left: a second begin of the party is refused Refusal.Busy.
 pub second_refused : Ran smallest (begin_find ∷ begin_find ∷ [])
-    (happened smallest begin_find (to_begin BeginAnswer.Begun) ∷ happened entered begin_find (to_begin (BeginAnswer.Refused 4)) ∷ []) entered
+    (happened smallest begin_find (to_begin (Ok tt)) ∷ happened entered begin_find (to_begin (Err Refusal.Busy)) ∷ []) entered
 unfolding opened
 second_refused =
-    let first : Made smallest begin_find (to_begin BeginAnswer.Begun) entered = begun 0 Operation.Find 0 BeginAnswer.Begun refl in
-    let second : Made entered begin_find (to_begin (BeginAnswer.Refused 4)) entered = begun 0 Operation.Find 0 (BeginAnswer.Refused 4) refl in
+    let first : Made smallest begin_find (to_begin (Ok tt)) entered = begun 0 Operation.Find 0 (Ok tt) refl in
+    let second : Made entered begin_find (to_begin (Err Refusal.Busy)) entered = begun 0 Operation.Find 0 (Err Refusal.Busy) refl in
     next first (next second ended)

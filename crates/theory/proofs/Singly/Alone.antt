@@ -1,7 +1,7 @@
 -- One party under way, alone: its requests are granted, its steps are not refused, and what is known of the file goes from step to step.
--- Main statements: Alone (nobody else is under way, and the live file is f); live-alone, file-alone, records-alone; Performed and performed (a step that is not refused), guarded_open,
--- checked_open; none_claimed, granted (a lock that the party does not hold itself is granted); many-alone,
--- written-linked (the overflow pages of live chains); alone-after, alone-moves and alone-on (the next step); Ends (a run that ends as the yardstick does), goes_on, comes-to-end.
+-- Main statements: Alone (nobody else is under way, and the live file is f); live-alone, file_alone, records_alone; Performed and performed (a step that is not refused), guarded_open,
+-- checked_open; none_claimed, granted (a lock that the party does not hold itself is granted); many_alone,
+-- written_linked (the overflow pages of live chains); alone_after, alone_moves and alone_on (the next step); Ends (a run that ends as the yardstick does), goes_on, comes_to_end.
 use mathlib.Core.Path.{◌≡◌, refl, sym, ap, ◌∙◌, subst}
 use mathlib.Core.Logic.{◌≢◌, ◌⊎◌, inl, inr}
 use mathlib.Core.Bool.{Bool, true, false, not, ◌||◌}
@@ -11,6 +11,7 @@ use Prim.Native.Nat.{ℕ, zero, suc, ◌+◌, ◌<◌}
 use native.Mathlib.Omega.{arith}
 use lib.ListN.{length, set, drop}
 use lib.Dec.{eqb, leb}
+use Rattle.std.specs.Prelude.{Ok}
 use Rattle.model.proofs.Laws.WaitingRow.{RowOk, alone_before_all, idle-asks-none}
 use Rattle.model.specs.WaitingRow.{row_after}
 use Rattle.model.specs.declared.Root.{Root}
@@ -21,7 +22,7 @@ use Rattle.model.specs.declared.Restructuring.{Restructuring}
 use Rattle.model.specs.declared.StepAnswer.{StepAnswer}
 use Rattle.model.specs.Sizes.{page_words, lock_words, within}
 use Rattle.model.specs.Records.{idle, with_free_list}
-use Rattle.model.specs.Answers.{refusal_number}
+use Rattle.model.specs.Answers.{refusal_number, StepReply, cause_number}
 use Rattle.model.specs.LockWords.{Claim}
 use Rattle.model.specs.Pages.{page_of, with_page, primary_page, scratch_page}
 use Rattle.model.specs.Filling.{pages_for}
@@ -76,7 +77,7 @@ pub record Alone (m : Memory) (b : Book) (q : ℕ) (p : Party) (f : File) (out :
 
 -- The memory after a step of party q: root, record, lock words and page words. The book after a step of the record p that goes on.
 abbrev pub left_at : Memory → ℕ → Root → Party → List ℕ → List ℕ → Memory
-left_at m q t x ls ps = record { root = t; parties = set m.parties q x; locks = ls; pages = ps; waiting = row_after q m.waiting StepAnswer.Moved }
+left_at m q t x ls ps = record { root = t; parties = set m.parties q x; locks = ls; pages = ps; waiting = row_after q m.waiting (Ok StepAnswer.Moved) }
 
 abbrev pub book_on : Book → ℕ → Party → Book
 book_on b q p = note_for b q (b.entries q) p.step
@@ -196,12 +197,12 @@ performed kept m b q p f out a k g e s =
 
 -- A step that is not refused passed its tests.
 pub guarded_open : (v : View) (t : Bool) (o : Outcome) → refusal_number (guarded v t o).answer ≡ 0 → guarded v t o ≡ o
-unfolding refusal_number
+unfolding refusal_number cause_number
 guarded_open v true o h = refl
 guarded_open v false o h = absurd (omega (arith, h))
 
 pub checked_open : {A : Type 0} (v : View) (c : Checked A) (g : A → Outcome) → refusal_number (checked v c g).answer ≡ 0 → (x : A) × (c ≡ sound x)
-unfolding refusal_number
+unfolding refusal_number cause_number
 checked_open v damaged g h = absurd (omega (arith, h))
 checked_open v (sound x) g h = (x, refl)
 
@@ -304,16 +305,16 @@ pub record Ends (m : Memory) (q : ℕ) (x : Finished) : Type 0 where
   pub whole : Whole (left_by m q moves)
 
 -- One step more at the start.
-pub goes_on : (m t : Memory) (q : ℕ) (x : Finished) → step_call m q ≡ called StepAnswer.Moved t → Ends t q x → Ends m q x
+pub goes_on : (m t : Memory) (q : ℕ) (x : Finished) → step_call m q ≡ called (Ok StepAnswer.Moved) t → Ends t q x → Ends m q x
 unfolding steps_of events event_of reply_to after_call replies_of moves_then final_memory
 goes_on m t q x e h =
     let more = steps_of q (suc h.moves) in
     record {
       moves = suc h.moves;
-      replies = ap (λ (c : Called StepAnswer). to_step c.answer ∷ replies_of (events c.memory more)) e ∙ ap (λ (l : List Reply). to_step StepAnswer.Moved ∷ l) h.replies;
-      leaves = ap (λ (c : Called StepAnswer). file_of (final_memory c.memory more).root (final_memory c.memory more)) e ∙ h.leaves;
-      rests = λ j. ap (λ (c : Called StepAnswer). party_at (final_memory c.memory more).parties j) e ∙ h.rests j;
-      whole = subst (λ (c : Called StepAnswer). Whole (final_memory c.memory more)) (sym e) h.whole;
+      replies = ap (λ (c : Called StepReply). to_step c.answer ∷ replies_of (events c.memory more)) e ∙ ap (λ (l : List Reply). to_step (Ok StepAnswer.Moved) ∷ l) h.replies;
+      leaves = ap (λ (c : Called StepReply). file_of (final_memory c.memory more).root (final_memory c.memory more)) e ∙ h.leaves;
+      rests = λ j. ap (λ (c : Called StepReply). party_at (final_memory c.memory more).parties j) e ∙ h.rests j;
+      whole = subst (λ (c : Called StepReply). Whole (final_memory c.memory more)) (sym e) h.whole;
     }
 
 -- The last step.
@@ -321,10 +322,10 @@ last : (m t : Memory) (q : ℕ) (x : Finished) → step_call m q ≡ called (don
 unfolding steps_of events event_of reply_to after_call replies_of moves_then final_memory
 last m t q x e l r w = record {
   moves = zero;
-  replies = ap (λ (c : Called StepAnswer). to_step c.answer ∷ []) e;
-  leaves = ap (λ (c : Called StepAnswer). file_of c.memory.root c.memory) e ∙ l;
-  rests = λ j. ap (λ (c : Called StepAnswer). party_at c.memory.parties j) e ∙ r j;
-  whole = subst (λ (c : Called StepAnswer). Whole c.memory) (sym e) w;
+  replies = ap (λ (c : Called StepReply). to_step c.answer ∷ []) e;
+  leaves = ap (λ (c : Called StepReply). file_of c.memory.root c.memory) e ∙ l;
+  rests = λ j. ap (λ (c : Called StepReply). party_at c.memory.parties j) e ∙ r j;
+  whole = subst (λ (c : Called StepReply). Whole c.memory) (sym e) w;
 }
 
 -- Where everybody is idle the file read is the one that holds the book's map.

@@ -1,5 +1,5 @@
 -- The file that a memory holds under the invariant: the live chains' records are the yardstick's file.
--- Main statements: live_file; live-holding (it holds exactly the book's map); file-read (it is the file read, where the live file extends as the root says);
+-- Main statements: live_file; live_holding (it holds exactly the book's map); file_read (it is the file read, where the live file extends as the root says);
 -- Whole (every overflow page is free or counted by the file); use_set, use_append, use_front (the pages counted, as chains change); live_pages.
 use mathlib.Core.Path.{◌≡◌, refl, sym, ap, ◌∙◌}
 use mathlib.Core.Bool.{Bool, true, false, cond}

@@ -1,6 +1,6 @@
 -- Insert and delete, alone: steps 10 to 14, and the split or merge that is owed, end as the yardstick says.
 -- Main statements: onward_file and changed_file (the yardstick, by what is owed and by what the operation makes of its chain), insert_is,
--- delete_is; unchanged-ends, from-12, from-11, from-10; insert_ends, delete_ends.
+-- delete_is; unchanged_ends, from_12, from_11, from_10; insert_ends, delete_ends.
 use mathlib.Core.Path.{◌≡◌, refl, sym, ap, ◌∙◌, subst}
 use mathlib.Core.Bool.{Bool, true, false, cond}
 use mathlib.Core.List.{List, [], ◌∷◌}

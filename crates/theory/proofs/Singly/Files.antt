@@ -2,7 +2,7 @@
 -- Main statements: Holding (a file that holds exactly this map, each key at its home), same_file (level, next and the
 -- map determine a file), held_home (a key's home has of it what the map has), map_held (its chains joined are the
 -- map); Rehomed, rehomed (a key's home after one split more);
--- holding-changed, holding-parted, holding-rejoined.
+-- holding_changed, holding_parted, holding_rejoined.
 use mathlib.Core.Path.{◌≡◌, refl, sym, ap, ◌∙◌, subst}
 use mathlib.Core.Logic.{◌≢◌}
 use mathlib.Core.Bool.{Bool, true, false, cond, not, false≢true}

@@ -1,7 +1,7 @@
 -- Files and the yardstick by the sizes given to format; what a file reached at rest holds.
--- Main statements: file_given, performed-given (the sizes given or the root's: the same); reached-holding (at rest the
--- file holds exactly the book's map), reached-map, reached-home, reached-reads;
--- start-file (format leaves the yardstick's first file).
+-- Main statements: file_given, performed-given (the sizes given or the root's: the same); reached_holding (at rest the
+-- file holds exactly the book's map), reached_map, reached_home, reached_reads;
+-- start_file (format leaves the yardstick's first file).
 use mathlib.Core.Path.{◌≡◌, refl, sym, ap, ◌∙◌, subst}
 use mathlib.Core.List.{List, []}
 use Prim.Native.Nat.{ℕ, ◌<◌}

@@ -1,5 +1,5 @@
 -- Leaving a changed chain, alone: old pages are given back at 13 and 14, and then the operation is done, or goes on to the split or merge it owes.
--- Main statements: Onward (what is asked of the run after 12, 14 or 22); ends-onward, goes-onward; from-thirteen; leaves-first (to 13 where there are old pages).
+-- Main statements: Onward (what is asked of the run after 12, 14 or 22); ends_onward, goes_onward; from_thirteen; leaves-first (to 13 where there are old pages).
 use mathlib.Core.Path.{◌≡◌, refl, sym, ap, ◌∙◌, subst}
 use mathlib.Core.Logic.{◌≢◌}
 use mathlib.Core.Bool.{true, cond, ◌&&◌}

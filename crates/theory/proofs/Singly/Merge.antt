@@ -1,5 +1,5 @@
 -- Merge, alone: steps 23 to 30 end as the yardstick's merge does.
--- Main statements: tested_open, sound_open (readings that were not refused); from-30 back to from-26; merge-ends.
+-- Main statements: tested_open, sound_open (readings that were not refused); from_30 back to from_26; merge_ends.
 use mathlib.Core.Path.{◌≡◌, refl, sym, ap, ◌∙◌, subst}
 use mathlib.Core.Logic.{◌≢◌}
 use mathlib.Core.Bool.{Bool, true, false, cond, not, ◌&&◌}
@@ -15,7 +15,7 @@ use Rattle.model.specs.declared.Mode.{Mode}
 use Rattle.model.specs.declared.OperationAnswer.{OperationAnswer}
 use Rattle.model.specs.declared.Restructuring.TheVariants as Restructuring
 use Rattle.model.specs.Records.{at_step, with_old, with_free_list}
-use Rattle.model.specs.Answers.{answer_of, refusal_number}
+use Rattle.model.specs.Answers.{answer_of, refusal_number, cause_number}
 use Rattle.model.specs.LockWords.{root_word, turned_selective}
 use Rattle.model.specs.Addresses.{chain_count, merge_target, merge_partner, merge_level, merge_barred}
 use Rattle.model.specs.declared.Entry.{Entry}
@@ -59,12 +59,12 @@ use Rattle.theory.proofs.Singly.Split.{ended, counts_same, chain_unclaimed}
 
 -- A step that is not refused passed a test inside a reading.
 pub tested_open : {A : Type 0} (v : View) (t : Bool) (c : Checked A) (g : A → Outcome) → refusal_number (checked v (cond t c damaged) g).answer ≡ 0 → cond t c damaged ≡ c
-unfolding refusal_number
+unfolding refusal_number cause_number
 tested_open v true c g h = refl
 tested_open v false c g h = absurd (omega (arith, h))
 
 pub sound_open : {A : Type 0} (v : View) (t : Bool) (x : A) (g : A → Outcome) → refusal_number (checked v (sound_if t x) g).answer ≡ 0 → sound_if t x ≡ sound x
-unfolding refusal_number
+unfolding refusal_number cause_number
 sound_open v true x g h = refl
 sound_open v false x g h = absurd (omega (arith, h))
 

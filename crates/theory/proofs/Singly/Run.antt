@@ -1,7 +1,7 @@
 -- Demand 2, run singly: after every list of calls that leaves nobody under way, an operation run from begin to done
 -- alone never waits, ends, answers as the sequential yardstick and as a plain map do and leaves level, next and every
 -- chain's records as one operation of the yardstick leaves them; and so a list of operations from formatted memory.
--- Main statements: begins-alone; find-run, insert-run, delete-run, run_ends (under the invariant); run-singly (one
+-- Main statements: begins_alone; find_run, insert_run, delete_run, run_ends (under the invariant); run_singly (one
 -- operation), list_singly (a list of them).
 use mathlib.Core.Path.{◌≡◌, refl, sym, ap, ◌∙◌, subst}
 use mathlib.Core.Bool.{true}
@@ -10,10 +10,10 @@ use Prim.Native.Nat.{ℕ, suc, ◌<◌}
 use native.Mathlib.Omega.{arith}
 use lib.ListN.{length}
 use lib.Dec.{ltb}
+use Rattle.std.specs.Prelude.{Ok}
 use Rattle.model.specs.declared.Operation.{Operation}
-use Rattle.model.specs.declared.BeginAnswer.{BeginAnswer}
 use Rattle.model.specs.Records.{begun}
-use Rattle.model.specs.Answers.{operation_number, setting_given}
+use Rattle.model.specs.Answers.{operation_number, setting_given, CallReply}
 use Rattle.model.specs.Memory.{Memory, party_at}
 use Rattle.model.specs.Calls.{Called, called, with_begun, begin_call}
 use Rattle.model.specs.Runs.{Call, Reply, to_begin, reply_to, after_call, event_of, events, final_memory}
@@ -46,7 +46,7 @@ use Rattle.theory.proofs.Singly.Change.{insert_ends, delete_ends}
 -- ---- An operation begun at rest
 
 module _ (m : Memory) (b : Book) (i : Inv m b) (rest : AtRest b) (q : ℕ) (in_row : q < m.root.parties) (o : Operation) (k : ℕ) where
-  pub begins : begin_call m q o k ≡ called BeginAnswer.Begun (with_begun m q o k)
+  pub begins : begin_call m q o k ≡ called (Ok tt) (with_begun m q o k)
   begins = (begin_order m q o k).none (within_limits_lem m.root i.limits) (lengths_fit_ok m b i) in_row (rw (idle_at_rest m b i rest q) refl)
 
   row_long : q < length m.parties
@@ -129,7 +129,7 @@ module _ (s : Start) (cs : List Call) (rest : AtRest (book_reached s cs)) (x : W
   in_row : x.party < (Reached s cs).root.parties
   in_row = omega (arith, limits.parties=)
 
-  begins_then : begin_call (Reached s cs) x.party x.operation x.key ≡ called BeginAnswer.Begun (with_begun (Reached s cs) x.party x.operation x.key)
+  begins_then : begin_call (Reached s cs) x.party x.operation x.key ≡ called (Ok tt) (with_begun (Reached s cs) x.party x.operation x.key)
   begins_then = begins m (book_reached s cs) (reached_inv s cs) rest q in_row o k
 
   -- The yardstick by the root's sizes is that by the sizes given.
@@ -147,14 +147,14 @@ module _ (s : Start) (cs : List Call) (rest : AtRest (book_reached s cs)) (x : W
   replies_are : replies_of (events (Reached s cs) (calls_alone x e.moves)) ≡ replies_alone e.moves (done_by (yardstick s cs x))
   unfolding calls_alone replies_alone events event_of reply_to after_call replies_of
   replies_are =
-      ap (λ (c : Called BeginAnswer). to_begin c.answer ∷ replies_of (events c.memory (steps_of q (suc e.moves)))) begins_then
-      ∙ ap (λ (l : List Reply). to_begin BeginAnswer.Begun ∷ l) e.replies
+      ap (λ (c : Called CallReply). to_begin c.answer ∷ replies_of (events c.memory (steps_of q (suc e.moves)))) begins_then
+      ∙ ap (λ (l : List Reply). to_begin (Ok tt) ∷ l) e.replies
 
   memory_is : Reached s (cs ++ calls_alone x e.moves) ≡ left_by (with_begun (Reached s cs) x.party x.operation x.key) x.party e.moves
   unfolding calls_alone final_memory after_call
   memory_is =
       final_append (start s) cs (calls_alone x e.moves)
-      ∙ ap (λ (c : Called BeginAnswer). final_memory c.memory (steps_of q (suc e.moves))) begins_then
+      ∙ ap (λ (c : Called CallReply). final_memory c.memory (steps_of q (suc e.moves))) begins_then
 
   leaves_file : file_reached s (cs ++ calls_alone x e.moves) ≡ (yardstick s cs x).file
   leaves_file =

@@ -1,5 +1,5 @@
 -- Split, alone: steps 15 to 22, then 13 and 14, end as the yardstick's split does.
--- Main statements: short_alone (the yardstick counts the free pages as the root does); ended (locks given up at the end); from-19, from-18, from-17; split-ends.
+-- Main statements: short_alone (the yardstick counts the free pages as the root does); ended (locks given up at the end); from_19, from_18, from_17; split_ends.
 use mathlib.Core.Path.{◌≡◌, refl, sym, ap, ◌∙◌, subst}
 use mathlib.Core.Logic.{◌≢◌}
 use mathlib.Core.Bool.{true, false, cond, not}

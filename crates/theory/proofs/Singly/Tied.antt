@@ -1,6 +1,6 @@
 -- The yardstick's own words mean what the words of the steps mean.
--- Main statements: needed_same (pages needed), count_same (n), home_same (the chain of a key), stay-same, go_same (the
--- halves), short_same (pages that are too few), split_same, merge_same; performed-same (every operation).
+-- Main statements: needed_same (pages needed), count_same (n), home_same (the chain of a key), stay_same, go_same (the
+-- halves), short_same (pages that are too few), split_same, merge_same; performed_same (every operation).
 use mathlib.Core.Path.{◌≡◌, refl, sym}
 use mathlib.Core.Bool.{Bool, true, false, cond, not}
 use mathlib.Core.List.{List, [], ◌∷◌}

@@ -1,5 +1,5 @@
 -- At rest every overflow page is free or in a live chain, so the free count is what the file leaves.
--- Main statements: idle-at-rest (at rest every record is the zero record); whole-at-rest.
+-- Main statements: idle_at_rest (at rest every record is the zero record); whole_at_rest.
 use mathlib.Core.Path.{◌≡◌, refl, ap, ◌∙◌}
 use mathlib.Core.Logic.{◌≢◌}
 use mathlib.Core.List.{List, [], ◌∷◌, ◌++◌}

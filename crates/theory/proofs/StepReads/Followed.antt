@@ -1,12 +1,13 @@
 -- WHAT A STEP FOLLOWS IS WHAT IT READS: of the overflow pages, a call of step that is not refused goes by those that its trace follows and the free pages that it takes, and by no other; nor does it
 -- write any other. It holds of every memory, sound or not. So the link rule (specs/Links.antt) speaks of every overflow page that a step reads, but for the free pages that it takes.
--- Main statements: reads_what_it_follows; its readings page by page, alike-stays and unlike-kept; followed_any_clock (the pages followed go by no clock).
+-- Main statements: reads_what_it_follows; its readings page by page, alike_stays and unlike_kept; followed_any_clock (the pages followed go by no clock).
 use mathlib.Core.Path.{◌≡◌, refl, sym, ap, ◌∙◌}
 use mathlib.Core.Logic.{◌≢◌}
 use mathlib.Core.Bool.{Bool, true, false, cond, not, false≢true}
 use mathlib.Core.List.{List, ◌++◌}
 use Prim.Native.Nat.{ℕ, ◌+◌, ◌≤◌, ◌<◌}
 use lib.Dec.{eqb, leb}
+use Rattle.std.specs.Prelude.{Ok, Err}
 use Rattle.model.specs.declared.Root.{Root}
 use Rattle.model.specs.declared.StepAnswer.{StepAnswer}
 use Rattle.model.specs.Pages.{page_of, link_of, primary_page}
@@ -17,7 +18,7 @@ use Rattle.model.specs.Refusals.{first_cause, lengths_fit, step_rows}
 use Rattle.model.specs.WaitingRow.{row_after}
 use Rattle.model.specs.Calls.{Called, stepped, step_call, called_by}
 use Rattle.theory.specs.Links.{Trace, chain_pages, list_pages, trace_nine, trace_fourteen, trace_twenty_nine, trace_of, Clock, clock_start, trace_of_step}
-use Rattle.model.specs.Answers.{is_moved, performs}
+use Rattle.model.specs.Answers.{is_moved, performs, StepReply}
 use Rattle.theory.specs.Reads.{is_accepted, pages_followed, followed_by, taken_by, read_by, is_overflow_page, is_open, DiffersOutside, step_after, StepAlike}
 use Rattle.model.specs.Steps.Dispatch.{step_of}
 use Rattle.model.proofs.Laws.Lists.{Told, holds, fails, tell, all_from, left_or, right_or, right_fails, among_append, lt-leb, le-ltb}
@@ -40,7 +41,7 @@ cond_pages true x y x' y' e f = e
 cond_pages false x y x' y' e f = f
 
 -- By whatever times, and whatever step comes next.
-any_times : (t t' n : ℕ) (v : View) (a : StepAnswer) (next next' s s' o o' : ℕ) → SamePages (trace_of t n v a next s o) (trace_of t' n v a next' s' o')
+any_times : (t t' n : ℕ) (v : View) (a : StepReply) (next next' s s' o o' : ℕ) → SamePages (trace_of t n v a next s o) (trace_of t' n v a next' s' o')
 unfolding trace_of trace_nine trace_fourteen trace_twenty_nine pages_followed
 any_times t t' n v a next next' s s' o o' =
     let cs = chain_pages v v.party.chain in
@@ -90,12 +91,12 @@ taken_open m q =
 
 -- ---- The call
 
-is_waiting_lem : (a : StepAnswer) → is_waiting a ≡ true → a ≡ StepAnswer.Waiting
+is_waiting_lem : (a : StepReply) → is_waiting a ≡ true → a ≡ Ok StepAnswer.Waiting
 unfolding is_waiting
-is_waiting_lem StepAnswer.Waiting h = refl
-is_waiting_lem StepAnswer.Moved h = absurd (false≢true h)
-is_waiting_lem (StepAnswer.Done a s) h = absurd (false≢true h)
-is_waiting_lem (StepAnswer.Refused n) h = absurd (false≢true h)
+is_waiting_lem (Ok StepAnswer.Waiting) h = refl
+is_waiting_lem (Ok StepAnswer.Moved) h = absurd (false≢true h)
+is_waiting_lem (Ok (StepAnswer.Done a s)) h = absurd (false≢true h)
+is_waiting_lem (Err n) h = absurd (false≢true h)
 
 module _ (m m' : Memory) (q : ℕ) (d : DiffersOutside (read_by m q) m m') where
   -- What the step meets, and the pages open to it.
@@ -118,7 +119,7 @@ module _ (m m' : Memory) (q : ℕ) (d : DiffersOutside (read_by m q) m m') where
   unfolding stepped
   stepped_beside = rw (d.parties=, d.root=, d.locks=, d.waiting=)
 
-  module _ (none : first_cause (step_rows m q) ≡ 0) where
+  module _ (none : first_cause (step_rows m q) ≡ Ok tt) where
     beside : Beside view m'.pages opens
     beside = record {
       ready = ready m q none;
@@ -134,13 +135,13 @@ module _ (m m' : Memory) (q : ℕ) (d : DiffersOutside (read_by m q) m m') where
 
     module _ (performed : performs (step_call m q).answer ≡ true) where
       step-performs : performs (step_of number view).answer ≡ true
-      step-performs = sym (ap (λ (c : Called StepAnswer). performs c.answer) now) ∙ performed
+      step-performs = sym (ap (λ (c : Called StepReply). performs c.answer) now) ∙ performed
 
       licence : Licence number view opens (step_of number view)
       unfolding followed_by taken_by trace_of_step
       licence =
           let v = view in
-          let a = ap (λ (c : Called StepAnswer). c.answer) now in
+          let a = ap (λ (c : Called StepReply). c.answer) now in
           let f : followed_by m q ≡ pages_followed (trace_of 0 number v (step_of number v).answer 0 0 0).follows =
           rw (performed, a) (any_times _ 0 number v (step_of number v).answer _ 0 _ 0 _ 0) in
           record {
@@ -157,8 +158,8 @@ module _ (m m' : Memory) (q : ℕ) (d : DiffersOutside (read_by m q) m m') where
       call_alike : StepAlike m m' q
       call_alike =
           let k = reads_same.alike in
-          let e : step_after m q ≡ (called_by m q (step_of number view)).memory = ap (λ (c : Called StepAnswer). c.memory) now in
-          let e' : step_after m' q ≡ (called_by m q (outcome (step_of number view).answer (with_pages reads_same.pages' (step_of number view).after))).memory = ap (λ (c : Called StepAnswer). c.memory) beside_call in
+          let e : step_after m q ≡ (called_by m q (step_of number view)).memory = ap (λ (c : Called StepReply). c.memory) now in
+          let e' : step_after m' q ≡ (called_by m q (outcome (step_of number view).answer (with_pages reads_same.pages' (step_of number view).after))).memory = ap (λ (c : Called StepReply). c.memory) beside_call in
           record {
             answer= = rw (beside_call, now);
             root= = rw (e', e);
@@ -172,13 +173,13 @@ module _ (m m' : Memory) (q : ℕ) (d : DiffersOutside (read_by m q) m m') where
           }
 
     -- A call that waits: nothing is altered, and beside it nothing either.
-    module _ (waiting : (step_call m q).answer ≡ StepAnswer.Waiting) where
+    module _ (waiting : (step_call m q).answer ≡ Ok StepAnswer.Waiting) where
       step_waits : is_waiting (step_of number (with_pages m'.pages view)).answer ≡ true
       unfolding is_waiting
-      step_waits = (waits_beside view m'.pages).go (ap (λ (c : Called StepAnswer). is_waiting c.answer) (sym now) ∙ ap is_waiting waiting)
+      step_waits = (waits_beside view m'.pages).go (ap (λ (c : Called StepReply). is_waiting c.answer) (sym now) ∙ ap is_waiting waiting)
 
-      waits_too : (step_call m' q).answer ≡ StepAnswer.Waiting
-      waits_too = ap (λ (c : Called StepAnswer). c.answer) (step-accepted m' q (ap first_cause same_rows ∙ none) ∙ stepped_beside) ∙ is_waiting_lem _ step_waits
+      waits_too : (step_call m' q).answer ≡ Ok StepAnswer.Waiting
+      waits_too = ap (λ (c : Called StepReply). c.answer) (step-accepted m' q (ap first_cause same_rows ∙ none) ∙ stepped_beside) ∙ is_waiting_lem _ step_waits
 
       waiting_alike : StepAlike m m' q
       unfolding performs
@@ -202,12 +203,12 @@ pub reads_what_it_follows : (m m' : Memory) (q : ℕ) → is_accepted (step_call
 unfolding is_accepted performs
 reads_what_it_follows m m' q accepted d = go (tested m q) (step_call m q).answer refl
   where
-    go : Tested m q → (a : StepAnswer) → (step_call m q).answer ≡ a → StepAlike m m' q
-    go (turned_away c e) a f = absurd (false≢true (sym (ap (λ (c : Called StepAnswer). is_accepted c.answer) e) ∙ accepted))
-    go (let_through z e) StepAnswer.Waiting f = waiting_alike m m' q d z f
-    go (let_through z e) StepAnswer.Moved f = call_alike m m' q d z (ap performs f)
-    go (let_through z e) (StepAnswer.Done a s) f = call_alike m m' q d z (ap performs f)
-    go (let_through z e) (StepAnswer.Refused n) f = absurd (false≢true (sym (ap is_accepted f) ∙ accepted))
+    go : Tested m q → (a : StepReply) → (step_call m q).answer ≡ a → StepAlike m m' q
+    go (turned_away c e) a f = absurd (false≢true (sym (ap (λ (c : Called StepReply). is_accepted c.answer) e) ∙ accepted))
+    go (let_through z e) (Ok StepAnswer.Waiting) f = waiting_alike m m' q d z f
+    go (let_through z e) (Ok StepAnswer.Moved) f = call_alike m m' q d z (ap performs f)
+    go (let_through z e) (Ok (StepAnswer.Done a s)) f = call_alike m m' q d z (ap performs f)
+    go (let_through z e) (Err n) f = absurd (false≢true (sym (ap is_accepted f) ∙ accepted))
 
 -- ---- Page by page
 

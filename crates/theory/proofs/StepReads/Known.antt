@@ -1,7 +1,7 @@
 -- How the pages that a walk lists are known: the first by the link that it starts from, each other off the page before
 -- it. And pages given back are free; and where the link of a chain built beside the file leads.
--- Main statements: Stepping, list-stepping, chain-stepping, chain-links; now-known, chain-known, walked-known,
--- back-known, known-append; given_freed, none_more; ScratchLink, built_link.
+-- Main statements: Stepping, list_stepping, chain_stepping, chain_links; now_known, chain_known, walked_known,
+-- back_known, known_append; given_freed, none_more; ScratchLink, built_link.
 use mathlib.Core.Path.{◌≡◌, refl, sym, ap, ◌∙◌}
 use mathlib.Core.Logic.{◌⊎◌, inl, inr}
 use mathlib.Core.Bool.{true, false≢true}

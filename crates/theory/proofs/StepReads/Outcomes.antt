@@ -1,6 +1,6 @@
 -- A step on its view and on the page memory beside it: one outcome but for the pages, which are alike, if the pages that it follows and takes are open.
 -- Main definitions: Licence (those pages are open), Same (the outcome beside), Reads (a step that performs, with its licence). Main statements: the ways in which steps are put together, each
--- on both page memories (guarded-reads, checked-reads, request-reads, release-reads, ended-reads, onward-reads, taking-reads, built_alike, ...).
+-- on both page memories (guarded_reads, checked_reads, request_reads, release_reads, ended_reads, onward_reads, taking_reads, built_alike, ...).
 use mathlib.Core.Path.{◌≡◌, refl}
 use mathlib.Core.Bool.{Bool, true, false, cond, false≢true}
 use mathlib.Core.List.{List, [], ◌∷◌}

@@ -1,5 +1,5 @@
 -- A reading goes by the pages that it lists: what was read of one page memory is read of every other that agrees with it on those pages.
--- Main statements: if_known, then_known, from_sound (readings that met no damage); list-alike, chain-alike, pair-alike, merged-alike (links followed), taken-alike (free pages taken).
+-- Main statements: if_known, then_known, from_sound (readings that met no damage); list_alike, chain_alike, pair_alike, merged_alike (links followed), taken_alike (free pages taken).
 use mathlib.Core.Path.{◌≡◌, refl}
 use mathlib.Core.Bool.{Bool, true, false, not, ◌&&◌}
 use mathlib.Core.List.{List, [], ◌∷◌, ◌++◌}

@@ -9,12 +9,13 @@ use Prim.Native.Nat.{ℕ, ◌+◌, ◌-◌}
 use native.Mathlib.Omega.{arith}
 use lib.ListN.{length}
 use lib.Dec.{eqb, leb, ltb}
+use Rattle.std.specs.Prelude.{Ok}
 use Rattle.model.specs.declared.Party.{Party}
 use Rattle.model.specs.declared.OperationAnswer.{OperationAnswer}
 use Rattle.model.specs.declared.Restructuring.{Restructuring}
 use Rattle.model.specs.declared.StepAnswer.{StepAnswer}
 use Rattle.model.specs.Records.{idle, at_step}
-use Rattle.model.specs.Answers.{answer_of, restructuring_of, is_moved, performs, found_or_absent}
+use Rattle.model.specs.Answers.{answer_of, restructuring_of, is_moved, performs, found_or_absent, StepReply}
 use Rattle.model.specs.LockWords.{Claim}
 use Rattle.model.specs.Addresses.{split_barred, count_of_chains}
 use Rattle.model.specs.Entries.{has_key, shares_key, setting_in}
@@ -83,7 +84,7 @@ abbrev OldKept : View → Party → Type 0
 OldKept v p = (p.old ≡ v.party.old) ⊎ (p.old ≡ 0)
 
 module _ (t s w : ℕ) (v : View) where
-  truth : (a : StepAnswer) (u : View) (tr : Trace) → Basis t s w v tr u → OldKept v u.party → scratch_open u.party.step ≡ false → Truth t s w v (outcome a u) tr
+  truth : (a : StepReply) (u : View) (tr : Trace) → Basis t s w v tr u → OldKept v u.party → scratch_open u.party.step ≡ false → Truth t s w v (outcome a u) tr
   truth a u tr b k n = record {
     known = b.known;
     old_read_ok = λ h. absurd (not-both tr.into_old h b.no_old);
@@ -115,23 +116,23 @@ module _ (t s w : ℕ) (v : View) where
     checked_tells (sound a) f g = g a refl
 
     -- The trace is tr, whatever the answer and the next step.
-    module _ (tr : Trace) (steady : (a : StepAnswer) (next : ℕ) → trace_of t n v a next s w ≡ tr) where
-      steady_tells : (a : StepAnswer) (u : View) → Basis t s w v tr u → OldKept v u.party → scratch_open u.party.step ≡ false → Tells t s w n v (outcome a u)
+    module _ (tr : Trace) (steady : (a : StepReply) (next : ℕ) → trace_of t n v a next s w ≡ tr) where
+      steady_tells : (a : StepReply) (u : View) → Basis t s w v tr u → OldKept v u.party → scratch_open u.party.step ≡ false → Tells t s w n v (outcome a u)
       steady_tells a u b k d = record { go = λ p. rw (steady a u.party.step) (truth a u tr b k d) }
 
       done_tells : (a : OperationAnswer) (r : Restructuring) (u : View) → Basis t s w v tr (with_scratch zero_page u) → Tells t s w n v (done a r u)
-      done_tells a r u b = steady_tells (StepAnswer.Done a r) (with_party idle (with_scratch zero_page u)) (record { known = b.known; no_old = b.no_old; no_scratch = b.no_scratch; given = b.given; freed = b.freed }) (inr refl) refl
+      done_tells a r u b = steady_tells (Ok (StepAnswer.Done a r)) (with_party idle (with_scratch zero_page u)) (record { known = b.known; no_old = b.no_old; no_scratch = b.no_scratch; given = b.given; freed = b.freed }) (inr refl) refl
 
       onward_tells : (u : View) → Basis t s w v tr u → Basis t s w v tr (with_scratch zero_page u) → OldKept v u.party → Tells t s w n v (onward u)
       unfolding onward finished
       onward_tells u b c k =
           let on : (j : ℕ) → Basis t s w v tr (with_party (at_step j u.party) u) = λ j. record { known = b.known; no_old = b.no_old; no_scratch = b.no_scratch; given = b.given; freed = b.freed } in
-          cond_ind (Tells t s w n v) (eqb u.party.owed 1) _ _ (λ _. steady_tells StepAnswer.Moved (with_party (at_step 15 u.party) u) (on 15) k refl)
-          (λ _. cond_ind (Tells t s w n v) (eqb u.party.owed 2) _ _ (λ _. steady_tells StepAnswer.Moved (with_party (at_step 23 u.party) u) (on 23) k refl)
+          cond_ind (Tells t s w n v) (eqb u.party.owed 1) _ _ (λ _. steady_tells (Ok StepAnswer.Moved) (with_party (at_step 15 u.party) u) (on 15) k refl)
+          (λ _. cond_ind (Tells t s w n v) (eqb u.party.owed 2) _ _ (λ _. steady_tells (Ok StepAnswer.Moved) (with_party (at_step 23 u.party) u) (on 23) k refl)
           (λ _. done_tells (answer_of u.party.answer) (restructuring_of u.party.owed) u c))
 
     -- An end with locks given up, whose trace is tr.
-    ended-as : (tr : Trace) → ((a : OperationAnswer) (r : Restructuring) → trace_of t n v (StepAnswer.Done a r) 0 s w ≡ tr)
+    ended-as : (tr : Trace) → ((a : OperationAnswer) (r : Restructuring) → trace_of t n v (Ok (StepAnswer.Done a r)) 0 s w ≡ tr)
         → ((u : View) → u.root.free - v.root.free ≡ 0 → Basis t s w v tr u) → (cs : List Claim) (r : Restructuring) → Tells t s w n v (ended_with v cs r)
     unfolding ended_with
     ended-as tr e f cs r =
@@ -154,7 +155,7 @@ cond_skip : {A : Type 0} (a b : Bool) (x y z : A) → (a || b) ≡ false → (b 
 cond_skip true b x y z e f = absurd (true≢false e)
 cond_skip false b x y z e f = f e
 
-no_trace_lem : (n : ℕ) → has_trace n ≡ false → (t s w : ℕ) (v : View) (a : StepAnswer) (next : ℕ) → trace_of t n v a next s w ≡ no_trace
+no_trace_lem : (n : ℕ) → has_trace n ≡ false → (t s w : ℕ) (v : View) (a : StepReply) (next : ℕ) → trace_of t n v a next s w ≡ no_trace
 unfolding trace_of
 no_trace_lem n q t s w v a next =
     cond_skip (eqb n 6) _ _ _ _ q (λ q. cond_skip (eqb n 9) _ _ _ _ q (λ q. cond_skip (eqb n 10) _ _ _ _ q (λ q. cond_skip (eqb n 14) _ _ _ _ q
@@ -169,7 +170,7 @@ module _ (n : ℕ) (q : has_trace n ≡ false) (t s w : ℕ) (v : View) where
   quiet_move : (u : View) → Moves v n u → Truth t s w v (moved u) no_trace
   unfolding writes_table next_table is_among
   quiet_move u m =
-      truth t s w v StepAnswer.Moved u no_trace (quiet_basis t s w v u (no_more_free u m.kept)) (inl (rw (none-writes has_trace old_word refl n q) at (ap (λ (x : Kept). x.old) m.kept)))
+      truth t s w v (Ok StepAnswer.Moved) u no_trace (quiet_basis t s w v u (no_more_free u m.kept)) (inl (rw (none-writes has_trace old_word refl n q) at (ap (λ (x : Kept). x.old) m.kept)))
       (not-true _ (rw q at (every_next (λ j i. has_trace j || not (scratch_open i)) refl refl v.party.operation n u.party.step m.next)))
 
   quiet_exit : (o : Outcome) → Exit v n o → performs o.answer ≡ true → Truth t s w v o no_trace
@@ -258,7 +259,7 @@ unfolding is_among
 looked_basis t s w v u xs k e = record { known = k; no_old = refl; no_scratch = refl; given = e; freed = λ x h. absurd (false≢true h) }
 
 -- Looked through, and its link read into the record.
-looked_read : (t s w : ℕ) (v u : View) (a : StepAnswer) (xs : List ℕ) → EachKnown v t s w (read_now t xs) → u.root.free - v.root.free ≡ 0
+looked_read : (t s w : ℕ) (v u : View) (a : StepReply) (xs : List ℕ) → EachKnown v t s w (read_now t xs) → u.root.free - v.root.free ≡ 0
     → u.party.old ≡ link_of (page_of v.pages (primary_page v.party.chain)) → scratch_open u.party.step ≡ false → Truth t s w v (outcome a u) (trace_looked t xs true)
 unfolding is_among
 looked_read t s w v u a xs k e l d = record {

@@ -6,14 +6,14 @@ use mathlib.Core.Bool.{true, false≢true}
 use Prim.Native.Nat.{ℕ, ◌+◌}
 use native.Mathlib.Omega.{arith}
 use lib.ListN.{set}
+use Rattle.std.specs.Prelude.{Ok}
 use Rattle.model.specs.declared.Party.{Party}
-use Rattle.model.specs.declared.StepAnswer.{StepAnswer}
 use Rattle.model.specs.Outcome.{View, Outcome}
 use Rattle.model.specs.Memory.{Memory, party_at, view_of}
 use Rattle.model.specs.Refusals.{first_cause, step_rows}
 use Rattle.model.specs.Calls.{Called, stepped, step_call, called_by}
 use Rattle.theory.specs.Links.{Trace, trace_of, Clock, trace_of_step}
-use Rattle.model.specs.Answers.{performs}
+use Rattle.model.specs.Answers.{performs, StepReply}
 use Rattle.model.specs.Effects.{record_after}
 use Rattle.theory.specs.Reads.{taken_by, step_after, ScratchTold, copied, made, TraceTrue}
 use Rattle.model.specs.Steps.Dispatch.{step_of}
@@ -25,7 +25,7 @@ use Rattle.theory.proofs.Alters.{Tested, turned_away, let_through, tested}
 use Rattle.theory.proofs.StepReads.Known.{ScratchLink, copied_link, made_link}
 use Rattle.theory.proofs.StepReads.StepTraces.{Truth, step_tells}
 
-module _ (k : Clock) (m : Memory) (q : ℕ) (performed : performs (step_call m q).answer ≡ true) (none : first_cause (step_rows m q) ≡ 0) (accepted : step_call m q ≡ stepped m q) where
+module _ (k : Clock) (m : Memory) (q : ℕ) (performed : performs (step_call m q).answer ≡ true) (none : first_cause (step_rows m q) ≡ Ok tt) (accepted : step_call m q ≡ stepped m q) where
   -- What the step meets, and its outcome.
   abbrev view : View
   view = view_of m q
@@ -41,10 +41,10 @@ module _ (k : Clock) (m : Memory) (q : ℕ) (performed : performs (step_call m q
   now = accepted
 
   step-performs : performs out.answer ≡ true
-  step-performs = sym (ap (λ (c : Called StepAnswer). performs c.answer) now) ∙ performed
+  step-performs = sym (ap (λ (c : Called StepReply). performs c.answer) now) ∙ performed
 
   memory_then : step_after m q ≡ (called_by m q out).memory
-  memory_then = ap (λ (c : Called StepAnswer). c.memory) now
+  memory_then = ap (λ (c : Called StepReply). c.memory) now
 
   -- The party's own record.
   number_kept : out.after.number ≡ q
@@ -61,7 +61,7 @@ module _ (k : Clock) (m : Memory) (q : ℕ) (performed : performs (step_call m q
 
   trace_then_ok : trace_of_step k m q ≡ trace_of (k.calls + 1) number view out.answer out.after.party.step (k.scratch_read q) (k.old_read q)
   unfolding trace_of_step
-  trace_then_ok = rw (performed, ap (λ (c : Called StepAnswer). c.answer) now, ap (λ (p : Party). p.step) record_then)
+  trace_then_ok = rw (performed, ap (λ (c : Called StepReply). c.answer) now, ap (λ (p : Party). p.step) record_then)
 
   told : Truth (k.calls + 1) (k.scratch_read q) (k.old_read q) view out (trace_of (k.calls + 1) number view out.answer out.after.party.step (k.scratch_read q) (k.old_read q))
   told = (step_tells number (k.calls + 1) (k.scratch_read q) (k.old_read q) view (ready m q none)).go step-performs
@@ -93,5 +93,5 @@ unfolding performs
 true-trace k m q performed = go (tested m q)
   where
     go : Tested m q → TraceTrue k m q
-    go (turned_away c e) = absurd (false≢true (sym (ap (λ (c : Called StepAnswer). performs c.answer) e) ∙ performed))
+    go (turned_away c e) = absurd (false≢true (sym (ap (λ (c : Called StepReply). performs c.answer) e) ∙ performed))
     go (let_through z e) = trace-true k m q performed z e

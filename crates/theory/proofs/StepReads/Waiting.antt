@@ -6,6 +6,8 @@ use mathlib.Core.List.{List}
 use mathlib.Core.Option.{Option, none, some}
 use Prim.Native.Nat.{ℕ}
 use native.Mathlib.Omega.{arith}
+use Rattle.std.specs.Prelude.{Ok, Err}
+use Rattle.model.specs.Answers.{StepReply}
 use Rattle.model.specs.declared.StepAnswer.{StepAnswer}
 use Rattle.model.specs.LockWords.{Claim}
 use Rattle.model.specs.Outcome.{View, Outcome, with_pages}
@@ -15,11 +17,11 @@ use Rattle.model.proofs.Exits.Statement.{Exit, refusing, waiting, taking, moving
 use Rattle.model.proofs.Exits.{step_exits}
 
 -- Whether an answer is waiting.
-unfoldable pub is_waiting : StepAnswer → Bool
-is_waiting StepAnswer.Waiting = true
-is_waiting StepAnswer.Moved = false
-is_waiting (StepAnswer.Done a s) = false
-is_waiting (StepAnswer.Refused n) = false
+unfoldable pub is_waiting : StepReply → Bool
+is_waiting (Ok StepAnswer.Waiting) = true
+is_waiting (Ok StepAnswer.Moved) = false
+is_waiting (Ok (StepAnswer.Done a s)) = false
+is_waiting (Err n) = false
 
 -- The outcome o waits, and so does o'.
 pub record Waits (o o' : Outcome) : Type 0 where

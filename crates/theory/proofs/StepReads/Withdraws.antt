@@ -8,8 +8,10 @@ use Prim.Native.Nat.{ℕ, ◌+◌, ◌-◌}
 use native.Mathlib.Omega.{arith}
 use lib.ListN.{length, length-reverse}
 use lib.Dec.{eqb}
+use Rattle.std.specs.Prelude.{Ok}
+use Rattle.model.proofs.Laws.Answers.{not_refused}
+use Rattle.model.specs.Answers.{CallReply}
 use Rattle.model.specs.WaitingRow.{row_left, row_without}
-use Rattle.model.specs.declared.WithdrawAnswer.{WithdrawAnswer}
 use Rattle.model.specs.Pages.{page_of, link_of, page_sound, scratch_page, zero_page}
 use Rattle.model.specs.Chains.{Checked, damaged, sound, list_from, pages_listed}
 use Rattle.model.specs.FreeList.{is_among, room_to_give_back, given_back}
@@ -34,7 +36,7 @@ use Rattle.model.proofs.Theorems.Gate.{withdraw_ready}
 use Rattle.model.proofs.Effects.GiveUps.{given_up_alike}
 use Rattle.model.proofs.Steps.Withdraw.{left_by, taken_back_is}
 use Rattle.model.proofs.Exits.Scratches.{IfSound, sound_link, has_page}
-use Rattle.theory.proofs.Withdraws.{WithdrawTested, turned_away, let_through, withdraw_tested, built_overflow, withdrawn-not_refused, back_long}
+use Rattle.theory.proofs.Withdraws.{WithdrawTested, turned_away, let_through, withdraw_tested, built_overflow, back_long}
 use Rattle.theory.proofs.StepReads.Readings.{from_sound, ListRead, list_alike}
 use Rattle.theory.proofs.StepReads.Writings.{Beside, Alike, Open, open_same, alike_start, alike_written, alike_given, head_alike}
 use Rattle.theory.proofs.StepReads.Outcomes.{held_beside}
@@ -76,9 +78,9 @@ module _ (v : View) where
 -- ---- The call
 
 -- Accepted, with the pages xs built.
-module _ (m : Memory) (q : ℕ) (xs : List ℕ) (none : first_cause (withdraw_rows m q) ≡ 0) (built : built_pages (view_of m q) ≡ sound xs)
+module _ (m : Memory) (q : ℕ) (xs : List ℕ) (none : first_cause (withdraw_rows m q) ≡ Ok tt) (built : built_pages (view_of m q) ≡ sound xs)
     (held : held_all (view_of m q) (claims m.root (party_at m.parties q)) ≡ true) (room : room_to_give_back m.root (length xs) ≡ true)
-    (call : withdraw_call m q ≡ called WithdrawAnswer.Withdrawn (with_waiting (row_without q m.waiting) (after_step m (left_by (view_of m q) xs)))) where
+    (call : withdraw_call m q ≡ called (Ok tt) (with_waiting (row_without q m.waiting) (after_step m (left_by (view_of m q) xs)))) where
   abbrev view : View
   view = view_of m q
 
@@ -129,7 +131,7 @@ module _ (m : Memory) (q : ℕ) (xs : List ℕ) (none : first_cause (withdraw_ro
     unfolding withdraw_rows lengths_fit
     same_rows = rw long
 
-    call' : withdraw_call m' q ≡ called WithdrawAnswer.Withdrawn (with_waiting (row_without q m.waiting) (after_step m' (left_by (view_of m' q) xs)))
+    call' : withdraw_call m' q ≡ called (Ok tt) (with_waiting (row_without q m.waiting) (after_step m' (left_by (view_of m' q) xs)))
     unfolding withdrawn_from withdrawn taken_back_soundly row_left
     call' =
         withdraw_accepted m' q (ap first_cause same_rows ∙ none)
@@ -160,7 +162,7 @@ module _ (m : Memory) (q : ℕ) (xs : List ℕ) (none : first_cause (withdraw_ro
   -- ---- Its trace
 
   then_is : withdraw_after m q ≡ with_waiting (row_without q m.waiting) (after_step m (left_by view xs))
-  then_is = ap (λ (c : Called WithdrawAnswer). c.memory) call
+  then_is = ap (λ (c : Called CallReply). c.memory) call
 
   trace-true : (k : Clock) → WithdrawTrue k m q
   trace-true k =
@@ -184,7 +186,7 @@ module _ (m : Memory) (q : ℕ) (xs : List ℕ) (none : first_cause (withdraw_ro
 
 -- ---- The theorems
 
-pub withdraw_reads : (m m' : Memory) (q : ℕ) → (withdraw_call m q).answer ≡ WithdrawAnswer.Withdrawn → DiffersOutside (walked_back m q) m m'
+pub withdraw_reads : (m m' : Memory) (q : ℕ) → (withdraw_call m q).answer ≡ Ok tt → DiffersOutside (walked_back m q) m m'
     → ReadAlike (walked_back m q) m m' (withdraw_call m q) (withdraw_call m' q)
 withdraw_reads m m' q accepted d = go (withdraw_tested m q)
   where
@@ -192,13 +194,13 @@ withdraw_reads m m' q accepted d = go (withdraw_tested m q)
     same = sym (λ i. record { root = d.root= i; parties = d.parties= i; locks = d.locks= i; pages = m'.pages; waiting = d.waiting= i })
 
     go : WithdrawTested m q → ReadAlike (walked_back m q) m m' (withdraw_call m q) (withdraw_call m' q)
-    go (turned_away n e) = absurd (withdrawn-not_refused n (sym accepted ∙ ap (λ (c : Called WithdrawAnswer). c.answer) e))
+    go (turned_away n e) = absurd (not_refused tt n (sym accepted ∙ ap (λ (c : Called CallReply). c.answer) e))
     go (let_through xs z b h r e) =
         subst (λ (u : Memory). ReadAlike (walked_back m q) m u (withdraw_call m q) (withdraw_call u q)) same (alike_beside m q xs z b h r e m'.pages d.length= d.open=)
 
-pub withdraw_true : (k : Clock) (m : Memory) (q : ℕ) → (withdraw_call m q).answer ≡ WithdrawAnswer.Withdrawn → WithdrawTrue k m q
+pub withdraw_true : (k : Clock) (m : Memory) (q : ℕ) → (withdraw_call m q).answer ≡ Ok tt → WithdrawTrue k m q
 withdraw_true k m q accepted = go (withdraw_tested m q)
   where
     go : WithdrawTested m q → WithdrawTrue k m q
-    go (turned_away n e) = absurd (withdrawn-not_refused n (sym accepted ∙ ap (λ (c : Called WithdrawAnswer). c.answer) e))
+    go (turned_away n e) = absurd (not_refused tt n (sym accepted ∙ ap (λ (c : Called CallReply). c.answer) e))
     go (let_through xs z b h r e) = trace-true m q xs z b h r e k

@@ -1,5 +1,5 @@
 -- The same words written on two page memories: open pages stay the same in both, and shut pages stay as each had them.
--- Main definitions: Beside (a page memory beside a step's view), Alike (what came of both). Main statements: alike-start, alike-written, alike-filled, alike-given.
+-- Main definitions: Beside (a page memory beside a step's view), Alike (what came of both). Main statements: alike_start, alike_written, alike_filled, alike_given.
 use mathlib.Core.Path.{◌≡◌, refl, sym, ◌∙◌}
 use mathlib.Core.Logic.{◌≢◌}
 use mathlib.Core.Bool.{Bool, true, false}

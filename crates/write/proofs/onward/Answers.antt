@@ -1,25 +1,15 @@
--- `write::onward` meets its contract.
-use mathlib.Core.Path.{◌∙◌}
+-- `write::onward` meets its contract: where nothing is owed the operation is done.
+use mathlib.Core.Path.{◌≡◌, ◌∙◌}
 use native.Mathlib.Omega.{arith}
-use Rattle.records.specs.Words.{seen}
-use Rattle.records.proofs.Words.{party_is}
-use Rattle.write.proofs.Owed.{owed_split_moves, owed_merge_moves, nothing_owed_ends}
+use borrow.Author.Tests.{ne_eqb}
+use Rattle.model.specs.Outcome.{View}
+use Rattle.model.specs.Endings.{onward, finished}
+use Rattle.records.specs.Work.{seen}
 use Rattle.write.proofs.onward.Goals as goal
 
-pub returns-then-party-eq-OWES_SPLIT : goal.returns-then-party-eq-OWES_SPLIT
-returns-then-party-eq-OWES_SPLIT c = λ ls.
-    let a = c.args in
-    let v = seen a.root a.party.now a.q ls a.pages.now in
-    party_is c.at_step.ensures ∙ owed_split_moves v c.if-party-eq-OWES_SPLIT.true
+nothing_owed_ends : (v : View) → (v.party.owed ≡ 1 → ⊥) → (v.party.owed ≡ 2 → ⊥) → finished v ≡ onward v
+unfolding onward
+nothing_owed_ends v split merge = rw (ne_eqb v.party.owed 1 split, ne_eqb v.party.owed 2 merge)
 
-pub returns-then-party-eq-OWES_MERGE : goal.returns-then-party-eq-OWES_MERGE
-returns-then-party-eq-OWES_MERGE c = λ ls.
-    let a = c.args in
-    let v = seen a.root a.party.now a.q ls a.pages.now in
-    party_is c.at_step-then-party-eq-OWES_MERGE.ensures ∙ owed_merge_moves v (λ z. omega arith) c.if-party-eq-OWES_MERGE.true
-
-pub returns : goal.returns
-returns c = λ ls.
-    let a = c.args in
-    let v = seen a.root a.party.now a.q ls a.pages.now in
-    c.finished.ensures ls ∙ nothing_owed_ends v (λ z. omega arith) c.if-party-eq-OWES_MERGE.false
+pub returns-in_default : goal.returns-in_default
+returns-in_default c = λ ls. c.finished.ensures ls ∙ nothing_owed_ends (seen c.args.work.now ls c.args.pages.now) (λ e. omega arith) (λ e. omega arith)

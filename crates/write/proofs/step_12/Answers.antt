@@ -1,18 +1,18 @@
--- `write::step_12` meets its contract.
+-- `write::step_12` meets its contract: the chain is held, and left.
 use mathlib.Core.Path.{◌∙◌}
-use Rattle.records.specs.Words.{party_in}
-use Rattle.write.proofs.Leaves.{held_leaves, unheld_refused}
+use mathlib.Core.Bool.{cond}
+use mathlib.Core.List.{[], ◌∷◌}
+use Rattle.model.specs.LockRequests.{chain_selective}
+use Rattle.model.specs.Endings.{old_pages_first, onward, finished}
+use Rattle.model.specs.Steps.Write.{is_change, step12}
+use Rattle.records.specs.Work.{seen}
+use Rattle.lock_requests.proofs.Releases.{held_goes_on}
 use Rattle.write.proofs.step_12.Goals as goal
 
-pub returns-then-not-give_up : goal.returns-then-not-give_up
-returns-then-not-give_up c =
-    let a = c.args in
-    let p = party_in a.party.now in
-    unheld_refused a.root p a.q a.locks.now a.pages.now c.chain_word-word.ensures c.give_up.ensures.0 c.give_up.ensures.1 c.if-not-give_up.true
-
 pub returns : goal.returns
+unfolding step12
 returns c =
     let a = c.args in
-    let p = party_in a.party.now in
-    c.chain_left.ensures _
-    ∙ held_leaves a.root p a.q a.locks.now a.pages.now c.chain_word-word.ensures c.give_up.ensures.0 c.give_up.ensures.1 c.if-not-give_up.false
+    let held = rw c.chain-lock.ensures at (c.give_up.ensures.held a.pages.now) in
+    let left = rw c.chain-lock.ensures at (c.give_up.ensures.words a.pages.now) in
+    c.chain_left.ensures c.give_up.new.locks ∙ held_goes_on (seen a.work.now a.locks.now a.pages.now) (chain_selective a.work.now.party ∷ []) held left (λ u. cond (is_change a.work.now.party.answer) (old_pages_first u (onward u)) (finished u)) c.in_ok-give_up.was

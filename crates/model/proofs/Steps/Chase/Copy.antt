@@ -1,5 +1,5 @@
 -- Step 6 keeps the invariant.
--- Main statements: Chased, chase_ends and chased_heads (where a chase ends); noted_six (what the book notes); step06-moves, stayed-home (what it leaves, and where the key's home is); step06-kept.
+-- Main statements: Chased, chase_ends and chased_heads (where a chase ends); noted_six (what the book notes); step06_moves, stayed_home (what it leaves, and where the key's home is); step06-kept.
 use mathlib.Core.Path.{◌≡◌, refl, sym, ap, ◌∙◌, subst}
 use mathlib.Core.Logic.{◌≢◌}
 use mathlib.Core.Bool.{true, false, cond}

@@ -1,0 +1,5 @@
+-- Why `patterns::put_number` ends: each call has a smaller number.
+use Rattle.patterns.proofs.+put_number.Given as goal
+
+abbrev pub decreases-put_number : goal.decreases-put_number
+decreases-put_number l = l.n
