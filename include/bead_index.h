@@ -17,8 +17,8 @@
  * aligned as its type asks, and is not null; the five parts do not overlap; and nobody else reads or writes them
  * during a call, so parties that run as threads call under one mutex.
  *
- * On chains of at most four pages no call was measured to take more than 1,936 bytes of stack (step 17); step 3, which
- * every operation performs, takes 880. On the longest chain that can be lent no call takes more than 314,416 bytes
+ * On chains of at most four pages no call was measured to take more than 1,888 bytes of stack (step 17); step 3, which
+ * every operation performs, takes 744. On the longest chain that can be lent no call takes more than 314,416 bytes
  * (step 17). docs/PERFORMANCE.md has every call.
  *
  * Link with libbead.a (x86-64 Linux), which tests/staticlib builds. */

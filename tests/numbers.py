@@ -1,4 +1,4 @@
-"""Prints C static assertions that include/bead_index.h has the numbers of the proved sources (crates/model/src/lib.rt and crates/bead/src/lib.rt): each
+"""Prints C static assertions that include/bead_index.h has the numbers of the proved sources (src/lib.rt of the crates model, bead and index): each
 constant by its name with BEAD_ before it, each restructuring, the most calls of an operation (crates/theory/specs/CallsBounded.antt), and the fields of the
 records and of the reply in their places. Ends with 1 where the header has a number that no source has, or lacks a refusal or a call that the sources have.
 Usage: numbers.py ROOT"""

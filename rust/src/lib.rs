@@ -90,8 +90,8 @@
 //!
 //! # Stack
 //!
-//! On chains of at most four pages no call was measured to take more than 1,936 bytes of stack (step 17); step 3,
-//! which every operation performs, takes 880. On the longest chain that can be lent no call takes more than 314,416
+//! On chains of at most four pages no call was measured to take more than 1,888 bytes of stack (step 17); step 3,
+//! which every operation performs, takes 744. On the longest chain that can be lent no call takes more than 314,416
 //! bytes (step 17). docs/PERFORMANCE.md has every call.
 
 #![deny(unsafe_code)]

@@ -26,39 +26,61 @@ const RECORDS: usize = 16;
 
 // All that is held, lent or not.
 #[derive(Drop)]
-struct Held {
-    root: Root,
-    row: [Party; RECORDS],
-    locks: [u32; LOCK_ROOM],
-    pages: [u32; PAGE_ROOM],
-    waiting: [u32; WAITING_ROOM],
+struct Held<'a> {
+    root: &'a mut Root,
+    row: &'a mut [Party],
+    locks: &'a mut [u32],
+    pages: &'a mut [u32],
+    waiting: &'a mut [u32],
 }
 
+// The rows are locals of their own: a struct of them would be made in one place and copied to another.
 pub fn came_of(call: Call, s: Scene) -> Came {
-    let before = held_for(call, s);
-    let mut held = held_for(call, s);
+    let mut root = s.root;
+    let mut row = [s.record; RECORDS];
+    let mut locks = [WORD; LOCK_ROOM];
+    let mut pages = [WORD; PAGE_ROOM];
+    let mut waiting = waiting_of(s);
+    let mut held = Held {
+        root: &mut root,
+        row: &mut row[..],
+        locks: &mut locks[..],
+        pages: &mut pages[..],
+        waiting: &mut waiting[..],
+    };
+    if call == Call::TakeUp {
+        return taken_up(s, &mut held);
+    }
     let answer = made(call, s, &mut held);
     Came {
         answer,
-        altered: altered(&before, &held),
+        altered: altered(s, &held),
     }
 }
 
-// What is held before the call.
-fn held_for(call: Call, s: Scene) -> Held {
-    let mut held = Held {
-        root: s.root,
-        row: [s.record; RECORDS],
-        locks: [WORD; LOCK_ROOM],
-        pages: [WORD; PAGE_ROOM],
-        waiting: [WORD; WAITING_ROOM],
+// Take-up is given a file, and the words are compared with those of a second one. A function pays for the size of its
+// locals, so only this one has two.
+#[inline(never)]
+fn taken_up(s: Scene, held: &mut Held) -> Came {
+    let mut root = s.root;
+    let mut row = [s.record; RECORDS];
+    let mut locks = [WORD; LOCK_ROOM];
+    let mut pages = [WORD; PAGE_ROOM];
+    let mut waiting = waiting_of(s);
+    let mut before = Held {
+        root: &mut root,
+        row: &mut row[..],
+        locks: &mut locks[..],
+        pages: &mut pages[..],
+        waiting: &mut waiting[..],
     };
-    if call == Call::TakeUp {
-        rest(s, &mut held);
+    rest(s, &mut before);
+    rest(s, held);
+    let answer = made(Call::TakeUp, s, held);
+    Came {
+        answer,
+        altered: differing_held(&before, held),
     }
-    let waiting = waiting_of(s);
-    held.waiting = waiting;
-    held
 }
 
 // The waiting row of the case: so many words are lent, and those behind them are words that no call writes.
@@ -79,19 +101,20 @@ fn first<T>(row: &mut [T], count: usize) -> &mut [T] {
 }
 
 // A file at rest, as format leaves it with b at most 6: then the root record has the b of the case, and where the
-// records of the case do not rest, the row has them.
+// records of the case do not rest, the row has them. The waiting row is that of the case.
 fn rest(s: Scene, held: &mut Held) {
     let mut sizes = sizes_of(s.root);
     sizes.capacity = sizes.capacity.min(model::MOST_RECORDS);
     let parties = sizes.parties as usize;
     let chains = sizes.primaries as usize;
     let pages = chains + sizes.overflow as usize + parties;
+    let mut waiting = [WORD; WAITING_ROOM];
     let _ = index::format(
-        &mut held.root,
-        first(&mut held.row, parties),
-        first(&mut held.locks, chains + 1),
-        first(&mut held.pages, PAGE_WORDS * pages),
-        first(&mut held.waiting, parties),
+        held.root,
+        first(held.row, parties),
+        first(held.locks, chains + 1),
+        first(held.pages, PAGE_WORDS * pages),
+        first(&mut waiting, parties),
         sizes,
     );
     held.root.capacity = s.root.capacity;
@@ -102,11 +125,11 @@ fn rest(s: Scene, held: &mut Held) {
 
 // So many words are lent; of the records the first Q.
 fn made(call: Call, s: Scene, held: &mut Held) -> Result<(), Refusal> {
-    let root = &mut held.root;
-    let row = first(&mut held.row, s.root.parties as usize);
-    let locks = first(&mut held.locks, s.lock_words);
-    let pages = first(&mut held.pages, s.page_words);
-    let waiting = first(&mut held.waiting, s.waiting_words);
+    let root = &mut *held.root;
+    let row = first(held.row, s.root.parties as usize);
+    let locks = first(held.locks, s.lock_words);
+    let pages = first(held.pages, s.page_words);
+    let waiting = first(held.waiting, s.waiting_words);
     let q = s.party;
     match call {
         Call::Format => index::format(root, row, locks, pages, waiting, sizes_of(s.root)),
@@ -117,15 +140,36 @@ fn made(call: Call, s: Scene, held: &mut Held) -> Result<(), Refusal> {
     }
 }
 
-// How many words are altered, lent or not. The sums wrap, so that no bound of them has to be proved.
-fn altered(before: &Held, after: &Held) -> u32 {
-    let mut n = differing(&words_of_root(before.root), &words_of_root(after.root));
-    for (x, y) in before.row.iter().zip(&after.row) {
+// How many words are altered, lent or not: of a call on the words of the case. The sums wrap, so that no bound of them
+// has to be proved.
+fn altered(s: Scene, after: &Held) -> u32 {
+    let mut n = differing(&words_of_root(s.root), &words_of_root(*after.root));
+    for party in after.row.iter() {
+        n = n.wrapping_add(differing(&words_of_party(s.record), &words_of_party(*party)));
+    }
+    n.wrapping_add(changed(after.locks))
+        .wrapping_add(changed(after.pages))
+        .wrapping_add(differing(&waiting_of(s), after.waiting))
+}
+
+// How many words are not what every word was before.
+fn changed(words: &[u32]) -> u32 {
+    let mut n: u32 = 0;
+    for word in words {
+        n = n.wrapping_add(u32::from(*word != WORD));
+    }
+    n
+}
+
+// How many words of all that is held differ.
+fn differing_held(before: &Held, after: &Held) -> u32 {
+    let mut n = differing(&words_of_root(*before.root), &words_of_root(*after.root));
+    for (x, y) in before.row.iter().zip(after.row.iter()) {
         n = n.wrapping_add(differing(&words_of_party(*x), &words_of_party(*y)));
     }
-    n.wrapping_add(differing(&before.locks, &after.locks))
-        .wrapping_add(differing(&before.pages, &after.pages))
-        .wrapping_add(differing(&before.waiting, &after.waiting))
+    n.wrapping_add(differing(before.locks, after.locks))
+        .wrapping_add(differing(before.pages, after.pages))
+        .wrapping_add(differing(before.waiting, after.waiting))
 }
 
 // How many words of two rows differ.

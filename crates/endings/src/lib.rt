@@ -5,9 +5,11 @@
 #![tactic(auto)]
 
 ghost use Rattle.std.specs.Prelude.{◌≡◌, List, ℕ, ◌^◌, ◌<◌};
+ghost use Rattle.model.specs.declared.Party.{Party};
 ghost use Rattle.model.specs.Pages.{scratch_page, zero_page};
 ghost use Rattle.model.specs.Answers.{answer_of, restructuring_of};
 ghost use Rattle.model.specs.Endings as Endings;
+ghost use Rattle.model.specs.Ready.{viewing};
 ghost use Rattle.records.specs.Work.{seen, left};
 ghost use Rattle.endings.specs.Scratch.{HasScratch, cleared};
 
@@ -69,7 +71,7 @@ pub fn done(
     made: Restructuring,
 ) -> StepAnswer
     requires { HasScratch work.old.root work.old.number pages.old }
-    ensures { (ls : List ℕ) → left (Ok result) work.new ls pages.new ≡ Endings.done answer made (seen work.old ls pages.old) }
+    ensures { (p : Party) (ls : List ℕ) → left (Ok result) work.new ls pages.new ≡ Endings.done answer made (viewing work.old.root p work.old.number ls pages.old) }
 {
     clear(work, pages);
     StepAnswer::Done(answer, made)

@@ -1,5 +1,5 @@
 -- A page's words written one after the other: one turn, over the model's filled_page.
--- Main statements: word_written (a turn), page_whole (the end); page_copied where the records
+-- Main statements: word_written, record_written (a turn), page_whole (the end); page_copied where the records
 -- are copied.
 use mathlib.Core.Path.{◌≡◌, refl, sym, ap, ◌∙◌}
 use mathlib.Core.List.{List, ◌∷◌, ◌++◌}
@@ -34,6 +34,17 @@ word_written level n ws link i h k =
     let next : take i ws ++ (x ∷ drop (suc i) zeros) ≡ take (suc i) ws ++ drop (suc i) zeros =
     sym (append_snoc (take i ws) x (drop (suc i) zeros)) ∙ ap (λ (l : List ℕ). l ++ drop (suc i) zeros) (sym (take-suc ws i 0 h)) in
     rw (three, add-one) (ap (λ (l : List ℕ). level ∷ (n ∷ (link ∷ l))) (here ∙ next))
+
+-- A record more: both of its words.
+pub record_written : (level n : ℕ) (ws : List ℕ) (link i : ℕ) → i < length ws / record_words → length ws ≤ most_records * record_words
+    → set (set (words_after level n ws link (i * record_words)) (3 + i * record_words) (get_or ws (i * record_words) 0)) (3 + i * record_words + 1) (get_or ws (i * record_words + 1) 0)
+    ≡ words_after level n ws link ((i + 1) * record_words)
+record_written level n ws link i h k =
+    let key = i * record_words in
+    let setting : 3 + key + 1 ≡ 3 + (key + 1) = omega arith in
+    let next : (i + 1) * record_words ≡ key + 1 + 1 = omega arith in
+    ap (λ (w : List ℕ). set w (3 + key + 1) (get_or ws (key + 1) 0)) (word_written level n ws link key (omega arith) k)
+    ∙ rw (setting, next) (word_written level n ws link (key + 1) (omega arith) k)
 
 zeros_left : (n m z : ℕ) → n ≤ m → drop n (replicate m z) ≡ replicate (m - n) z
 zeros_left zero m z h = let q : m ≡ m - 0 = omega arith in ap (λ (k : ℕ). replicate k z) q

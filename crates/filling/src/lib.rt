@@ -30,12 +30,16 @@ fn page_words(level: u32, records: &[u32], link: u32) -> Page
     ensures { result ≡ filled_page level (records_in records.now) link }
 {
     let n = records.len() / RECORD_WORDS;
-    let end = n * RECORD_WORDS;
     let mut w = [0u32; PAGE_WORDS];
     w[LEVEL_WORD] = level;
     w[COUNT_WORD] = n as u32;
     w[LINK_WORD] = link;
-    w[FIRST_RECORD..FIRST_RECORD + end].copy_from_slice(&records[..end]);
+    // Record by record: a slice of so many words would be copied by a call of C's library.
+    for i in 0..n {
+        let key = i * RECORD_WORDS;
+        w[FIRST_RECORD + key] = records[key];
+        w[FIRST_RECORD + key + 1] = records[key + 1];
+    }
     w
 }
 

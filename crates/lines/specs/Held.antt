@@ -1,7 +1,7 @@
 -- The file as a program holds it: which memory a call is lent, and what is held after it.
--- Main definitions: held_in; held_format, held_begin, held_step, held_withdraw, held_take_up: each gives the answer, all
--- that is held and all lent words afterwards.
-use Rattle.std.specs.Prelude.{◌++◌, ℕ, take, drop}
+-- Main definitions: held_in; SameParts (a file is still made of the same memory); held_format, held_begin, held_step,
+-- held_withdraw, held_take_up: each gives the answer, all that is held and all lent words afterwards.
+use Rattle.std.specs.Prelude.{◌≡◌, ◌++◌, ℕ, take, drop}
 use Rattle.model.specs.declared.Operation.{Operation}
 use Rattle.model.specs.declared.FileSizes.{FileSizes}
 use Rattle.model.specs.Answers.{CallReply, StepReply}
@@ -14,6 +14,12 @@ use Rattle.lines.specs.declared.File.{File}
 -- All that is held.
 abbrev pub held_in : File → Memory
 held_in f = lent f.root.now f.row.now f.locks.now f.pages.now f.waiting.now
+
+-- A file before and after holds the same five of its maker's borrows: what is left in it is left in the maker's memory.
+abbrev pub SameParts : File → File → Type 0
+SameParts f g =
+    (g.root.ghost_name ≡ f.root.ghost_name) × (g.row.ghost_name ≡ f.row.ghost_name) × (g.locks.ghost_name ≡ f.locks.ghost_name)
+    × (g.pages.ghost_name ≡ f.pages.ghost_name) × (g.waiting.ghost_name ≡ f.waiting.ghost_name)
 
 -- The memory with the first n records alone, or all where there are fewer: what a call goes by.
 abbrev pub first_of : ℕ → Memory → Memory

@@ -2,7 +2,8 @@
 // the program holds, and the reply is printed. Of the records and words that are there each call is lent the first, as
 // many as the sizes ask for: those given for a format, else those of the root record. The others stay.
 // Main statements: answer leaves the memory, and prints the reply, that line_answered says of the line and of all
-// memory (specs/Lines.antt, specs/Held.antt); there is nothing that a caller must see to.
+// memory (specs/Lines.antt, specs/Held.antt), and the file made of the same memory; there is nothing that a caller must
+// see to.
 
 #![tactic(auto)]
 
@@ -14,7 +15,7 @@ ghost use Rattle.forms.specs.declared.Form.TheVariants as Form;
 ghost use Rattle.forms.specs.declared.Reply.TheVariants as Reply;
 ghost use Rattle.forms.specs.Replies.{reply_text};
 ghost use Rattle.forms.specs.Printing.{longest_reply, given};
-ghost use Rattle.lines.specs.Held.{held_in};
+ghost use Rattle.lines.specs.Held.{held_in, SameParts};
 ghost use Rattle.lines.specs.Lines.{by_number, performed, line_answered};
 ghost use Rattle.lines.specs.Texts.{newline, line_length, printed_before, text_answered};
 
@@ -62,7 +63,8 @@ impl File<'_> {
 
     // Format with these sizes.
     fn format(&mut self, sizes: FileSizes) -> Result<(), Refusal>
-        ensures { called (Reply.Format (by_number result)) (held_in self.new) ≡ performed (Form.Format sizes) (held_in self.old) }
+        ensures reply { called (Reply.Format (by_number result)) (held_in self.new) ≡ performed (Form.Format sizes) (held_in self.old) }
+        ensures parts { SameParts self.old self.new }
     {
         let n = self.lent(records::root_of_sizes(sizes));
         index::format(
@@ -78,7 +80,8 @@ impl File<'_> {
     // Begin an operation for party q. It alters no word, but is lent them by `&mut`: beside the row, lent so, a `&` of
     // another field of one struct gets no proof.
     fn begin(&mut self, q: u32, operation: Operation, key: u32) -> Result<(), Refusal>
-        ensures { called (Reply.Begin q (by_number result)) (held_in self.new) ≡ performed (Form.Begin q operation key) (held_in self.old) }
+        ensures reply { called (Reply.Begin q (by_number result)) (held_in self.new) ≡ performed (Form.Begin q operation key) (held_in self.old) }
+        ensures parts { SameParts self.old self.new }
     {
         let n = self.lent(*self.root);
         index::begin(
@@ -95,7 +98,8 @@ impl File<'_> {
 
     // One step for party q.
     fn step(&mut self, q: u32) -> Result<StepAnswer, Refusal>
-        ensures { called (Reply.Step q (by_number result)) (held_in self.new) ≡ performed (Form.Step q) (held_in self.old) }
+        ensures reply { called (Reply.Step q (by_number result)) (held_in self.new) ≡ performed (Form.Step q) (held_in self.old) }
+        ensures parts { SameParts self.old self.new }
     {
         let n = self.lent(*self.root);
         index::step(
@@ -111,7 +115,8 @@ impl File<'_> {
     // Withdraw for party q.
     // Like step but for the call and the form: one function for both would be given the call as a closure.
     fn withdraw(&mut self, q: u32) -> Result<(), Refusal>
-        ensures { called (Reply.Withdraw q (by_number result)) (held_in self.new) ≡ performed (Form.Withdraw q) (held_in self.old) }
+        ensures reply { called (Reply.Withdraw q (by_number result)) (held_in self.new) ≡ performed (Form.Withdraw q) (held_in self.old) }
+        ensures parts { SameParts self.old self.new }
     {
         let n = self.lent(*self.root);
         index::withdraw(
@@ -140,7 +145,8 @@ impl File<'_> {
 
     // The call that a form names.
     fn perform(&mut self, form: Form) -> Reply
-        ensures { called result (held_in self.new) ≡ performed form (held_in self.old) }
+        ensures reply { called result (held_in self.new) ≡ performed form (held_in self.old) }
+        ensures parts { SameParts self.old self.new }
     {
         match form {
             Form::Format(sizes) => Reply::Format(by_number(self.format(sizes))),
@@ -156,7 +162,8 @@ impl File<'_> {
 
 // What a line asks for; a line that is no form alters nothing.
 fn perform_line(line: &[u8], file: &mut File) -> Reply
-    ensures { called result (held_in file.new) ≡ line_answered line.now (held_in file.old) }
+    ensures reply { called result (held_in file.new) ≡ line_answered line.now (held_in file.old) }
+    ensures parts { SameParts file.old file.new }
 {
     match forms::read_form(line) {
         None => Reply::Unread,
@@ -167,6 +174,7 @@ fn perform_line(line: &[u8], file: &mut File) -> Reply
 // Answers a line: its reply is printed into `out` at place `at`, and nothing where there is no room for the longest
 // reply. The result is the place behind it.
 pub fn answer(line: &[u8], file: &mut File, out: &mut [u8], at: usize) -> usize
+    ensures parts { SameParts file.old file.new }
     ensures memory_after { held_in file.new ≡ (line_answered line.now (held_in file.old)).memory }
     ensures out_after { out.new ≡ sets out.old at (given (length out.old) at longest_reply (reply_text (line_answered line.now (held_in file.old)).answer)) }
     ensures end_value { result ≡ at + length (given (length out.old) at longest_reply (reply_text (line_answered line.now (held_in file.old)).answer)) }
@@ -196,6 +204,7 @@ fn first_newline(text: &[u8]) -> Option<usize>
 // Answers the whole lines of a text, one after the other, each reply with a newline after it, until there is no room
 // for one more.
 pub fn answer_lines(text: &[u8], file: &mut File, out: &mut [u8]) -> Lines
+    ensures parts { SameParts file.old file.new }
     ensures from_in_bounds { (result.from ≤ length text.now) × (result.end ≤ length out.new) }
     ensures by_index { (t : List ℕ) → text_answered [] (text.now ++ t) (held_in file.old) ≡ printed_before (take result.end out.new) (text_answered [] (drop result.from text.now ++ t) (held_in file.new)) }
     ensures text_value { result.from ≡ 0 → 58 ≤ length out.old → line_length text.now ≡ length text.now }

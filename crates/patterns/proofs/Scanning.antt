@@ -1,10 +1,10 @@
 -- Digits in a line: how many there are, their value, and the number that they are.
--- Main statements: digit_turn (a digit passed), value_next; scan_few, scan_many (the digits at the head of a line); none_found, large_found, number_found (the answer
+-- Main statements: digit_turn (a digit passed), value_next; scan_few, scan_many (the digits at the head of a line); run_short, run_long (of its first bytes); none_found, large_found, number_found (the answer
 -- at a place of a line); small_enough, too_large (a value made a number of 32 bits).
 use mathlib.Core.Path.{◌≡◌, refl, ap, ◌∙◌}
 use mathlib.Core.Bool.{true}
 use mathlib.Core.List.{List, [], ◌∷◌}
-use Prim.Native.Nat.{ℕ, suc, ◌+◌, ◌-◌, ◌*◌, ◌^◌, ◌≤◌, ◌<◌}
+use Prim.Native.Nat.{ℕ, zero, suc, ◌+◌, ◌-◌, ◌*◌, ◌^◌, ◌≤◌, ◌<◌}
 use native.Mathlib.Nat.{add-zero, zero-add, pow-suc}
 use native.Mathlib.Numerals.{add-one, one-add}
 use native.Mathlib.Omega.{arith}
@@ -80,20 +80,44 @@ scan_many (c ∷ l) k v few many = go (tell (is_digit c)) (tell (eqb k most_digi
     go (holds t) (fails q) more ih = rw (t, q) (ih (omega (arith, eqb-false k most_digits q)) (omega (arith, rw t at more)))
     go (fails t) q more ih = absurd (omega (arith, rw t at more))
 
--- ---- The number at place i of the line l, which goes on there with r, and this with n digits
+-- Of the first m bytes: all of the digits where there are fewer than m, else m at least.
+run_short : (m : ℕ) (l : List ℕ) → run (take m l) < m → run (take m l) ≡ run l
+run_short zero l h = absurd (omega arith)
+run_short (suc m) [] h = refl
+run_short (suc m) (c ∷ l) h = go (tell (is_digit c)) h (run_short m l)
+  where
+    go : Told (is_digit c) → run (c ∷ take m l) < suc m → (run (take m l) < m → run (take m l) ≡ run l) → run (c ∷ take m l) ≡ run (c ∷ l)
+    go (holds t) short ih = rw (t, ih (omega (arith, rw t at short))) refl
+    go (fails t) short ih = rw t
 
-module _ (l r : List ℕ) (i n : ℕ) (within : i ≤ length l) (whole : r ≡ drop i l) (counted : n ≡ run r) where
-  pub all_found : all_digits (take n r) ≡ true
-  all_found = rw counted (all_run r)
+run_long : (m : ℕ) (l : List ℕ) → m ≤ run (take m l) → m ≤ run l
+run_long zero l h = omega arith
+run_long (suc m) [] h = absurd (omega arith)
+run_long (suc m) (c ∷ l) h = go (tell (is_digit c)) h (run_long m l)
+  where
+    go : Told (is_digit c) → suc m ≤ run (c ∷ take m l) → (m ≤ run (take m l) → m ≤ run l) → suc m ≤ run (c ∷ l)
+    go (holds t) long ih = rw t (omega (arith, ih (omega (arith, rw t at long))))
+    go (fails t) long ih = absurd (omega (arith, rw t at long))
+
+-- ---- The number at place i of the line l, which goes on there with r, and this with n digits, an eleventh being the last
+
+module _ (l r : List ℕ) (i n : ℕ) (within : i ≤ length l) (whole : r ≡ drop i l) (looked : n ≡ run (take (suc most_digits) r)) where
+  counted : n ≤ most_digits → n ≡ run r
+  counted few = looked ∙ run_short (suc most_digits) r (omega (arith, looked, few))
+
+  pub all_found : n ≤ most_digits → all_digits (take n r) ≡ true
+  all_found few = rw (counted few) (all_run r)
 
   found : n ≤ most_digits → scan 0 0 (drop i l) ≡ ended n (value_of (take n r)) (drop n r)
   unfolding value_of
-  found few = rw (← whole, counted) (rw zero-add at (scan_few r 0 0 (omega (arith, counted))))
+  found few = rw (← whole, counted few) (rw zero-add at (scan_few r 0 0 (omega (arith, counted few))))
 
   pub none_found : (n ≡ 0) ⊎ ((n ≡ 0 → ⊥) × (most_digits < n)) → None ≡ scanned (length l) (scan 0 0 (drop i l))
   unfolding scanned ended
   none_found (inl none) = rw (found (omega arith), none) refl
-  none_found (inr many) = rw (← whole, scan_many r 0 0 (omega arith) (omega (arith, counted, many.1))) refl
+  none_found (inr many) =
+      let more = run_long (suc most_digits) r (omega (arith, looked, many.1)) in
+      rw (← whole, scan_many r 0 0 (omega arith) (omega (arith, more))) refl
 
   pub large_found : (n ≡ 0 → ⊥) → n ≤ most_digits → (value_of (take n r) ≤ largest → ⊥) → None ≡ scanned (length l) (scan 0 0 (drop i l))
   unfolding scanned ended
@@ -103,7 +127,7 @@ module _ (l r : List ℕ) (i n : ℕ) (within : i ≤ length l) (whole : r ≡ d
       → Some (record { value = value_of (take n r); next = i + n }) ≡ scanned (length l) (scan 0 0 (drop i l))
   unfolding scanned ended
   number_found some few small =
-      let left : length l - length (drop n r) ≡ i + n = omega (arith, length-drop n r, ap length whole, length-drop i l, prefix_len-le-length is_digit r, counted) in
+      let left : length l - length (drop n r) ≡ i + n = omega (arith, length-drop n r, ap length whole, length-drop i l, prefix_len-le-length is_digit r, counted few) in
       rw (found few, lt-ltb 0 n (omega arith), le-leb (value_of (take n r)) largest small, left) refl
 
 -- ---- A value made a number of 32 bits

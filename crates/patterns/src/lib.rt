@@ -6,7 +6,7 @@
 
 #![tactic(auto)]
 
-ghost use Rattle.std.specs.Prelude.{◌≡◌, ◌+◌, ◌≤◌, length, drop, [], nat_eq, true};
+ghost use Rattle.std.specs.Prelude.{◌≡◌, suc, ◌+◌, ◌≤◌, length, take, drop, [], nat_eq, true};
 ghost use Rattle.std.specs.List.{prefix_len, starts_with};
 ghost use Rattle.std.proofs.lemmas.List.Edits.{sets};
 ghost use Rattle.patterns.specs.Numbers.{is_digit, most_digits, all_digits, value_of, scanned, scan, decimal};
@@ -38,12 +38,15 @@ pub struct Match {
     pub numbers: Numbers,
 }
 
-// How many digits stand at the head of a line.
+// How many digits stand at the head of a line, an eleventh being the last that is looked at: a line may be long.
 #[tactic(auto, unfolding(crate::specs::Numbers::is_digit))]
 fn count_digits(line: &[u8]) -> usize
-    ensures { result ≡ prefix_len is_digit line.now }
+    ensures { result ≡ prefix_len is_digit (take (suc most_digits) line.now) }
 {
-    line.iter().take_while(|c| c.is_ascii_digit()).count()
+    line.iter()
+        .take(MOST_DIGITS + 1)
+        .take_while(|c| c.is_ascii_digit())
+        .count()
 }
 
 // The value of at most ten digits.

@@ -23,10 +23,7 @@ fn looked_through(root: &Root, parties: &[Party], row: &[u32], q: u32) -> Place
     let gapless = waiting_row::gapless(row, n);
     let mut seen = Looking::started(former, parties[q as usize], gapless);
     for word in &row[..n] {
-        seen = match waiting_row::named_by(*word, parties.len()) {
-            Some(j) => seen.meets(former, q, j, parties[j as usize]),
-            None => seen.damaged(q, *word),
-        };
+        seen = seen.looked(former, parties, q, *word);
     }
     seen.placed()
 }

@@ -1,2 +1,3 @@
 -- Laws that the proofs above this crate share.
 pub mod Told
+pub mod Meanings

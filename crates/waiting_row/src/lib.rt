@@ -7,13 +7,13 @@
 
 #![tactic(auto)]
 
-ghost use Rattle.std.specs.Prelude.{◌≡◌, ℕ, not, ◌&&◌, ◌+◌, ◌<◌, ◌≤◌, eqb, false, length, drop, position};
+ghost use Rattle.std.specs.Prelude.{◌≡◌, ℕ, not, ◌&&◌, ◌||◌, ◌+◌, ◌<◌, ◌≤◌, eqb, false, length, drop, position};
 ghost use Rattle.model.specs.LockWords.{claim};
 ghost use Rattle.model.specs.Addresses.{count_of_chains};
 ghost use Rattle.model.specs.Steps.MergeLocks.{merge_stops, target_of};
 ghost use Rattle.model.specs.WaitingRow.{waiters_in, all_zero, appended, row_without, row_left};
 ghost use Rattle.waiting_row.specs.Requested.{by_root, stops, asks, request_in, hindered_by};
-ghost use Rattle.waiting_row.specs.Entry.{named, first_seen, damaged_by, meets, placed_by, alone, row_by};
+ghost use Rattle.waiting_row.specs.Entry.{named, first_seen, damaged_by, meets, looked_at, placed_by, alone, row_by};
 
 use model::{MOST_PARTIES, Mode, Party, Refusal, Root, StepAnswer};
 
@@ -63,6 +63,7 @@ fn target_word(root: Root) -> u64
 }
 
 // The lock that the party's next step requests, if any; word 0 is the root's.
+#[inline(always)]
 pub fn requested(root: Root, party: Party) -> Option<Request>
     ensures { result ≡ request_in (asks root party) }
 {
@@ -167,6 +168,13 @@ impl Looking {
         }
     }
 
+    // Whether the party stands behind an entry met, or behind this request: it asks only where that is still open.
+    fn stands_behind(self, first: Request, waits: bool) -> bool
+        ensures { result ≡ (self.behind || (not waits && hindered_by (claim first.word first.mode) self.mine)) }
+    {
+        self.behind || (!waits && hinders(first, self.mine))
+    }
+
     // One entry more, which names party j, whose record this is.
     pub fn meets(self, root: Root, q: u32, j: u32, party: Party) -> Looking
         requires { j < 16 }
@@ -180,13 +188,22 @@ impl Looking {
                 ..self
             };
         };
-        let hindered = hinders(theirs, self.mine);
         Looking {
             met: lock_words::with_reader(self.met, j),
             sound: self.sound & (lock_words::reader(self.met, j) == 0),
             waits,
-            behind: self.behind | (!waits & hindered),
+            behind: self.stands_behind(theirs, waits),
             ..self
+        }
+    }
+
+    // One entry more: the word, out of a row of these records.
+    pub fn looked(self, root: Root, parties: &[Party], q: u32, word: u32) -> Looking
+        ensures { result ≡ looked_at self root parties.now q word }
+    {
+        match named_by(word, parties.len()) {
+            Some(j) => self.meets(root, q, j, parties[j as usize]),
+            None => self.damaged(q, word),
         }
     }
 

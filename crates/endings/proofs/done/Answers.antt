@@ -6,4 +6,4 @@ use Rattle.model.specs.Outcome.{View, outcome}
 use Rattle.endings.proofs.done.Goals as goal
 
 pub returns : goal.returns
-returns c = λ ls. ap (λ (v : View). outcome (Ok (StepAnswer.Done c.args.answer c.args.made)) v) (c.clear.ensures ls)
+returns c = λ _ ls. ap (λ (v : View). outcome (Ok (StepAnswer.Done c.args.answer c.args.made)) v) (c.clear.ensures ls)

@@ -16,5 +16,5 @@ returns c =
     let w = a.work.now in
     let held = rw (c.chain-lock.ensures, c.mode_of-mode.ensures) at (c.give_up.ensures.held a.pages.now) in
     let left = rw (c.chain-lock.ensures, c.mode_of-mode.ensures) at (c.give_up.ensures.words a.pages.now) in
-    c.done.ensures c.give_up.new.locks
+    c.done.ensures w.party c.give_up.new.locks
     ∙ held_goes_on (seen w a.locks.now a.pages.now) (chain_lock w.party ∷ []) held left (done a.answer Restructuring.None) c.in_ok-give_up.was

@@ -14,6 +14,6 @@ returns c =
     let a = c.args in
     let v = seen a.work.now a.locks.now a.pages.now in
     let w = seen a.work.now c.give_up.new.locks a.pages.now in
-    c.done.ensures c.give_up.new.locks
+    c.done.ensures w.party c.give_up.new.locks
     ∙ ap (λ (o : OperationAnswer). done o a.made w) c.answer_of-answer.ensures
     ∙ held_goes_on v (claims_of a.claimed.now) (c.give_up.ensures.held a.pages.now) (c.give_up.ensures.words a.pages.now) (done (answer_of a.work.now.party.answer) a.made) c.in_ok-give_up.was

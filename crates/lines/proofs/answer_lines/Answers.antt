@@ -23,7 +23,10 @@ pub loop-length-preserved : goal.loop-length-preserved
 loop-length-preserved c =
     let l = c.loop-length in
     let made = c.answer-end in
+    let was = l.invariant.parts in
+    let is = made.ensures.parts in
     record {
+      parts = (is.0 ∙ was.0, is.1 ∙ was.1, is.2 ∙ was.2, is.3 ∙ was.3, is.4 ∙ was.4);
       long = length-set made.new.out made.result 10 ∙ made.auto.out ∙ l.invariant.long;
       going =
           going_on _ _ _ _ _ _ _ c.in-Some.length l.invariant.going _ made.new.out made.result (first_newline c.args.text.now l.from c.in-Some.length c.in-Some.ensures)

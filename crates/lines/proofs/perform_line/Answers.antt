@@ -6,10 +6,10 @@ use Rattle.lines.specs.Held.{held_in}
 use Rattle.lines.specs.Lines.{answered_as, line_answered}
 use Rattle.lines.proofs.perform_line.Goals as goal
 
-pub returns-in-None : goal.returns-in-None
+pub returns-in-None-clause-reply : goal.returns-in-None-clause-reply
 unfolding line_answered answered_as
-returns-in-None c = rw (sym c.read_form.ensures, c.in-None.is)
+returns-in-None-clause-reply c = rw (sym c.read_form.ensures, c.in-None.is)
 
-pub returns-in-Some : goal.returns-in-Some
+pub returns-in-Some-clause-reply : goal.returns-in-Some-clause-reply
 unfolding line_answered answered_as
-returns-in-Some c = c.perform.ensures ∙ ap (λ (f : Option Form). answered_as f (held_in c.args.file.now)) (sym c.in-Some.is ∙ c.read_form.ensures)
+returns-in-Some-clause-reply c = c.perform.ensures.reply ∙ ap (λ (f : Option Form). answered_as f (held_in c.args.file.now)) (sym c.in-Some.is ∙ c.read_form.ensures)

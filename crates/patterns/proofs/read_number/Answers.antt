@@ -8,7 +8,7 @@ use Rattle.patterns.proofs.read_number.Goals as goal
 pub value_of-requires-clause-digits : goal.value_of-requires-clause-digits
 value_of-requires-clause-digits c =
     let line = c.args.line.now in
-    all_found line _ c.args.at _ c.requires (take_rest line c.args.at) c.count_digits-count.ensures
+    all_found line _ c.args.at _ c.requires (take_rest line c.args.at) c.count_digits-count.ensures (omega arith)
 
 pub returns-then-count-eq0 : goal.returns-then-count-eq0
 returns-then-count-eq0 c =

@@ -3,11 +3,9 @@
 use Rattle.std.proofs.Common.{◌≡◌, ◌<◌, ◌≤◌, ◌∙◌, sym, length, take, get_or, arith}
 use Rattle.std.proofs.Math.Seq.{length-take-le}
 use Rattle.std.proofs.lemmas.List.{get_or-take}
-use Rattle.waiting_row.specs.Entry.{named}
 use Rattle.waiting_row.proofs.Words.{waiters_fit}
-use Rattle.waiting_row.proofs.Looks.{named_fits, named-none, named-some, seen_none, seen_next, stands_seen}
+use Rattle.waiting_row.proofs.Looks.{seen_none, seen_next, stands_seen}
 use Rattle.places.proofs.looked_through.Goals as goal
-use Rattle.places.proofs.looked_through.Goals.{in-Some, in-None}
 
 pub slice_bounds-word-items-end : goal.slice_bounds-word-items-end
 slice_bounds-word-items-end c = sym (length-take-le _ _ (rw c.waiters-n.ensures (waiters_fit c.args.row.now)))
@@ -16,12 +14,6 @@ pub loop-word-init : goal.loop-word-init
 loop-word-init c =
     c.started-seen.ensures
     ∙ rw c.gapless-gapless.ensures (seen_none c.args.root.now c.args.parties.now c.args.q _ c.args.row.now)
-
-pub bounds-parties-j : goal.bounds-parties-j
-bounds-parties-j c = (named_fits _ _ c.in-Some.j (sym c.named_by.ensures ∙ c.in-Some.is)).0
-
-pub meets-seen-requires : goal.meets-seen-requires
-meets-seen-requires c = (named_fits _ _ c.in-Some.j (sym c.named_by.ensures ∙ c.in-Some.is)).1
 
 pub loop-word-preserved : goal.loop-word-preserved
 loop-word-preserved c =
@@ -32,17 +24,7 @@ loop-word-preserved c =
     let long : length (take n row) ≡ n = length-take-le n row fit in
     let below : i < n = omega (arith, long) in
     let at : get_or (take n row) i 0 ≡ get_or row i 0 = get_or-take n row i 0 below in
-    let told : c.named_by.result ≡ named (get_or row i 0) (length c.args.parties.now) = rw at at c.named_by.ensures in
-    elim c.match-named_by.branch [
-      | in-Some w ↦
-          w.seen-is ∙ w.meets-seen.ensures
-          ∙ rw c.loop-word.invariant (named-some _ _ _ _ (get_or row i 0) w.in-Some.j (sym told ∙ w.in-Some.is))
-          ∙ seen_next _ _ _ _ row i (omega arith)
-      | in-None w ↦
-          w.seen-is ∙ w.damaged-seen.ensures
-          ∙ rw (at, c.loop-word.invariant) (named-none _ _ _ _ (get_or row i 0) (sym told ∙ w.in-None.is))
-          ∙ seen_next _ _ _ _ row i (omega arith)
-    ]
+    c.looked-seen.ensures ∙ rw (c.loop-word.invariant, at) (seen_next _ _ _ _ row i (omega arith))
 
 pub returns : goal.returns
 returns c =

@@ -10,9 +10,9 @@ use Rattle.lines.specs.Lines.{by_number, performed}
 use Rattle.lines.proofs.Words.{words_left}
 use Rattle.lines.proofs.File.format.Goals as goal
 
-pub returns : goal.returns
+pub returns-clause-reply : goal.returns-clause-reply
 unfolding performed
-returns c =
+returns-clause-reply c =
     let z = c.args.sizes in
     let n = c.lent-n.ensures in
     let r = c.root_of_sizes.ensures in

@@ -9,7 +9,7 @@ use Rattle.lines.specs.Held.{held_in}
 use Rattle.lines.specs.Lines.{performed}
 use Rattle.lines.proofs.File.perform.Goals as goal
 
-pub returns-in-Step : goal.returns-in-Step
-returns-in-Step c =
-    ap (λ (r : Result StepAnswer ℕ). called (Reply.Step c.in-Step.q r) (held_in c.step.new.self)) c.by_number-in-Step.ensures ∙ c.step.ensures
+pub returns-in-Step-clause-reply : goal.returns-in-Step-clause-reply
+returns-in-Step-clause-reply c =
+    ap (λ (r : Result StepAnswer ℕ). called (Reply.Step c.in-Step.q r) (held_in c.step.new.self)) c.by_number-in-Step.ensures ∙ c.step.ensures.reply
     ∙ ap (λ (f : Form). performed f (held_in c.args.self.now)) (sym c.in-Step.is)

@@ -9,9 +9,9 @@ use Rattle.lines.specs.Lines.{by_number, performed}
 use Rattle.lines.proofs.Words.{words_left}
 use Rattle.lines.proofs.File.step.Goals as goal
 
-pub returns : goal.returns
+pub returns-clause-reply : goal.returns-clause-reply
 unfolding performed
-returns c =
+returns-clause-reply c =
     let r = c.args.self.now.root.now in
     let q = c.args.q in
     let n = c.lent-n.ensures in
